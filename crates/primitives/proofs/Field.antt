@@ -1,0 +1,72 @@
+-- Laws of the field and of its substitution: the inverse is one, doubling is the product by 2. Each is one test, computed at every byte.
+use mathlib.Core.Path.{_≡_, refl, ap}
+use mathlib.Core.Bool.{Bool, true, false, cond, _||_}
+use mathlib.Core.List.{List}
+use Prim.Native.Nat.{ℕ, _*_, _/_, _%_, _<_}
+use native.Mathlib.Omega.{arith}
+use borrow.Author.Tests.{ltb-true, ltb-false}
+use lib.Dec.{T, ltb, eqb, eqb→eq}
+use lib.Bits.{bitXor}
+use lib.ListN.{length, replicate}
+use Rattle.primitives.specs.Field.{xtime, times, inverse}
+use Rattle.primitives.specs.Aes.{sub, SBox}
+use Rattle.primitives.proofs.Table.{at, every, by-rule}
+
+-- a test that computes to true at each byte
+pub each-byte : (f : ℕ → Bool) → T (every (λ k x. f k) 0 (replicate 256 0)) → (k : ℕ) → k < 256 → T (f k)
+each-byte f t k h = at (λ k x. f k) (replicate 256 0) t k h
+
+other : (a b : Bool) → T (a || b) → (T a → ⊥) → T b
+other true b t n = absurd (n tt)
+other false b t n = t
+
+undone : ℕ → Bool
+undone k = eqb k 0 || eqb (times k (inverse k)) 1
+
+all-undone : T (every (λ k x. undone k) 0 (replicate 256 0))
+unfolding undone inverse
+all-undone = tt
+
+pub inverse-is : (k : ℕ) → 0 < k → k < 256 → times k (inverse k) ≡ 1
+unfolding undone
+inverse-is k p h =
+    eqb→eq (times k (inverse k)) 1
+    (other (eqb k 0) (eqb (times k (inverse k)) 1) (each-byte undone all-undone k h) (λ t. not-zero (eqb→eq k 0 t)))
+  where
+    not-zero : k ≡ 0 → ⊥
+    not-zero e = omega arith
+
+doubled : ℕ → Bool
+doubled k = eqb (times k 2) (xtime k)
+
+all-doubled : T (every (λ k x. doubled k) 0 (replicate 256 0))
+unfolding doubled times xtime
+all-doubled = tt
+
+pub times-two : (k : ℕ) → k < 256 → times k 2 ≡ xtime k
+unfolding doubled
+times-two k h = eqb→eq _ _ (each-byte doubled all-doubled k h)
+
+tripled : ℕ → Bool
+tripled k = eqb (times k 3) (bitXor (xtime k) k)
+
+all-tripled : T (every (λ k x. tripled k) 0 (replicate 256 0))
+unfolding tripled times xtime
+all-tripled = tt
+
+pub times-three : (k : ℕ) → k < 256 → times k 3 ≡ bitXor (xtime k) k
+unfolding tripled
+times-three k h = eqb→eq _ _ (each-byte tripled all-tripled k h)
+
+-- doubling as it is computed: the highest bit, 0 or 1, times 1b
+pub xtime-is : (b : ℕ) → b < 256 → bitXor (b / 128 * 0x1b) (b * 2 % 256) ≡ xtime b
+unfolding xtime
+xtime-is b h = ap (λ (m : ℕ). bitXor m (b * 2 % 256)) (go (ltb b 128) refl)
+  where
+    go : (t : Bool) → ltb b 128 ≡ t → b / 128 * 0x1b ≡ cond t 0 0x1b
+    go true e = omega (arith, ltb-true b 128 e)
+    go false e = omega (arith, ltb-false b 128 e)
+
+-- a table whose entries pass the test is one of the substitution
+pub sbox-is : {table : List ℕ} → length table ≡ 256 → T (every (λ k x. eqb x (sub k)) 0 table) → SBox table
+sbox-is {table} e t = record { at = λ k h. by-rule sub table t k (rw e h) }

@@ -1,0 +1,118 @@
+-- Loops that fill a part of a buffer: a copy from the front, a number's bytes from the end. And the two answers of a writer.
+use Prim.Native.Nat.{ℕ, zero, suc, _+_, _-_, _/_, _%_, _≤_, _<_}
+use mathlib.Core.Path.{_≡_, refl, sym, ap, _∙_}
+use mathlib.Core.Bool.{Bool, true, false}
+use mathlib.Core.List.{List, [], _∷_, _++_, append-assoc, append-nil}
+use native.Mathlib.Nat.{add-zero}
+use native.Mathlib.Numerals.{add-one}
+use native.Mathlib.Omega.{arith}
+use borrow.Author.Tests.{le-leb, lt-leb, leb-true, leb-false}
+use lib.Dec.{leb}
+use lib.ListN.{length, getD, take, set}
+use lib.Seq.{take-suc, length-take-le, take-all}
+use Rattle.primitives.specs.Place.{overwrite, placed, behind}
+use Rattle.primitives.specs.Number.{bytesOf}
+use Rattle.primitives.proofs.Over.{over-nil, over-snoc, over-cons, length-over, placed-room, placed-full, behind-room, behind-full}
+use Rattle.primitives.proofs.Numbers.{bytesOf-suc}
+
+-- ---- the question whether there is room, and the answers
+
+-- n bytes from a place on, asked without a sum
+pub reach-test : (len at n : ℕ) → at ≤ len → leb n (len - at) ≡ leb (at + n) len
+reach-test len at n h = go (leb n (len - at)) refl
+  where
+    go : (t : Bool) → leb n (len - at) ≡ t → t ≡ leb (at + n) len
+    go true e = sym (le-leb (at + n) len (omega (arith, leb-true n (len - at) e)))
+    go false e = sym (lt-leb (at + n) len (omega (arith, leb-false n (len - at) e)))
+
+-- all of a text was written, or nothing
+module _ (out : List ℕ) (at : ℕ) (ys : List ℕ) where
+  pub wrote : {out′ : List ℕ} {n : ℕ} → out′ ≡ overwrite out at ys → length ys ≡ n → at + n ≤ length out → (at + n ≡ behind out at ys) × (out′ ≡ placed out at ys)
+  wrote {n = n} e l h =
+      let k : at + length ys ≤ length out = omega arith in
+      let m : at + n ≡ at + length ys = omega arith in
+      (m ∙ sym (behind-room out at ys k), e ∙ sym (placed-room out at ys k))
+
+  pub wrote-nothing : {n : ℕ} → length ys ≡ n → length out < at + n → (at ≡ behind out at ys) × (out ≡ placed out at ys)
+  wrote-nothing l h =
+      let k : length out < at + length ys = omega arith in
+      (sym (behind-full out at ys k), sym (placed-full out at ys k))
+
+-- ---- a copy: i bytes of s are written
+
+pub record Copying (out₀ : List ℕ) (at : ℕ) (s out : List ℕ) (i : ℕ) : Type 0 where
+  pub inside : i ≤ length s
+  pub room : at + length s ≤ length out₀
+  pub is : out ≡ overwrite out₀ at (take i s)
+
+pub copy-start : (out₀ : List ℕ) (at : ℕ) (s : List ℕ) → at + length s ≤ length out₀ → Copying out₀ at s out₀ 0
+copy-start out₀ at s h = record { inside = omega arith; room = h; is = sym (over-nil out₀ at) }
+
+module _ {out₀ s out : List ℕ} {at i : ℕ} (p : Copying out₀ at s out i) where
+  taken : length (take i s) ≡ i
+  taken = length-take-le i s (p .inside)
+
+  pub copy-long : length out ≡ length out₀
+  copy-long = ap length (p .is) ∙ length-over out₀ at (take i s) (omega (arith, taken, p .inside, p .room))
+
+  pub copy-one : i < length s → Copying out₀ at s (set out (at + i) (getD s i 0)) (i + 1)
+  copy-one h =
+      record {
+        inside = omega arith;
+        room = p .room;
+        is =
+            (λ j. set (p .is j) (at + sym taken j) (getD s i 0))
+            ∙ over-snoc out₀ at (take i s) (getD s i 0) (omega (arith, taken, p .room))
+            ∙ ap (overwrite out₀ at) (sym (take-suc s i 0 h) ∙ ap (λ (k : ℕ). take k s) (sym (add-one i)));
+      }
+
+  pub copy-all : length s ≤ i → out ≡ overwrite out₀ at s
+  copy-all h = p .is ∙ ap (overwrite out₀ at) (take-all i s h)
+
+-- ---- a number from the end: i bytes are left to write, those of the number v
+
+pub record Putting (out₀ : List ℕ) (at n x : ℕ) (out : List ℕ) (v i : ℕ) : Type 0 where
+  pub done : List ℕ
+  pub long : length done + i ≡ n
+  pub room : at + n ≤ length out₀
+  pub is : out ≡ overwrite out₀ (at + i) done
+  pub left : bytesOf i v ++ done ≡ bytesOf n x
+
+pub put-start : (out₀ : List ℕ) (at n x : ℕ) → at + n ≤ length out₀ → Putting out₀ at n x out₀ x n
+put-start out₀ at n x h =
+    record { done = []; long = omega arith; room = h; is = sym (over-nil out₀ (at + n)); left = append-nil (bytesOf n x) }
+
+one-less : (i v : ℕ) (done : List ℕ) → 0 < i → bytesOf (i - 1) (v / 256) ++ (v % 256 ∷ done) ≡ bytesOf i v ++ done
+one-less zero v done h = absurd (omega arith)
+one-less (suc i) v done h =
+    let e : suc i - 1 ≡ i = omega arith in
+    ap (λ (k : ℕ). bytesOf k (v / 256) ++ (v % 256 ∷ done)) e
+    ∙ sym (append-assoc (bytesOf i (v / 256)) (v % 256 ∷ []) done)
+    ∙ ap (λ (l : List ℕ). l ++ done) (sym (bytesOf-suc i v))
+
+module _ {out₀ out : List ℕ} {at n x v i : ℕ} (p : Putting out₀ at n x out v i) where
+  pub put-long : length out ≡ length out₀
+  put-long = ap length (p .is) ∙ length-over out₀ (at + i) (p .done) (omega (arith, p .long, p .room))
+
+  pub put-one : 0 < i → Putting out₀ at n x (set out (at + (i - 1)) (v % 256)) (v / 256) (i - 1)
+  put-one h =
+      record {
+        done = v % 256 ∷ p .done;
+        long = omega (arith, p .long);
+        room = p .room;
+        is =
+            ap (λ (l : List ℕ). set l (at + (i - 1)) (v % 256)) (p .is ∙ ap (λ (k : ℕ). overwrite out₀ k (p .done)) e)
+            ∙ over-cons out₀ (at + (i - 1)) (p .done) (v % 256) (omega (arith, p .room, p .long));
+        left = one-less i v (p .done) h ∙ p .left;
+      }
+    where
+      e : at + i ≡ at + (i - 1) + 1
+      e = omega arith
+
+  pub put-all : i ≤ 0 → out ≡ overwrite out₀ at (bytesOf n x)
+  unfolding bytesOf
+  put-all h =
+      let e : i ≡ 0 = omega arith in
+      p .is
+      ∙ ap (λ (k : ℕ). overwrite out₀ k (p .done)) (ap (λ (k : ℕ). at + k) e ∙ add-zero at)
+      ∙ ap (overwrite out₀ at) (sym (ap (λ (k : ℕ). bytesOf k v ++ p .done) e) ∙ p .left)

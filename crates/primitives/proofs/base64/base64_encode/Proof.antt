@@ -1,0 +1,54 @@
+-- `base64::base64_encode` meets its contract: the letters are written, and the padding behind them.
+use mathlib.Core.Path.{sym, _∙_}
+use native.Mathlib.Omega.{arith}
+use lib.ListN.{length}
+use borrow.Author.Needs.{needs}
+use borrow.Author.Tests.{not-true, not-false}
+use Rattle.primitives.proofs.Base64Answers.{few-marks, encode-full, letters-room, marks-room, encode-room}
+use Rattle.primitives.proofs.base64.base64_encode.Statement.{statement}
+use Rattle.primitives.proofs.base64.base64_encode.Tie as tie
+
+fits-requires : tie.Need-fits-requires
+fits-requires c κs = search needs
+
+returns : tie.Need-returns
+returns c =
+    let start = c .before .before .before .before in
+    encode-full (start .args .alphabet) (start .args .s .now) (start .args .out .now) (start .args .at) (sym (not-true _ (c .if1 .taken)) ∙ c .before .fits2 .ensures)
+
+letter-table-requires : tie.Need-letter-table-requires
+letter-table-requires c κs = search needs
+
+put-letters-requires : tie.Need-put-letters-requires
+put-letters-requires c κs =
+    let start = c .before .before .before .before .before .before .before in
+    (c .before .before .letter-table .ensures, letters-room (start .args .alphabet) (start .args .s .now) (start .args .out .now) (start .args .at) (sym (not-false _ (c .before .before .before .if1 .left)) ∙ c .before .before .before .before .fits2 .ensures))
+
+padding-count-requires : tie.Need-padding-count-requires
+padding-count-requires c κs = search needs
+
+put-requires : tie.Need-put-requires
+put-requires c κs =
+    let start = c .before .before .before .before .before .before .before .before .before .before .before .before in
+    (omega (arith, c .before .padding-count .ensures, few-marks (start .args .alphabet) (length (start .args .s .now))), marks-room (start .args .alphabet) (start .args .s .now) (start .args .out .now) (start .args .at) (sym (not-false _ (c .before .before .before .before .before .before .before .before .if1 .left)) ∙ c .before .before .before .before .before .before .before .before .before .fits2 .ensures) (c .before .before .before .before .put-letters .ensures .0) (c .before .padding-count .ensures) (c .before .before .before .before .put-letters .ensures .1))
+
+same-length : tie.Need-same-length
+same-length c = search needs
+
+returns-2 : tie.Need-returns-2
+returns-2 c =
+    let start = c .before .before .before .before .before .before .before .before .before .before .before .before .before .before .before in
+    encode-room (start .args .alphabet) (start .args .s .now) (start .args .out .now) (start .args .at) (sym (not-false _ (c .before .before .before .before .before .before .before .before .before .before .before .if1 .left)) ∙ c .before .before .before .before .before .before .before .before .before .before .before .before .fits2 .ensures) (c .before .before .before .before .before .before .before .put-letters .ensures .0) (c .before .before .before .before .padding-count .ensures) (c .before .before .before .before .before .before .before .put-letters .ensures .1) (c .before .before .put .ensures .0) (c .before .before .put .ensures .1)
+
+pub base64-encode-spec : {M : Type 1} → statement M
+base64-encode-spec =
+    tie.close
+    (tie.spec
+    fits-requires
+    returns
+    letter-table-requires
+    put-letters-requires
+    padding-count-requires
+    put-requires
+    same-length
+    returns-2)

@@ -1,0 +1,41 @@
+-- `base64::rest_length` meets its contract, at each alphabet.
+use borrow.Author.Needs.{needs}
+use Rattle.primitives.proofs.base64.rest_length.Statement.{statement}
+use Rattle.primitives.proofs.base64.rest_length.Tie as tie
+
+enum-told : tie.Need-enum-told
+enum-told c = search needs
+
+add-result : tie.Need-add-result
+add-result c = search needs
+
+mul-result : tie.Need-mul-result
+mul-result c = search needs
+
+enum-told-2 : tie.Need-enum-told-2
+enum-told-2 c = search needs
+
+mul-result-2 : tie.Need-mul-result-2
+mul-result-2 c = search needs
+
+add-result-2 : tie.Need-add-result-2
+add-result-2 c = search needs
+
+returns : tie.Need-returns
+returns c = rw (c .enum-told .given .1)
+
+returns-2 : tie.Need-returns-2
+returns-2 c = rw (c .enum-told2 .given .1)
+
+pub rest-length-spec : {M : Type 1} → statement M
+rest-length-spec =
+    tie.close
+    (tie.spec
+    enum-told
+    add-result
+    mul-result
+    enum-told-2
+    mul-result-2
+    add-result-2
+    returns
+    returns-2)

@@ -1,0 +1,26 @@
+-- Numbers as bytes, the highest byte first.
+use Prim.Native.Nat.{ℕ, zero, suc, _+_, _*_, _/_, _%_}
+use mathlib.Core.Bool.{_&&_, cond}
+use mathlib.Core.List.{List, [], _∷_, _++_}
+use lib.Dec.{leb}
+use lib.ListN.{length, take, drop}
+use Rattle.primitives.specs.declared.buffer.Number.{Number}
+use Rattle.primitives.specs.declared.buffer.Number.the-variants.{Is, Missing}
+
+-- the n low bytes of v, the highest first
+unfoldable pub bytesOf : ℕ → ℕ → List ℕ
+bytesOf zero v = []
+bytesOf (suc n) v = bytesOf n (v / 256) ++ (v % 256 ∷ [])
+
+-- the number of bytes that stand behind those of the number v
+unfoldable pub valueAfter : ℕ → List ℕ → ℕ
+valueAfter v [] = v
+valueAfter v (b ∷ bs) = valueAfter (v * 256 + b) bs
+
+-- the number of bytes, the highest first
+unfoldable pub valueOf : List ℕ → ℕ
+valueOf bs = valueAfter 0 bs
+
+-- the number of the n bytes at a place: missing where n is above 8, or not all of the bytes are there
+unfoldable pub numberAt : List ℕ → ℕ → ℕ → Number
+numberAt s at n = cond (leb n 8 && leb (at + n) (length s)) (Is (valueOf (take n (drop at s)))) Missing

@@ -1,0 +1,100 @@
+// Bytes and numbers at a place of a buffer.
+ghost use mathlib.Core.Path.{_≡_};
+ghost use Prim.Native.Nat.{_+_, _≤_};
+ghost use lib.Dec.{leb};
+ghost use lib.ListN.{length};
+ghost use Rattle.primitives.specs.Place.{overwrite, placed, behind};
+ghost use Rattle.primitives.specs.Bytes.{same};
+ghost use Rattle.primitives.specs.Number.{bytesOf, numberAt};
+
+// There are n bytes from a place on, in a buffer of this length.
+fn reaches(len: usize, at: usize, n: usize) -> bool
+    ensures { λ r. ⌜ r ≡ leb (at + n) len ⌝ }
+{
+    if len < at {
+        return false;
+    }
+    n <= len - at
+}
+
+// Copies all of `s` to a place, or nothing where there is no room; the place behind what was written.
+pub fn put(out: &mut [u8], at: usize, s: &[u8]) -> usize
+    ensures { λ r. ⌜ (r ≡ behind (now (out .entry)) at (now (s .entry))) × (now (out .exit) ≡ placed (now (out .entry)) at (now (s .entry))) ⌝ }
+{
+    if !reaches(out.len(), at, s.len()) {
+        return at;
+    }
+    let mut i: usize = 0;
+    while i < s.len() {
+        out[at + i] = s[i];
+        i += 1;
+    }
+    at + s.len()
+}
+
+// The n low bytes of a number, the highest first, at a place.
+pub(crate) fn put_be(out: &mut [u8], at: usize, n: usize, x: u64)
+    requires { ⌜ at + n ≤ length (now out) ⌝ }
+    ensures { λ _. ⌜ now (out .exit) ≡ overwrite (now (out .entry)) at (bytesOf n x) ⌝ }
+{
+    let mut v = x;
+    let mut i = n;
+    while 0 < i {
+        i -= 1;
+        out[at + i] = (v % 256) as u8;
+        v = v / 256;
+    }
+}
+
+// The same, or nothing where there is no room; the place behind what was written.
+pub fn put_number(out: &mut [u8], at: usize, n: usize, x: u64) -> usize
+    ensures { λ r. ⌜ (r ≡ behind (now (out .entry)) at (bytesOf n x)) × (now (out .exit) ≡ placed (now (out .entry)) at (bytesOf n x)) ⌝ }
+{
+    if !reaches(out.len(), at, n) {
+        return at;
+    }
+    put_be(out, at, n, x);
+    at + n
+}
+
+// A number that may not be there.
+pub enum Number {
+    Is(u64),
+    Missing,
+}
+
+// The number of the n bytes at a place, the highest first: missing where n is above 8, or not all of the bytes are there.
+pub fn number_at(s: &[u8], at: usize, n: usize) -> Number
+    ensures { λ r. ⌜ r ≡ numberAt (now (s .entry)) at n ⌝ }
+{
+    if 8 < n {
+        return Number::Missing;
+    }
+    if !reaches(s.len(), at, n) {
+        return Number::Missing;
+    }
+    let mut v: u64 = 0;
+    let mut i: usize = 0;
+    while i < n {
+        v = v * 256 + (s[at + i] as u64);
+        i += 1;
+    }
+    Number::Is(v)
+}
+
+// The same bytes, in the same order.
+pub fn same(a: &[u8], b: &[u8]) -> bool
+    ensures { λ r. ⌜ r ≡ same (now (a .entry)) (now (b .entry)) ⌝ }
+{
+    if a.len() != b.len() {
+        return false;
+    }
+    let mut i: usize = 0;
+    while i < a.len() {
+        if a[i] != b[i] {
+            return false;
+        }
+        i += 1;
+    }
+    true
+}

@@ -1,0 +1,143 @@
+// The counter: a signed number as bytes, exclusive or with a key stream, and a sum that is checked.
+ghost use mathlib.Core.Path.{_≡_};
+ghost use mathlib.Core.Bool.{true};
+ghost use Prim.Native.Nat.{_<_, _≤_, _^_};
+ghost use lib.ListN.{length};
+ghost use lib.Signed.{mag};
+ghost use mir.Syntax.{w64};
+ghost use mir.Val.{ofZ};
+ghost use Rattle.primitives.specs.Counter.{widthGood, half, counterFits, ofTwos, counterBytes, counterValue, xorFirst, checkedSum};
+use crate::buffer::Number;
+use crate::buffer::number_at;
+use crate::buffer::put_number;
+
+// The widths that a counter may have: 5 to 8 bytes.
+pub fn width_good(n: usize) -> bool
+    ensures { λ r. ⌜ r ≡ widthGood n ⌝ }
+{
+    if n < 5 {
+        return false;
+    }
+    n <= 8
+}
+
+// The magnitude: k both of k and of -(k + 1), so that the least number has one.
+pub fn magnitude(z: i64) -> u64
+    ensures { λ r. ⌜ r ≡ mag z ⌝ }
+{
+    if z < 0 { (!z) as u64 } else { z as u64 }
+}
+
+// The 64 bits of a signed number.
+fn bits_of(z: i64) -> u64
+    ensures { λ r. ⌜ r ≡ ofZ w64 z ⌝ }
+{
+    let m = magnitude(z);
+    if z < 0 { !m } else { m }
+}
+
+// Half of the 256^n numbers of n bytes.
+fn half_of(n: usize) -> u64
+    requires { ⌜ (0 < n) × (n ≤ 8) ⌝ }
+    ensures { λ r. ⌜ r ≡ half n ⌝ }
+{
+    1 << (8 * n - 1)
+}
+
+// The number is in the range of n bytes, and n is a width.
+pub fn counter_fits(n: usize, z: i64) -> bool
+    ensures { λ r. ⌜ r ≡ counterFits n z ⌝ }
+{
+    if !width_good(n) {
+        return false;
+    }
+    let m = magnitude(z);
+    m < half_of(n)
+}
+
+// The n bytes of a number, big-endian two's complement, and zeros behind them up to eight; eight zeros where it does not fit or n is no width.
+pub fn counter_bytes(n: usize, z: i64) -> [u8; 8]
+    ensures { λ r. ⌜ r ≡ counterBytes n z ⌝ }
+{
+    let mut b = [0u8; 8];
+    if !counter_fits(n, z) {
+        return b;
+    }
+    let v = bits_of(z);
+    let _ = put_number(&mut b, 0, n, v);
+    b
+}
+
+// What n bytes of the number v stand for.
+fn signed(n: usize, v: u64) -> i64
+    requires { ⌜ (0 < n) × ((n ≤ 8) × (v < 256 ^ n)) ⌝ }
+    ensures { λ r. ⌜ r ≡ ofTwos n v ⌝ }
+{
+    let h = half_of(n);
+    if v < h {
+        return v as i64;
+    }
+    !((h - 1 - (v - h)) as i64)
+}
+
+// What the first n of eight bytes stand for.
+fn first_value(n: usize, s: &[u8]) -> i64
+    requires { ⌜ (widthGood n ≡ true) × (length (now s) ≡ 8) ⌝ }
+    ensures { λ r. ⌜ r ≡ counterValue n (now (s .entry)) ⌝ }
+{
+    match number_at(s, 0, n) {
+        Number::Is(v) => signed(n, v),
+        Number::Missing => 0,
+    }
+}
+
+// What the first n bytes stand for; 0 where n is no width.
+pub fn counter_value(n: usize, b: [u8; 8]) -> i64
+    ensures { λ r. ⌜ r ≡ counterValue n b ⌝ }
+{
+    if !width_good(n) {
+        return 0;
+    }
+    first_value(n, &b)
+}
+
+// The first n bytes combined by exclusive or with those of the key stream, the bytes behind them as they are; all eight where n is above 8.
+pub fn xor_first(n: usize, b: [u8; 8], stream: [u8; 16]) -> [u8; 8]
+    ensures { λ r. ⌜ r ≡ xorFirst n b stream ⌝ }
+{
+    let mut r = b;
+    let mut i: usize = 0;
+    while i < 8 {
+        if n <= i {
+            return r;
+        }
+        r[i] = b[i] ^ stream[i];
+        i += 1;
+    }
+    r
+}
+
+// A sum that may be out of range.
+pub enum Sum {
+    Is(i64),
+    Over,
+}
+
+// The sum, where it is in the range of 64 bits.
+pub fn checked_add(a: i64, b: i64) -> Sum
+    ensures { λ r. ⌜ r ≡ checkedSum a b ⌝ }
+{
+    if b < 0 {
+        if a < -9223372036854775808 - b {
+            Sum::Over
+        } else {
+            Sum::Is(a + b)
+        }
+    } else {
+        if 9223372036854775807 - b < a {
+            Sum::Over
+        } else {
+            Sum::Is(a + b)
+        }
+    }
+}

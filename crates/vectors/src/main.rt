@@ -1,0 +1,51 @@
+// Runs the library on the standards' vectors of data/ and prints what it makes of each row.
+mod primitive;
+mod text;
+
+use libc::STDOUT_FILENO;
+
+// One line of the file `topic`.
+fn answer(topic: u8, line: &[u8]) {
+    match topic {
+        b's' => primitive::sha256_row(line),
+        b'a' => primitive::aes256_row(line),
+        b'b' => primitive::base64_row(line),
+        _ => primitive::counter_row(line),
+    }
+}
+
+// All lines of a file's text but the first, which names the columns.
+fn answer_all(topic: u8, text: &[u8]) {
+    let mut a = text::find(text, 0, b'\n');
+    while a < text.len() {
+        let from = a + 1;
+        let e = text::find(text, from, b'\n');
+        if from < e {
+            answer(topic, &text[from..e]);
+        }
+        a = e;
+    }
+}
+
+// Reads a file of data/, prints its name and answers its lines.
+fn run(topic: u8, path: &[u8]) {
+    let fd = os::open_read(path);
+    if fd < 0 {
+        os::fail(path);
+        return;
+    }
+    let mut buffer = io::large_buffer();
+    let n = io::read_full(fd, &mut buffer);
+    libc::close(fd);
+    io::write_all(STDOUT_FILENO, b"# ");
+    io::write_all(STDOUT_FILENO, path);
+    io::write_all(STDOUT_FILENO, b"\n");
+    answer_all(topic, &buffer[..n]);
+}
+
+fn main() {
+    run(b's', b"sha256.tsv");
+    run(b'a', b"aes256.tsv");
+    run(b'b', b"base64.tsv");
+    run(b'c', b"counter-bytes.tsv");
+}

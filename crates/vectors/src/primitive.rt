@@ -1,0 +1,128 @@
+// The rows of the primitives' vectors.
+use super::text::decimal;
+use super::text::digits;
+use super::text::field;
+use super::text::put_hex;
+use super::text::unhex;
+use libc::STDOUT_FILENO;
+use primitives::Alphabet;
+use primitives::Decoded;
+
+// The first n bytes of a text on standard output.
+fn write_first(text: &[u8], n: usize) {
+    if n <= text.len() {
+        io::write_all(STDOUT_FILENO, &text[0..n]);
+    }
+}
+
+// A row's name and its answer, as one line.
+fn print(name: &[u8], result: &[u8]) {
+    let mut line = [0u8; 2048];
+    let a = primitives::put(&mut line, 0, name);
+    let b = primitives::put(&mut line, a, b"\t");
+    let c = primitives::put(&mut line, b, result);
+    let n = primitives::put(&mut line, c, b"\n");
+    write_first(&line, n);
+}
+
+// The same, with the first n bytes of a text.
+fn print_first(name: &[u8], text: &[u8], n: usize) {
+    if n <= text.len() {
+        print(name, &text[0..n]);
+    }
+}
+
+// The same, with the first n bytes in hexadecimal.
+fn print_hex(name: &[u8], bytes: &[u8], n: usize) {
+    let mut text = [0u8; 2048];
+    if n <= bytes.len() {
+        let m = put_hex(&mut text, 0, &bytes[0..n]);
+        print_first(name, &text, m);
+    }
+}
+
+// The digest of a text's first n bytes.
+fn print_digest(name: &[u8], text: &[u8], n: usize) {
+    if n <= text.len() {
+        let digest = primitives::sha256(&text[0..n]);
+        print_hex(name, &digest, 32);
+    }
+}
+
+pub(crate) fn sha256_row(line: &[u8]) {
+    let mut message = [0u8; 1024];
+    let n = unhex(field(line, 1), &mut message);
+    print_digest(field(line, 0), &message, n);
+}
+
+// Encrypted at once, and under the expanded key.
+pub(crate) fn aes256_row(line: &[u8]) {
+    let mut key = [0u8; 32];
+    let mut block = [0u8; 16];
+    unhex(field(line, 1), &mut key);
+    unhex(field(line, 2), &mut block);
+    let whole = primitives::aes256(key, block);
+    print_hex(field(line, 0), &whole, 16);
+    let schedule = primitives::expand_key(key);
+    let parted = primitives::encrypt_block(&schedule, block);
+    print_hex(field(line, 0), &parted, 16);
+}
+
+fn alphabet_of(name: &[u8]) -> Alphabet {
+    if 0 < name.len() {
+        if name[0] == b'u' {
+            return Alphabet::UrlSafe;
+        }
+    }
+    Alphabet::Standard
+}
+
+// The text of bytes.
+fn encoded(name: &[u8], alphabet: Alphabet, bytes: &[u8]) {
+    let mut out = [0u8; 1024];
+    let n = primitives::base64_encode(alphabet, bytes, &mut out, 0);
+    print_first(name, &out, n);
+}
+
+// Bytes that were read, and their text again.
+fn decoded(name: &[u8], alphabet: Alphabet, bytes: &[u8], n: usize) {
+    print_hex(name, bytes, n);
+    if n <= bytes.len() {
+        encoded(name, alphabet, &bytes[0..n]);
+    }
+}
+
+// What the strict reader makes of a text's first n bytes; what it reads is written again.
+fn print_decoded(name: &[u8], alphabet: Alphabet, text: &[u8], n: usize) {
+    let mut bytes = [0u8; 1024];
+    if text.len() < n {
+        return;
+    }
+    match primitives::base64_decode(alphabet, &text[0..n], &mut bytes, 0) {
+        Decoded::Upto(m) => decoded(name, alphabet, &bytes, m),
+        Decoded::Refused => print(name, b"refused"),
+        Decoded::NoRoom => print(name, b"no room"),
+    }
+}
+
+pub(crate) fn base64_row(line: &[u8]) {
+    let mut text = [0u8; 1024];
+    let n = unhex(field(line, 2), &mut text);
+    print_decoded(field(line, 0), alphabet_of(field(line, 1)), &text, n);
+}
+
+// A counter's bytes, where it fits, and the counter back from them.
+pub(crate) fn counter_row(line: &[u8]) {
+    let n = digits(field(line, 0), 0) as usize;
+    let z = decimal(field(line, 1));
+    if !primitives::counter_fits(n, z) {
+        print(field(line, 1), b"no");
+        return;
+    }
+    let bytes = primitives::counter_bytes(n, z);
+    print_hex(field(line, 1), &bytes, n);
+    let back = primitives::counter_value(n, bytes);
+    if back == z {
+        print(field(line, 1), b"back");
+    }
+}
