@@ -7,8 +7,8 @@ ghost use Rattle.primitives.specs.Place.{overwrite, placed, behind};
 ghost use Rattle.primitives.specs.Bytes.{same};
 ghost use Rattle.primitives.specs.Number.{bytesOf, numberAt};
 
-// There are n bytes from a place on, in a buffer of this length.
-fn reaches(len: usize, at: usize, n: usize) -> bool
+// There is room for n bytes from a place on, in a buffer of this length; asked without a sum.
+pub fn has_room(len: usize, at: usize, n: usize) -> bool
     ensures { λ r. ⌜ r ≡ leb (at + n) len ⌝ }
 {
     if len < at {
@@ -21,7 +21,7 @@ fn reaches(len: usize, at: usize, n: usize) -> bool
 pub fn put(out: &mut [u8], at: usize, s: &[u8]) -> usize
     ensures { λ r. ⌜ (r ≡ behind (now (out .entry)) at (now (s .entry))) × (now (out .exit) ≡ placed (now (out .entry)) at (now (s .entry))) ⌝ }
 {
-    if !reaches(out.len(), at, s.len()) {
+    if !has_room(out.len(), at, s.len()) {
         return at;
     }
     let mut i: usize = 0;
@@ -50,7 +50,7 @@ pub(crate) fn put_be(out: &mut [u8], at: usize, n: usize, x: u64)
 pub fn put_number(out: &mut [u8], at: usize, n: usize, x: u64) -> usize
     ensures { λ r. ⌜ (r ≡ behind (now (out .entry)) at (bytesOf n x)) × (now (out .exit) ≡ placed (now (out .entry)) at (bytesOf n x)) ⌝ }
 {
-    if !reaches(out.len(), at, n) {
+    if !has_room(out.len(), at, n) {
         return at;
     }
     put_be(out, at, n, x);
@@ -70,7 +70,7 @@ pub fn number_at(s: &[u8], at: usize, n: usize) -> Number
     if 8 < n {
         return Number::Missing;
     }
-    if !reaches(s.len(), at, n) {
+    if !has_room(s.len(), at, n) {
         return Number::Missing;
     }
     let mut v: u64 = 0;

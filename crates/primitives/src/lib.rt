@@ -13,6 +13,7 @@ pub use base64::Decoded;
 pub use base64::base64_decode;
 pub use base64::base64_encode;
 pub use buffer::Number;
+pub use buffer::has_room;
 pub use buffer::number_at;
 pub use buffer::put;
 pub use buffer::put_number;

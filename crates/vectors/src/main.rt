@@ -1,5 +1,7 @@
 // Runs the library on the standards' vectors of data/ and prints what it makes of each row.
+mod lines;
 mod primitive;
+mod receipts;
 mod text;
 
 use libc::STDOUT_FILENO;
@@ -10,7 +12,13 @@ fn answer(topic: u8, line: &[u8]) {
         b's' => primitive::sha256_row(line),
         b'a' => primitive::aes256_row(line),
         b'b' => primitive::base64_row(line),
-        _ => primitive::counter_row(line),
+        b'n' => primitive::counter_row(line),
+        b'h' => receipts::chain_row(line),
+        b'i' => receipts::iv_row(line),
+        b'c' => receipts::counter_row(line),
+        b'm' => receipts::code_row(line),
+        b'o' => receipts::compact_row(line),
+        _ => receipts::amount_row(line),
     }
 }
 
@@ -47,5 +55,11 @@ fn main() {
     run(b's', b"sha256.tsv");
     run(b'a', b"aes256.tsv");
     run(b'b', b"base64.tsv");
-    run(b'c', b"counter-bytes.tsv");
+    run(b'n', b"counter-bytes.tsv");
+    run(b'h', b"chain.tsv");
+    run(b'i', b"counter-iv.tsv");
+    run(b'c', b"counter.tsv");
+    run(b'm', b"code.tsv");
+    run(b'o', b"compact.tsv");
+    run(b'v', b"amount.tsv");
 }

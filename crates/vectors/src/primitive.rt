@@ -1,45 +1,13 @@
 // The rows of the primitives' vectors.
+use super::lines::print;
+use super::lines::print_first;
+use super::lines::print_hex;
 use super::text::decimal;
 use super::text::digits;
 use super::text::field;
-use super::text::put_hex;
 use super::text::unhex;
-use libc::STDOUT_FILENO;
 use primitives::Alphabet;
 use primitives::Decoded;
-
-// The first n bytes of a text on standard output.
-fn write_first(text: &[u8], n: usize) {
-    if n <= text.len() {
-        io::write_all(STDOUT_FILENO, &text[0..n]);
-    }
-}
-
-// A row's name and its answer, as one line.
-fn print(name: &[u8], result: &[u8]) {
-    let mut line = [0u8; 2048];
-    let a = primitives::put(&mut line, 0, name);
-    let b = primitives::put(&mut line, a, b"\t");
-    let c = primitives::put(&mut line, b, result);
-    let n = primitives::put(&mut line, c, b"\n");
-    write_first(&line, n);
-}
-
-// The same, with the first n bytes of a text.
-fn print_first(name: &[u8], text: &[u8], n: usize) {
-    if n <= text.len() {
-        print(name, &text[0..n]);
-    }
-}
-
-// The same, with the first n bytes in hexadecimal.
-fn print_hex(name: &[u8], bytes: &[u8], n: usize) {
-    let mut text = [0u8; 2048];
-    if n <= bytes.len() {
-        let m = put_hex(&mut text, 0, &bytes[0..n]);
-        print_first(name, &text, m);
-    }
-}
 
 // The digest of a text's first n bytes.
 fn print_digest(name: &[u8], text: &[u8], n: usize) {

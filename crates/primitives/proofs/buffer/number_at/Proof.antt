@@ -17,14 +17,14 @@ abbrev μ-loop : tie.MeasureT-loop
 returns : tie.Need-returns Inv-loop μ-loop
 returns c = sym (number-wide _ _ _ (c .if1 .taken))
 
-reaches-requires : tie.Need-reaches-requires Inv-loop μ-loop
-reaches-requires c κs = search needs
+has-room-requires : tie.Need-has-room-requires Inv-loop μ-loop
+has-room-requires c κs = search needs
 
 returns-2 : tie.Need-returns-2 Inv-loop μ-loop
-returns-2 c = sym (number-short _ _ _ (above _ _ (c .before .reaches .ensures) (c .if2 .taken)))
+returns-2 c = sym (number-short _ _ _ (above _ _ (c .before .has-room .ensures) (c .if2 .taken)))
 
 loop-holds : tie.Need-loop-holds Inv-loop μ-loop
-loop-holds c = read-start _ _ _ (c .before .before .if1 .left) (at-most _ _ (c .before .reaches .ensures) (c .if2 .left))
+loop-holds c = read-start _ _ _ (c .before .before .if1 .left) (at-most _ _ (c .before .has-room .ensures) (c .if2 .left))
 
 mul-v : tie.Need-mul-v Inv-loop μ-loop
 mul-v c = omega (arith, read-small (c .before .loop .inv) (c .loop-test .taken))
@@ -60,7 +60,7 @@ number-at-spec =
     Inv-loop
     μ-loop
     returns
-    reaches-requires
+    has-room-requires
     returns-2
     loop-holds
     mul-v

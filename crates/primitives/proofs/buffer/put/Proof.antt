@@ -15,14 +15,14 @@ Inv-loop out₀ at s i₀ out i = Copying out₀ at s out i
 abbrev μ-loop : tie.MeasureT-loop
 μ-loop out₀ at s i₀ out i = length s - i
 
-reaches-requires : tie.Need-reaches-requires Inv-loop μ-loop
-reaches-requires c κs = search needs
+has-room-requires : tie.Need-has-room-requires Inv-loop μ-loop
+has-room-requires c κs = search needs
 
 returns : tie.Need-returns Inv-loop μ-loop
-returns c = wrote-nothing _ _ _ refl (above _ _ (c .before .reaches .ensures) (c .if1 .taken))
+returns c = wrote-nothing _ _ _ refl (above _ _ (c .before .has-room .ensures) (c .if1 .taken))
 
 loop-holds : tie.Need-loop-holds Inv-loop μ-loop
-loop-holds c = copy-start _ _ _ (at-most _ _ (c .before .reaches .ensures) (c .if1 .left))
+loop-holds c = copy-start _ _ _ (at-most _ _ (c .before .has-room .ensures) (c .if1 .left))
 
 shared-slice-read-out : tie.Need-shared-slice-read-out Inv-loop μ-loop
 shared-slice-read-out c = search needs
@@ -57,7 +57,7 @@ put-spec =
     (tie.spec
     Inv-loop
     μ-loop
-    reaches-requires
+    has-room-requires
     returns
     loop-holds
     shared-slice-read-out

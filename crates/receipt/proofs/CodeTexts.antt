@@ -1,0 +1,156 @@
+-- The fixed texts of compact form and code, and what good parts are.
+use Prim.Native.Nat.{ℕ, _≤_, _<_}
+use mathlib.Core.Path.{_≡_, refl, sym, ap, _∙_}
+use mathlib.Core.Bool.{Bool, true, false, cond, _&&_, _||_, and-false}
+use mathlib.Core.List.{List, [], _∷_}
+use mathlib.Core.Option.{Option, none, some}
+use native.Mathlib.Omega.{arith}
+use borrow.Author.Tests.{le-leb, lt-leb, leb-true, leb-false, eq-eqb, ne-eqb, eqb-true}
+use lib.Dec.{leb, eqb}
+use lib.ListN.{length, take}
+use Rattle.primitives.specs.Bytes.{same}
+use Rattle.primitives.specs.Base64.{letter, quad, letters, encoding}
+use Rattle.primitives.specs.declared.base64.Alphabet.the-variants.{UrlSafe}
+use Rattle.primitives.proofs.ByteLists.{same-true, same-length}
+use Rattle.receipt.specs.Payload.{header, failureText, longestPayload}
+use Rattle.receipt.specs.Form.{Parts, parts, payloadGood, signatureGood, partsGood, goodParts}
+use Rattle.receipt.specs.FormReading.{short, found}
+
+-- ---- the texts
+
+-- eyJhbGciOiJFUzI1NiJ9
+abbrev pub headerLetters : List ℕ
+headerLetters =
+    101 ∷ 121 ∷ 74 ∷ 104 ∷ 98 ∷ 71 ∷ 99 ∷ 105 ∷ 79 ∷ 105 ∷ 74 ∷ 70 ∷ 85 ∷ 122 ∷ 73 ∷ 49 ∷ 78 ∷ 105 ∷ 74 ∷ 57 ∷ []
+
+-- one of the cases of the paper, by computing
+pub header-letters : encoding UrlSafe header ≡ headerLetters
+unfolding encoding letters quad letter header
+header-letters = refl
+
+pub header-long : length (encoding UrlSafe header) ≡ 20
+header-long = ap length header-letters
+
+abbrev pub failureLetters : List ℕ
+failureLetters =
+    83 ∷ 105 ∷ 99 ∷ 104 ∷ 101 ∷ 114 ∷ 104 ∷ 101 ∷ 105 ∷ 116 ∷ 115 ∷ 101 ∷ 105 ∷ 110 ∷ 114 ∷ 105 ∷ 99 ∷ 104 ∷ 116 ∷ 117 ∷ 110 ∷ 103
+    ∷ 32 ∷ 97 ∷ 117 ∷ 115 ∷ 103 ∷ 101 ∷ 102 ∷ 97 ∷ 108 ∷ 108 ∷ 101 ∷ 110 ∷ []
+
+pub failure-letters : failureText ≡ failureLetters
+unfolding failureText
+failure-letters = refl
+
+pub failure-long : length failureText ≡ 34
+failure-long = ap length failure-letters
+
+-- ---- tests
+
+pub both : (a b : Bool) → a && b ≡ true → (a ≡ true) × (b ≡ true)
+both true b e = (refl, e)
+both false b e = let z : _≡_ {A = ℕ} 0 1 = cc in absurd (omega arith)
+
+-- ---- the payload
+
+module _ (p : List ℕ) where
+  pub payload-short : length p < 4 → false ≡ payloadGood p
+  unfolding payloadGood
+  payload-short h = rw (lt-leb 4 (length p) h)
+
+  pub payload-long : longestPayload < length p → false ≡ payloadGood p
+  unfolding payloadGood
+  payload-long h = rw (lt-leb (length p) 195 h) (sym (and-false (leb 4 (length p))))
+
+  pub payload-mark : {r : Bool} → 4 ≤ length p → length p ≤ longestPayload → r ≡ same (take 4 p) (95 ∷ 82 ∷ 49 ∷ 45 ∷ []) → r ≡ payloadGood p
+  unfolding payloadGood
+  payload-mark h k e = rw (le-leb 4 (length p) h, le-leb (length p) 195 k) e
+
+  pub payload-most : payloadGood p ≡ true → length p ≤ longestPayload
+  unfolding payloadGood
+  payload-most e =
+      leb-true (length p) 195
+      (both (leb (length p) 195) (same (take 4 p) (95 ∷ 82 ∷ 49 ∷ 45 ∷ [])) (both (leb 4 (length p)) (leb (length p) 195 && same (take 4 p) (95 ∷ 82 ∷ 49 ∷ 45 ∷ [])) e .1) .0)
+
+-- ---- the signature
+
+module _ (s : List ℕ) where
+  pub signature-whole : length s ≡ 64 → true ≡ signatureGood s
+  unfolding signatureGood
+  signature-whole e = rw (eq-eqb (length s) 64 e)
+
+  pub signature-text : {r : Bool} → (length s ≡ 64 → ⊥) → r ≡ same s failureLetters → r ≡ signatureGood s
+  unfolding signatureGood
+  signature-text n e = rw (ne-eqb (length s) 64 n, failure-letters) e
+
+  pub signature-other : (length s ≡ 64 → ⊥) → (length s ≡ 34 → ⊥) → false ≡ signatureGood s
+  unfolding signatureGood
+  signature-other n m = rw (ne-eqb (length s) 64 n, same-length s failureText (λ e. m (e ∙ failure-long)))
+
+  pub signature-most : signatureGood s ≡ true → length s ≤ 64
+  unfolding signatureGood
+  signature-most e = go (eqb (length s) 64) refl e
+    where
+      go : (t : Bool) → eqb (length s) 64 ≡ t → t || same s failureText ≡ true → length s ≤ 64
+      go true q f = omega (arith, eqb-true (length s) 64 q)
+      go false q f = omega (arith, ap length (same-true s failureText f), failure-long)
+
+module _ (p : Parts) (g : partsGood p ≡ true) where
+  pub good-payload : length (p .payload) ≤ longestPayload
+  good-payload = payload-most (p .payload) (both (payloadGood (p .payload)) (signatureGood (p .signature)) g .0)
+
+  pub good-signature : length (p .signature) ≤ 64
+  good-signature = signature-most (p .signature) (both (payloadGood (p .payload)) (signatureGood (p .signature)) g .1)
+
+-- ---- parts from two texts that may stand for nothing
+
+pub good-some : (p : Parts) → partsGood p ≡ true → goodParts (some (p .payload)) (some (p .signature)) ≡ some p
+unfolding goodParts
+good-some p g = rw g
+
+pub record Inverted (o₁ o₂ : Option (List ℕ)) (p : Parts) : Type 0 where
+  pub payload : o₁ ≡ some (p .payload)
+  pub signature : o₂ ≡ some (p .signature)
+  pub good : partsGood p ≡ true
+
+pub good-inverted : (o₁ o₂ : Option (List ℕ)) (p : Parts) → goodParts o₁ o₂ ≡ some p → Inverted o₁ o₂ p
+unfolding goodParts
+good-inverted none o₂ p e = let z : _≡_ {A = ℕ} 0 1 = cc in absurd (omega arith)
+good-inverted (some x) none p e = let z : _≡_ {A = ℕ} 0 1 = cc in absurd (omega arith)
+good-inverted (some x) (some y) p e = go (partsGood (parts x y)) refl e
+  where
+    go : (t : Bool) → partsGood (parts x y) ≡ t → cond t (some (parts x y)) none ≡ some p → Inverted (some x) (some y) p
+    go true q f =
+        let d : parts x y ≡ p = cc in
+        record { payload = ap (λ (r : Parts). some (r .payload)) d; signature = ap (λ (r : Parts). some (r .signature)) d; good = ap partsGood (sym d) ∙ q }
+    go false q f = let z : _≡_ {A = ℕ} 0 1 = cc in absurd (omega arith)
+
+-- reading into a buffer of 64 and one of 195 bytes, and then asking, gives the good parts
+
+no-signature : false ≡ signatureGood []
+no-signature = signature-other [] (λ e. absurd (omega arith)) (λ e. absurd (omega arith))
+
+no-payload : false ≡ payloadGood []
+no-payload = payload-short [] (omega arith)
+
+pub read-signed : (p : List ℕ) (o : Option (List ℕ)) → found (payloadGood p && signatureGood (short 64 o)) p (short 64 o) ≡ goodParts (some p) o
+unfolding goodParts found
+read-signed p none = rw (sym no-signature, and-false (payloadGood p))
+read-signed p (some s) = go (leb (length s) 64) refl
+  where
+    go : (t : Bool) → leb (length s) 64 ≡ t → found (payloadGood p && signatureGood (cond t s [])) p (cond t s []) ≡ cond (payloadGood p && signatureGood s) (some (parts p s)) none
+    go true e = refl
+    go false e =
+        let h : 64 < length s = leb-false (length s) 64 e in
+        rw (sym no-signature, sym (signature-other s (λ q. absurd (omega arith)) (λ q. absurd (omega arith))), and-false (payloadGood p))
+
+pub read-parts : (o₁ o₂ : Option (List ℕ)) → found (payloadGood (short longestPayload o₁) && signatureGood (short 64 o₂)) (short longestPayload o₁) (short 64 o₂) ≡ goodParts o₁ o₂
+unfolding goodParts found
+read-parts none o₂ = rw (sym no-payload)
+read-parts (some p) o₂ = go (leb (length p) 195) refl
+  where
+    dropped : (o : Option (List ℕ)) → false ≡ payloadGood p → none ≡ goodParts (some p) o
+    dropped none e = refl
+    dropped (some s) e = rw (sym e)
+
+    go : (t : Bool) → leb (length p) 195 ≡ t → found (payloadGood (cond t p []) && signatureGood (short 64 o₂)) (cond t p []) (short 64 o₂) ≡ goodParts (some p) o₂
+    go true e = read-signed p o₂
+    go false e = rw (sym no-payload) (dropped o₂ (payload-long p (leb-false (length p) 195 e)))

@@ -1,0 +1,152 @@
+-- Laws of finding a byte: the first from a place on, and the last.
+use Prim.Native.Nat.{ℕ, zero, suc, _+_, _-_, _≤_, _<_}
+use mathlib.Core.Path.{_≡_, refl, sym, _∙_}
+use mathlib.Core.Bool.{Bool, true, false, cond}
+use mathlib.Core.List.{List, [], _∷_, _++_}
+use native.Mathlib.Nat.{add-zero}
+use native.Mathlib.Numerals.{add-one}
+use native.Mathlib.Omega.{arith}
+use borrow.Author.Tests.{eq-eqb, ne-eqb, eqb-true}
+use lib.Dec.{eqb}
+use lib.ListN.{length, getD, drop, length-append, length-drop, drop-of-length-le}
+use lib.Seq.{drop-cons, drop-at, getD-append-add, getD-at, getD-drop}
+use Rattle.receipt.specs.Form.{firstAt, nextAt}
+use Rattle.receipt.specs.Code.{lastBefore, lastAt}
+
+-- ---- the first
+
+module _ (b : ℕ) (s : List ℕ) (i : ℕ) where
+  pub next-found : i < length s → getD s i 0 ≡ b → nextAt b s i ≡ i
+  unfolding nextAt firstAt
+  next-found h e = rw (drop-cons s i 0 h, eq-eqb (getD s i 0) b e) (add-zero i)
+
+  pub next-more : i < length s → (getD s i 0 ≡ b → ⊥) → nextAt b s i ≡ nextAt b s (i + 1)
+  unfolding nextAt firstAt
+  next-more h n = rw (drop-cons s i 0 h, ne-eqb (getD s i 0) b n, add-one i) (omega arith)
+
+  pub next-end : length s ≤ i → nextAt b s i ≡ i
+  unfolding nextAt firstAt
+  next-end h = rw (drop-of-length-le s h) (add-zero i)
+
+first-most : (b : ℕ) (s : List ℕ) → firstAt b s ≤ length s
+unfolding firstAt
+first-most b [] = omega arith
+first-most b (x ∷ s) = go (first-most b s) (eqb x b)
+  where
+    go : firstAt b s ≤ length s → (t : Bool) → cond t 0 (suc (firstAt b s)) ≤ suc (length s)
+    go h true = omega arith
+    go h false = omega arith
+
+first-is : (b : ℕ) (s : List ℕ) → firstAt b s < length s → getD s (firstAt b s) 0 ≡ b
+unfolding firstAt
+first-is b [] h = absurd (omega arith)
+first-is b (x ∷ s) h = go (first-is b s) (eqb x b) refl h
+  where
+    go : (firstAt b s < length s → getD s (firstAt b s) 0 ≡ b) → (t : Bool) → eqb x b ≡ t → cond t 0 (suc (firstAt b s)) < suc (length s)
+        → getD (x ∷ s) (cond t 0 (suc (firstAt b s))) 0 ≡ b
+    go f true e k = eqb-true x b e
+    go f false e k = f (omega arith)
+
+module _ (b : ℕ) (s : List ℕ) (from : ℕ) where
+  pub next-from : from ≤ nextAt b s from
+  unfolding nextAt
+  next-from = omega arith
+
+  pub next-most : nextAt b s from ≤ from + length s
+  unfolding nextAt
+  next-most = omega (arith, first-most b (drop from s), length-drop from s)
+
+  -- where there is one, it stands there
+  pub next-is : nextAt b s from < length s → getD s (nextAt b s from) 0 ≡ b
+  unfolding nextAt
+  next-is h =
+      sym (getD-drop from s (firstAt b (drop from s)) 0) ∙ first-is b (drop from s) (omega (arith, length-drop from s))
+
+-- ---- lists without a byte
+
+pub record Without (b : ℕ) (s : List ℕ) : Type 0 where
+  pub at : (i : ℕ) → i < length s → getD s i 0 ≡ b → ⊥
+
+without-tail : {b x : ℕ} {s : List ℕ} → Without b (x ∷ s) → Without b s
+without-tail w = record { at = λ i h e. w .at (suc i) (omega arith) e }
+
+first-without : (b : ℕ) (xs ys : List ℕ) → Without b xs → firstAt b (xs ++ (b ∷ ys)) ≡ length xs
+unfolding firstAt
+first-without b [] ys w = rw (eq-eqb b b refl)
+first-without b (x ∷ xs) ys w = rw (ne-eqb x b (w .at 0 (omega arith)), first-without b xs ys (without-tail w))
+
+-- behind a front and a list without it, the next b is the one that follows
+pub next-without : (b : ℕ) (front xs ys : List ℕ) (from : ℕ) → length front ≡ from → Without b xs
+    → nextAt b (front ++ (xs ++ (b ∷ ys))) from ≡ from + length xs
+unfolding nextAt
+next-without b front xs ys from e w = rw (drop-at front (xs ++ (b ∷ ys)) from e, first-without b xs ys w)
+
+-- ---- the last
+
+module _ (b : ℕ) (s : List ℕ) where
+  step : (i : ℕ) → 0 < i → lastBefore b s i ≡ cond (eqb (getD s (i - 1) 0) b) (i - 1) (lastBefore b s (i - 1))
+  unfolding lastBefore
+  step zero h = absurd (omega arith)
+  step (suc n) h = let e : suc n - 1 ≡ n = omega arith in rw e
+
+  module _ (i : ℕ) (h : 0 < i) where
+    pub last-found : getD s (i - 1) 0 ≡ b → lastBefore b s i ≡ i - 1
+    last-found e = rw (step i h, eq-eqb (getD s (i - 1) 0) b e)
+
+    pub last-more : (getD s (i - 1) 0 ≡ b → ⊥) → lastBefore b s i ≡ lastBefore b s (i - 1)
+    last-more n = rw (step i h, ne-eqb (getD s (i - 1) 0) b n)
+
+  pub last-start : lastBefore b s (length s) ≡ lastAt b s
+  unfolding lastAt
+  last-start = refl
+
+  pub last-end : (i : ℕ) → i ≤ 0 → lastBefore b s i ≡ length s
+  unfolding lastBefore
+  last-end i h = let e : i ≡ 0 = omega arith in rw e
+
+  before-is : (n : ℕ) → lastBefore b s n < length s → getD s (lastBefore b s n) 0 ≡ b
+  unfolding lastBefore
+  before-is zero h = absurd (omega arith)
+  before-is (suc n) h = go (before-is n) (eqb (getD s n 0) b) refl h
+    where
+      go : (lastBefore b s n < length s → getD s (lastBefore b s n) 0 ≡ b) → (t : Bool) → eqb (getD s n 0) b ≡ t → cond t n (lastBefore b s n) < length s
+          → getD s (cond t n (lastBefore b s n)) 0 ≡ b
+      go f true e k = eqb-true (getD s n 0) b e
+      go f false e k = f k
+
+  -- where there is one, it stands there
+  pub last-is : lastAt b s < length s → getD s (lastAt b s) 0 ≡ b
+  unfolding lastAt
+  last-is h = before-is (length s) h
+
+  before-most : (n : ℕ) → n ≤ length s → lastBefore b s n ≤ length s
+  unfolding lastBefore
+  before-most zero h = omega arith
+  before-most (suc n) h = go (before-most n (omega arith)) (eqb (getD s n 0) b)
+    where
+      go : lastBefore b s n ≤ length s → (t : Bool) → cond t n (lastBefore b s n) ≤ length s
+      go k true = omega arith
+      go k false = k
+
+  pub last-most : lastAt b s ≤ length s
+  unfolding lastAt
+  last-most = before-most (length s) (omega arith)
+
+-- behind the last b stands a list without it
+module _ (b : ℕ) (xs ys : List ℕ) (w : Without b ys) where
+  text : List ℕ
+  text = xs ++ (b ∷ ys)
+
+  behind : (n : ℕ) → n ≤ length ys → lastBefore b text (suc (length xs + n)) ≡ length xs
+  unfolding lastBefore text
+  behind zero h = rw (add-zero (length xs), getD-at xs b ys 0 (length xs) refl, eq-eqb b b refl)
+  behind (suc n) h =
+      let e : length xs + suc n ≡ suc (length xs + n) = omega arith in
+      let g : getD text (length xs + suc n) 0 ≡ getD ys n 0 = getD-append-add xs (b ∷ ys) (suc n) 0 in
+      rw (g, ne-eqb (getD ys n 0) b (w .at n (omega arith)), e) (behind n (omega arith))
+
+  pub last-without : lastAt b (xs ++ (b ∷ ys)) ≡ length xs
+  unfolding lastAt text
+  last-without =
+      let e : length (xs ++ (b ∷ ys)) ≡ suc (length xs + length ys) = omega (arith, length-append xs (b ∷ ys)) in
+      rw e (behind (length ys) (omega arith))

@@ -1,0 +1,20 @@
+-- 64 bytes, or else the text of a failed device.
+use Rattle.receipt.proofs.CodeTexts.{signature-whole, signature-text}
+use borrow.Author.Needs.{needs}
+use Rattle.receipt.proofs.form.signature_good.Statement.{statement}
+use Rattle.receipt.proofs.form.signature_good.Tie as tie
+
+returns : tie.Need-returns
+returns c = signature-whole _ (c .if1 .taken)
+
+slice-aggregate-same : tie.Need-slice-aggregate-same
+slice-aggregate-same c = search needs
+
+same-requires : tie.Need-same-requires
+same-requires c κs = search needs
+
+returns-2 : tie.Need-returns-2
+returns-2 c = signature-text _ (c .before .before .if1 .left) (c .same .ensures)
+
+pub signature-good-spec : {M : Type 1} → statement M
+signature-good-spec = tie.close (tie.spec returns slice-aggregate-same same-requires returns-2)

@@ -1,0 +1,35 @@
+-- The chain between receipts, and the encrypted counter.
+use Prim.Native.Nat.{ℕ}
+use mathlib.Core.List.{List, _++_}
+use lib.IntN.{ℤ}
+use lib.ListN.{take}
+use Rattle.primitives.specs.Sha256.{sha256}
+use Rattle.primitives.specs.Aes.{cipher}
+use Rattle.primitives.specs.Counter.{counterBytes, counterValue, xorFirst}
+use Rattle.receipt.specs.Decimal.{digits}
+use Rattle.receipt.specs.Settings.{nameText}
+use Rattle.receipt.specs.declared.settings.Name.{Name}
+
+-- "the first 8 bytes of SHA-256 of the previous receipt's compact form, for the first receipt of the ID"
+unfoldable pub chainValue : List ℕ → List ℕ
+chainValue text = take 8 (sha256 text)
+
+-- "ID then number as spelled"
+unfoldable pub hashInput : Name → ℕ → List ℕ
+hashInput id number = nameText id ++ digits number
+
+-- "IV: bytes 0 to 15 of SHA-256 of ID then number as spelled"
+unfoldable pub iv : Name → ℕ → List ℕ
+iv id number = take 16 (sha256 (hashInput id number))
+
+-- AES-256 of the IV, under the key's schedule
+unfoldable pub keyStream : List (List ℕ) → Name → ℕ → List ℕ
+keyStream schedule id number = cipher schedule (iv id number)
+
+-- "N bytes, big-endian two's complement, combined by exclusive or with the first N bytes of AES-256 of the IV"
+unfoldable pub encryptedCounter : List (List ℕ) → Name → ℕ → ℕ → ℤ → List ℕ
+encryptedCounter schedule id number n counter = xorFirst n (counterBytes n counter) (keyStream schedule id number)
+
+-- the same, back
+unfoldable pub decryptedCounter : List (List ℕ) → Name → ℕ → ℕ → List ℕ → ℤ
+decryptedCounter schedule id number n bytes = counterValue n (xorFirst n bytes (keyStream schedule id number))

@@ -1,0 +1,102 @@
+-- The machine-readable code of a receipt, the way back to the compact form, and the ID field of a code.
+use Prim.Native.Nat.{ℕ, zero, suc, _+_}
+use mathlib.Core.Bool.{Bool, cond}
+use mathlib.Core.List.{List, [], _∷_, _++_}
+use mathlib.Core.Option.{Option, none, some, Option·map}
+use lib.Dec.{ltb, eqb}
+use lib.ListN.{length, getD, take, drop}
+use Rattle.primitives.specs.Place.{room, placed}
+use Rattle.primitives.specs.Base64.{encoding, decoding}
+use Rattle.primitives.specs.declared.base64.Alphabet.the-variants.{Standard}
+use Rattle.receipt.specs.Form.{nextAt, part, Parts, goodParts, signedForm, partsOfForm}
+use Rattle.receipt.specs.declared.machine_code.Answer.{Answer}
+
+-- ---- the text
+
+-- the place of the last b among the first n bytes; the length where there is none
+unfoldable pub lastBefore : ℕ → List ℕ → ℕ → ℕ
+lastBefore b text zero = length text
+lastBefore b text (suc n) = cond (eqb (getD text n 0) b) n (lastBefore b text n)
+
+-- the place of the last b; the length where there is none
+unfoldable pub lastAt : ℕ → List ℕ → ℕ
+lastAt b text = lastBefore b text (length text)
+
+-- code: payload, "_", BASE64 of the signature
+unfoldable pub codeText : Parts → List ℕ
+codeText p = p .payload ++ (95 ∷ []) ++ encoding Standard (p .signature)
+
+-- split at the last "_": the payload, and canonical BASE64 of the signature
+unfoldable pub partsOfCode : List ℕ → Option Parts
+partsOfCode text =
+    cond (ltb (lastAt 95 text) (length text))
+    (goodParts (some (take (lastAt 95 text) text)) (decoding Standard (drop (lastAt 95 text + 1) text))) none
+
+-- ---- what the calls answer, and the output after them
+
+-- a text that is to be written: its length, or 23 where it doesn't fit
+unfoldable pub written : List ℕ → List ℕ → Answer
+written out text = cond (room out 0 text) (record { number = 0; length = length text }) (record { number = 23; length = 0 })
+
+-- a refused call, or one that has a text to write
+abbrev pub answerWith : ℕ → Option (List ℕ) → List ℕ → Answer
+answerWith refused none out = record { number = refused; length = 0 }
+answerWith refused (some text) out = written out text
+
+abbrev pub bufferWith : Option (List ℕ) → List ℕ → List ℕ
+bufferWith none out = out
+bufferWith (some text) out = placed out 0 text
+
+-- Code: good parts? 22. Output long enough? 23
+unfoldable pub codeAnswer : List ℕ → List ℕ → Answer
+codeAnswer form out = answerWith 22 (Option·map codeText (partsOfForm form)) out
+
+unfoldable pub codeBuffer : List ℕ → List ℕ → List ℕ
+codeBuffer form out = bufferWith (Option·map codeText (partsOfForm form)) out
+
+-- Uncode: good parts? 24. Output long enough? 23
+unfoldable pub uncodeAnswer : List ℕ → List ℕ → Answer
+uncodeAnswer code out = answerWith 24 (Option·map signedForm (partsOfCode code)) out
+
+unfoldable pub uncodeBuffer : List ℕ → List ℕ → List ℕ
+uncodeBuffer code out = bufferWith (Option·map signedForm (partsOfCode code)) out
+
+-- what the calls wrote
+abbrev pub codeMade : List ℕ → List ℕ → List ℕ
+codeMade form out = take (codeAnswer form out .length) (codeBuffer form out)
+
+abbrev pub formMade : List ℕ → List ℕ → List ℕ
+formMade code out = take (uncodeAnswer code out .length) (uncodeBuffer code out)
+
+-- ---- the ID field
+
+-- of a payload, whose first "_" stands at 0: the ID starts behind the second "_" and ends before the third
+unfoldable pub idStart : List ℕ → ℕ
+idStart p = nextAt 95 p 1 + 1
+
+unfoldable pub idEnd : List ℕ → ℕ
+idEnd p = nextAt 95 p (idStart p)
+
+-- there is a third "_" in the payload
+unfoldable pub idEnded : List ℕ → Bool
+idEnded p = ltb (idEnd p) (length p)
+
+-- what stands in a text where a payload has its ID field; nothing where the payload has no third "_"
+abbrev pub idWithin : List ℕ → List ℕ → List ℕ
+idWithin p text = cond (idEnded p) (part (idStart p) (idEnd p) text) []
+
+-- Fields: what stands between the second and the third "_" of the payload of a code; nothing where the code is refused
+abbrev pub idOf : Option Parts → List ℕ
+idOf none = []
+idOf (some p) = idWithin (p .payload) (p .payload)
+
+unfoldable pub idField : List ℕ → List ℕ
+idField code = idOf (partsOfCode code)
+
+-- the same as a part of the code, at whose start the payload stands
+abbrev pub idPartOf : Option Parts → List ℕ → List ℕ
+idPartOf none code = []
+idPartOf (some p) code = idWithin (p .payload) code
+
+unfoldable pub idPart : List ℕ → List ℕ
+idPart code = idPartOf (partsOfCode code) code

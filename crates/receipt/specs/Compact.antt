@@ -1,0 +1,87 @@
+-- A receipt as a journal's entry spells it: its compact form, written and read.
+use Prim.Native.Nat.{ℕ}
+use mathlib.Core.Bool.{Bool, true, false, cond, not, _&&_, _||_}
+use mathlib.Core.List.{List, []}
+use mathlib.Core.Option.{Option, none, some}
+use lib.Dec.{eqb}
+use lib.ListN.{length, replicate}
+use Rattle.primitives.specs.Bytes.{same}
+use Rattle.primitives.specs.Counter.{widthGood}
+use Rattle.receipt.specs.Settings.{sized}
+use Rattle.receipt.specs.Payload.{payload, failureText, zeros, fieldsGood}
+use Rattle.receipt.specs.PayloadReading.{blank, readFields}
+use Rattle.receipt.specs.Form.{Parts, parts, signedInput, signedForm, partsOfForm}
+use Rattle.receipt.specs.declared.settings.Settings.{Settings}
+use Rattle.receipt.specs.declared.payload.Fields.{Fields}
+use Rattle.receipt.specs.declared.entry.Signature.{Signature}
+use Rattle.receipt.specs.declared.entry.Entry.{Entry}
+use Rattle.receipt.specs.declared.entry.Found.{Found}
+
+-- ---- the spelling
+
+-- the signature's 64 bytes; the text of a failed device
+unfoldable pub signatureText : Signature → List ℕ
+signatureText g = cond (g .failed) failureText (g .bytes)
+
+-- the elements of header, payload and signature, with "." between them
+unfoldable pub compact : Settings → ℕ → Entry → List ℕ
+compact s n e = signedForm (parts (payload s n (e .fields)) (signatureText (e .signature)))
+
+-- what the device signs: what stands before the second "."
+unfoldable pub signingInput : Settings → ℕ → Fields → List ℕ
+signingInput s n f = signedInput (payload s n f)
+
+-- "a compact form at most 368"
+abbrev pub longestCompact : ℕ
+longestCompact = 368
+
+-- ---- which entries have one
+
+-- where the device has failed, there are no other bytes than zeros
+unfoldable pub signatureZero : Signature → Bool
+signatureZero g = not (g .failed) || zeros (g .bytes)
+
+-- a payload's fields are good, and the signature
+unfoldable pub entryGood : ℕ → Entry → Bool
+entryGood n e = fieldsGood n (e .fields) && signatureZero (e .signature)
+
+unfoldable pub preparable : Settings → ℕ → Fields → Bool
+preparable s n f = sized s && (widthGood n && fieldsGood n f)
+
+unfoldable pub spellable : Settings → ℕ → Entry → Bool
+spellable s n e = sized s && (widthGood n && entryGood n e)
+
+-- ---- what the writers write: nothing, where there is nothing to spell
+
+unfoldable pub prepared : Settings → ℕ → Fields → List ℕ
+prepared s n f = cond (preparable s n f) (signingInput s n f) []
+
+unfoldable pub spelled : Settings → ℕ → Entry → List ℕ
+spelled s n e = cond (spellable s n e) (compact s n e) []
+
+-- ---- question 16: what the bytes of one entry spell
+
+-- the signature with this text
+unfoldable pub signatureOf : List ℕ → Signature
+signatureOf text = cond (eqb (length text) 64) (record { failed = false; bytes = text }) (record { failed = true; bytes = replicate 64 0 })
+
+-- the fields have a payload, and it is this text
+unfoldable pub spells : Settings → ℕ → Fields → List ℕ → Bool
+spells s n f text = sized s && (widthGood n && (fieldsGood n f && same (payload s n f) text))
+
+-- nothing is found
+unfoldable pub noEntry : Found
+noEntry =
+    record { ok = false; entry = record { fields = blank; signature = record { failed = false; bytes = replicate 64 0 } } }
+
+-- fields that are read loosely, and spelled again
+unfoldable pub entryOf : Settings → ℕ → Fields → Parts → Found
+entryOf s n f p =
+    cond (spells s n f (p .payload)) (record { ok = true; entry = record { fields = f; signature = signatureOf (p .signature) } }) noEntry
+
+abbrev pub entryOfParts : Settings → ℕ → Option Parts → Found
+entryOfParts s n none = noEntry
+entryOfParts s n (some p) = entryOf s n (readFields s n (p .payload)) p
+
+unfoldable pub readEntry : Settings → ℕ → List ℕ → Found
+readEntry s n text = entryOfParts s n (partsOfForm text)

@@ -1,0 +1,79 @@
+-- The compact form of a receipt, as payload and signature: written, and read.
+use Prim.Native.Nat.{ℕ, suc, _+_, _-_}
+use mathlib.Core.Bool.{Bool, cond, _&&_, _||_}
+use mathlib.Core.List.{List, [], _∷_, _++_}
+use mathlib.Core.Option.{Option, none, some}
+use lib.Dec.{ltb, leb, eqb}
+use lib.ListN.{length, take, drop}
+use Rattle.primitives.specs.Bytes.{AllBytes, same}
+use Rattle.primitives.specs.Base64.{encoding, decoding}
+use Rattle.primitives.specs.declared.base64.Alphabet.the-variants.{UrlSafe}
+use Rattle.receipt.specs.Payload.{header, failureText, longestPayload}
+
+-- ---- finding a byte
+
+-- how many bytes stand before the first b, all of them where there is none
+unfoldable pub firstAt : ℕ → List ℕ → ℕ
+firstAt b [] = 0
+firstAt b (x ∷ xs) = cond (eqb x b) 0 (suc (firstAt b xs))
+
+-- the place of the first b from a place on; where there is none the length, or the place itself if it is behind the end
+unfoldable pub nextAt : ℕ → List ℕ → ℕ → ℕ
+nextAt b text from = from + firstAt b (drop from text)
+
+-- the bytes from the place a up to the place e
+abbrev pub part : ℕ → ℕ → List ℕ → List ℕ
+part a e text = take (e - a) (drop a text)
+
+-- ---- payload and signature
+
+pub record Parts : Type 0 where
+  pub payload : List ℕ
+  pub signature : List ℕ
+
+abbrev pub parts : List ℕ → List ℕ → Parts
+parts p s = record { payload = p; signature = s }
+
+-- 4 to 195 bytes beginning "_R1-"
+unfoldable pub payloadGood : List ℕ → Bool
+payloadGood p = leb 4 (length p) && (leb (length p) longestPayload && same (take 4 p) (95 ∷ 82 ∷ 49 ∷ 45 ∷ []))
+
+-- 64 bytes, or the text of a failed device
+unfoldable pub signatureGood : List ℕ → Bool
+signatureGood s = eqb (length s) 64 || same s failureText
+
+abbrev pub partsGood : Parts → Bool
+partsGood p = payloadGood (p .payload) && signatureGood (p .signature)
+
+-- what a slice gives: both are bytes
+pub record PartsOfBytes (p : Parts) : Type 0 where
+  pub payload : AllBytes (p .payload)
+  pub signature : AllBytes (p .signature)
+
+-- ---- the text
+
+-- what is signed: the elements of header and payload, with "." between them
+abbrev pub signedInput : List ℕ → List ℕ
+signedInput payload = encoding UrlSafe header ++ (46 ∷ []) ++ encoding UrlSafe payload
+
+-- compact form: the elements of header, payload and signature, with "." between them
+unfoldable pub signedForm : Parts → List ℕ
+signedForm p = signedInput (p .payload) ++ (46 ∷ []) ++ encoding UrlSafe (p .signature)
+
+-- ---- reading it
+
+-- parts, where there are both and they are good
+unfoldable pub goodParts : Option (List ℕ) → Option (List ℕ) → Option Parts
+goodParts (some p) (some s) = cond (partsGood (parts p s)) (some (parts p s)) none
+goodParts (some p) none = none
+goodParts none s = none
+
+-- the place of the "." behind the second element, where the first is the header's and a "." follows it; the length where there is none
+unfoldable pub secondDot : List ℕ → ℕ
+secondDot text = cond (same (take 21 text) (encoding UrlSafe header ++ (46 ∷ []))) (nextAt 46 text 21) (length text)
+
+-- three canonical elements, the first fixed, and good parts
+unfoldable pub partsOfForm : List ℕ → Option Parts
+partsOfForm text =
+    cond (ltb (secondDot text) (length text))
+    (goodParts (decoding UrlSafe (part 21 (secondDot text) text)) (decoding UrlSafe (drop (secondDot text + 1) text))) none

@@ -1,0 +1,22 @@
+-- What the private readers of compact form and code promise their callers: words of their contracts, no part of the calls' definitions.
+use Prim.Native.Nat.{ℕ}
+use mathlib.Core.Bool.{Bool, false, cond}
+use mathlib.Core.List.{List, []}
+use mathlib.Core.Option.{Option, none, some}
+use lib.Dec.{leb}
+use lib.ListN.{length}
+use Rattle.receipt.specs.declared.form.Reading.{Reading}
+use Rattle.receipt.specs.Form.{Parts, parts}
+
+-- the bytes of a text that is read into a buffer: none where the text is refused or they have no room
+abbrev pub short : ℕ → Option (List ℕ) → List ℕ
+short most none = []
+short most (some ys) = cond (leb (length ys) most) ys []
+
+-- the parts that a reader found
+unfoldable pub found : Bool → List ℕ → List ℕ → Option Parts
+found good p s = cond good (some (parts p s)) none
+
+-- the answer where there are none
+abbrev pub nothing : Reading
+nothing = record { good = false; payload = 0; signature = 0 }

@@ -1,0 +1,16 @@
+pub mod Amount
+pub mod Cases
+pub mod Chain
+pub mod Code
+pub mod CodeLaws
+pub mod Compact
+pub mod DateTime
+pub mod Decimal
+pub mod Details
+pub mod Exact
+pub mod Fields
+pub mod Form
+pub mod FormReading
+pub mod Payload
+pub mod PayloadReading
+pub mod Settings

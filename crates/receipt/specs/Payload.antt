@@ -1,0 +1,103 @@
+-- The payload: "'_', then twelve fields joined by '_'".
+use Prim.Native.Nat.{ℕ, _<_}
+use mathlib.Core.Bool.{Bool, true, _&&_}
+use mathlib.Core.List.{List, [], _∷_, _++_}
+use mathlib.Core.Path.{_≡_}
+use lib.Dec.{leb, eqb}
+use lib.ListN.{length, take, drop}
+use Rattle.primitives.specs.Base64.{encoding}
+use Rattle.primitives.specs.Bytes.{AllBytes}
+use Rattle.primitives.specs.declared.base64.Alphabet.the-variants as alphabet
+use Rattle.receipt.specs.Decimal.{digits}
+use Rattle.receipt.specs.Amount.{amountsText}
+use Rattle.receipt.specs.DateTime.{dateGood, dateText}
+use Rattle.receipt.specs.Settings.{nameText}
+use Rattle.receipt.specs.Details.{amountsGood}
+use Rattle.receipt.specs.declared.datetime.DateTime.{DateTime}
+use Rattle.receipt.specs.declared.details.Kind.{Kind}
+use Rattle.receipt.specs.declared.details.Kind.the-variants.{Standard, Cancellation, Training}
+use Rattle.receipt.specs.declared.settings.Settings.{Settings}
+use Rattle.receipt.specs.declared.payload.Fields.{Fields}
+
+-- ---- the spelling
+
+-- BASE64, padded
+abbrev pub base64 : List ℕ → List ℕ
+base64 xs = encoding alphabet.Standard xs
+
+-- "_R1-", the CSP, '_', the ID, '_'
+unfoldable pub head : Settings → List ℕ
+head s = (95 ∷ 82 ∷ 49 ∷ 45 ∷ []) ++ (s .csp ++ (95 ∷ [])) ++ (nameText (s .id) ++ (95 ∷ []))
+
+-- number, '_', date, '_'
+unfoldable pub moment : ℕ → DateTime → List ℕ
+moment number date = digits number ++ (95 ∷ []) ++ dateText date ++ (95 ∷ [])
+
+-- what the counter field holds: the n bytes of the encrypted counter, "STO" or "TRA"
+unfoldable pub counterContent : ℕ → Kind → List ℕ → List ℕ
+counterContent n Standard counter = take n counter
+counterContent n Cancellation counter = 83 ∷ 84 ∷ 79 ∷ []
+counterContent n Training counter = 84 ∷ 82 ∷ 65 ∷ []
+
+-- "standard, BASE64 of the encrypted counter after this receipt; cancellation, BASE64 of 'STO'; training, BASE64 of 'TRA'"
+unfoldable pub counterField : ℕ → Kind → List ℕ → List ℕ
+counterField n kind counter = base64 (counterContent n kind counter)
+
+-- counter field, '_', serial, '_', chain field
+unfoldable pub closing : Settings → ℕ → Fields → List ℕ
+closing s n f =
+    (counterField n (f .details .kind) (f .counter) ++ (95 ∷ [])) ++ (nameText (s .serial) ++ (95 ∷ [])) ++ base64 (f .chain)
+
+-- what stands behind the head
+unfoldable pub body : Settings → ℕ → Fields → List ℕ
+body s n f = moment (f .details .number) (f .details .date) ++ amountsText (f .details .amounts) ++ closing s n f
+
+unfoldable pub payload : Settings → ℕ → Fields → List ℕ
+payload s n f = head s ++ body s n f
+
+-- "A payload is at most 195 bytes"
+abbrev pub longestPayload : ℕ
+longestPayload = 195
+
+-- ---- fixed texts of the compact form
+
+-- {"alg":"ES256"}
+unfoldable pub header : List ℕ
+header = 123 ∷ 34 ∷ 97 ∷ 108 ∷ 103 ∷ 34 ∷ 58 ∷ 34 ∷ 69 ∷ 83 ∷ 50 ∷ 53 ∷ 54 ∷ 34 ∷ 125 ∷ []
+
+-- "Sicherheitseinrichtung ausgefallen"
+unfoldable pub failureText : List ℕ
+failureText = 83 ∷ 105 ∷ 99 ∷ 104 ∷ 101 ∷ 114 ∷ 104 ∷ 101 ∷ 105 ∷ 116 ∷ 115 ∷ 101 ∷ 105 ∷ 110 ∷ 114 ∷ 105 ∷ 99 ∷ 104 ∷ 116 ∷ 117 ∷ 110 ∷ 103 ∷ 32 ∷ 97 ∷ 117 ∷ 115 ∷ 103 ∷ 101 ∷ 102 ∷ 97 ∷ 108 ∷ 108 ∷ 101 ∷ 110 ∷ []
+
+-- ---- which fields it may have
+
+-- every byte is zero
+unfoldable pub zeros : List ℕ → Bool
+zeros [] = true
+zeros (b ∷ bs) = eqb b 0 && zeros bs
+
+-- no byte of the counter stands where its field does not spell it
+unfoldable pub counterGood : ℕ → Kind → List ℕ → Bool
+counterGood n Standard counter = zeros (drop n counter)
+counterGood n Cancellation counter = zeros counter
+counterGood n Training counter = zeros counter
+
+unfoldable pub fieldsGood : ℕ → Fields → Bool
+fieldsGood n f =
+    leb 1 (f .details .number)
+    && (dateGood (f .details .date) && (amountsGood (f .details .amounts) && counterGood n (f .details .kind) (f .counter)))
+
+-- what the code's types say: the settings' arrays hold bytes
+pub record SettingsBytes (s : Settings) : Type 0 where
+  pub csp : AllBytes (s .csp)
+  pub id : AllBytes (s .id .bytes)
+  pub serial : AllBytes (s .serial .bytes)
+
+-- and the fields are a number of 32 bits, five amounts and eight bytes twice
+pub record TypedFields (f : Fields) : Type 0 where
+  pub number : f .details .number < 4294967296
+  pub amounts : length (f .details .amounts) ≡ 5
+  pub counter : length (f .counter) ≡ 8
+  pub counterBytes : AllBytes (f .counter)
+  pub chain : length (f .chain) ≡ 8
+  pub chainBytes : AllBytes (f .chain)

@@ -1,0 +1,81 @@
+-- The settings of a register: CSP, register ID and serial, and which of them are good.
+use Prim.Native.Nat.{ℕ, _-_}
+use mathlib.Core.Bool.{Bool, true, not, _&&_, _||_}
+use mathlib.Core.List.{List, [], _∷_, _++_}
+use mathlib.Core.Path.{_≡_}
+use lib.Dec.{leb, eqb}
+use lib.ListN.{length, getD, take, drop, replicate}
+use Rattle.receipt.specs.declared.settings.Name.{Name}
+use Rattle.receipt.specs.declared.settings.Settings.{Settings}
+use Rattle.receipt.specs.declared.settings.Letters.{Letters}
+use Rattle.receipt.specs.declared.settings.Letters.the-variants.{Id, Serial, Zero}
+
+-- ---- letters
+
+unfoldable pub between : ℕ → ℕ → ℕ → Bool
+between low high b = leb low b && leb b high
+
+-- A-Z
+abbrev pub capital : ℕ → Bool
+capital b = between 65 90 b
+
+-- 0-9
+abbrev pub digit : ℕ → Bool
+digit b = between 48 57 b
+
+-- "each 33 to 126 decimal, never '_'"
+unfoldable pub idLetter : ℕ → Bool
+idLetter b = not (eqb b 95) && between 33 126 b
+
+-- "0-9 a-f"
+unfoldable pub serialLetter : ℕ → Bool
+serialLetter b = digit b || between 97 102 b
+
+abbrev pub letterGood : Letters → ℕ → Bool
+letterGood Id b = idLetter b
+letterGood Serial b = serialLetter b
+letterGood Zero b = eqb b 0
+
+-- every byte is of the class
+unfoldable pub every : Letters → List ℕ → Bool
+every class [] = true
+every class (b ∷ bs) = letterGood class b && every class bs
+
+-- ---- names
+
+-- the bytes of a name, without the zeros behind its end
+unfoldable pub nameText : Name → List ℕ
+nameText n = take (n .len) (n .bytes)
+
+-- "1 to 32" letters; "a length over 32, or a byte behind the end that isn't zero, makes ID or serial bad"
+unfoldable pub nameGood : Letters → Name → Bool
+nameGood class n = leb 1 (n .len) && (leb (n .len) 32 && (every class (nameText n) && every Zero (drop (n .len) (n .bytes))))
+
+-- the name with this text; of a text over 32 bytes the array holds the first 32, and the length makes the name bad
+unfoldable pub nameOf : List ℕ → Name
+nameOf text = record { bytes = take 32 text ++ replicate (32 - length text) 0; len = length text }
+
+-- ---- settings
+
+-- "two letters A-Z and one digit"
+unfoldable pub cspGood : List ℕ → Bool
+cspGood csp = capital (getD csp 0 0) && (capital (getD csp 1 0) && digit (getD csp 2 0))
+
+abbrev pub idGood : Name → Bool
+idGood id = nameGood Id id
+
+abbrev pub serialGood : Name → Bool
+serialGood serial = nameGood Serial serial
+
+unfoldable pub settingsGood : Settings → Bool
+settingsGood s = cspGood (s .csp) && (idGood (s .id) && serialGood (s .serial))
+
+-- both names end within their arrays
+unfoldable pub sized : Settings → Bool
+sized s = leb (s .id .len) 32 && leb (s .serial .len) 32
+
+-- what the code's types say
+pub record TypedSettings (s : Settings) : Type 0 where
+  pub csp : length (s .csp) ≡ 3
+  pub id : length (s .id .bytes) ≡ 32
+  pub serial : length (s .serial .bytes) ≡ 32

@@ -1,0 +1,158 @@
+// The compact form of a receipt, as payload and signature: the elements of header, payload and signature, with '.' between them.
+use primitives::Alphabet;
+use primitives::Decoded;
+use primitives::base64_decode;
+use primitives::base64_encode;
+use primitives::has_room;
+use primitives::put;
+use primitives::same;
+ghost use mathlib.Core.Path.{_≡_};
+ghost use Prim.Native.Nat.{_+_, _≤_};
+ghost use mathlib.Core.List.{[], _∷_, _++_};
+ghost use lib.ListN.{length, take};
+ghost use Rattle.primitives.specs.Place.{overwrite, placed, behind};
+ghost use Rattle.primitives.specs.Base64.{encoding, decoding};
+ghost use Rattle.primitives.specs.declared.base64.Alphabet.the-variants.{UrlSafe};
+ghost use Rattle.receipt.specs.Payload.{longestPayload};
+ghost use Rattle.receipt.specs.Form.{nextAt, secondDot, payloadGood, signatureGood, parts, signedInput, signedForm, partsOfForm};
+ghost use Rattle.receipt.specs.FormReading.{short, found, nothing};
+
+// The longest payload.
+pub(crate) const LONGEST_PAYLOAD: usize = 195;
+
+// ---- reading
+
+// The place of the first b from a place on; the slice's length where there is none.
+pub(crate) fn next_at(b: u8, s: &[u8], from: usize) -> usize
+    ensures { λ r. ⌜ r ≡ nextAt b (now (s .entry)) from ⌝ }
+{
+    let mut i = from;
+    while i < s.len() {
+        if s[i] == b {
+            return i;
+        }
+        i += 1;
+    }
+    i
+}
+
+pub(crate) fn payload_good(payload: &[u8]) -> bool
+    ensures { λ r. ⌜ r ≡ payloadGood (now (payload .entry)) ⌝ }
+{
+    if payload.len() < 4 {
+        return false;
+    }
+    if LONGEST_PAYLOAD < payload.len() {
+        return false;
+    }
+    same(&payload[0..4], b"_R1-")
+}
+
+pub(crate) fn signature_good(signature: &[u8]) -> bool
+    ensures { λ r. ⌜ r ≡ signatureGood (now (signature .entry)) ⌝ }
+{
+    if signature.len() == 64 {
+        return true;
+    }
+    same(signature, b"Sicherheitseinrichtung ausgefallen")
+}
+
+// Writes the bytes of a text to the start of a buffer; how many. None where the text is refused or they have no room.
+pub(crate) fn decode(alphabet: Alphabet, text: &[u8], out: &mut [u8]) -> usize
+    ensures { λ r. ⌜ (r ≤ length (now (out .entry))) × (take r (now (out .exit)) ≡ short (length (now (out .entry))) (decoding alphabet (now (text .entry)))) ⌝ }
+{
+    match base64_decode(alphabet, text, out, 0) {
+        Decoded::Upto(n) => n,
+        Decoded::Refused => 0,
+        Decoded::NoRoom => 0,
+    }
+}
+
+// What a reader found: whether the text has good parts, and their lengths.
+pub(crate) struct Reading {
+    pub(crate) good: bool,
+    pub(crate) payload: usize,
+    pub(crate) signature: usize,
+}
+
+pub(crate) fn nothing() -> Reading
+    ensures { λ r. ⌜ r ≡ nothing ⌝ }
+{
+    Reading {
+        good: false,
+        payload: 0,
+        signature: 0,
+    }
+}
+
+// The place of the '.' behind the second element; the length where the first is another or there is no such '.'.
+fn second_dot(form: &[u8]) -> usize
+    ensures { λ r. ⌜ r ≡ secondDot (now (form .entry)) ⌝ }
+{
+    if form.len() < 21 {
+        return form.len();
+    }
+    if !same(&form[0..21], b"eyJhbGciOiJFUzI1NiJ9.") {
+        return form.len();
+    }
+    next_at(46, form, 21)
+}
+
+// The parts of a compact form, each at the start of a buffer.
+pub(crate) fn read_form(form: &[u8], payload: &mut [u8], signature: &mut [u8]) -> Reading
+    requires { ⌜ (length (now payload) ≡ longestPayload) × (length (now signature) ≡ 64) ⌝ }
+    ensures { λ r. ⌜ (r .payload ≤ longestPayload) × (r .signature ≤ 64) × (found (r .good) (take (r .payload) (now (payload .exit))) (take (r .signature) (now (signature .exit))) ≡ partsOfForm (now (form .entry))) ⌝ }
+{
+    let e = second_dot(form);
+    if form.len() <= e {
+        return nothing();
+    }
+    let from = e + 1;
+    let n = decode(Alphabet::UrlSafe, &form[21..e], payload);
+    let m = decode(Alphabet::UrlSafe, &form[from..], signature);
+    if !payload_good(&payload[0..n]) {
+        return nothing();
+    }
+    Reading {
+        good: signature_good(&signature[0..m]),
+        payload: n,
+        signature: m,
+    }
+}
+
+// ---- writing
+
+// A '.' and an element, at a place; the place behind them.
+fn put_element(out: &mut [u8], at: usize, s: &[u8]) -> usize
+    requires { ⌜ at + length ((46 ∷ []) ++ encoding UrlSafe (now s)) ≤ length (now out) ⌝ }
+    ensures { λ r. ⌜ (r ≡ at + length ((46 ∷ []) ++ encoding UrlSafe (now (s .entry)))) × (now (out .exit) ≡ overwrite (now (out .entry)) at ((46 ∷ []) ++ encoding UrlSafe (now (s .entry)))) ⌝ }
+{
+    put(out, at, b".");
+    base64_encode(Alphabet::UrlSafe, s, out, at + 1)
+}
+
+// What is signed of a compact form: the elements of header and payload with the '.' between them, at a place; the place behind them.
+pub(crate) fn put_input(payload: &[u8], out: &mut [u8], at: usize) -> usize
+    requires { ⌜ length (now payload) ≤ longestPayload ⌝ }
+    ensures { λ r. ⌜ (r ≡ behind (now (out .entry)) at (signedInput (now (payload .entry)))) × (now (out .exit) ≡ placed (now (out .entry)) at (signedInput (now (payload .entry)))) ⌝ }
+{
+    let total = 21 + (payload.len() * 4 + 2) / 3;
+    if !has_room(out.len(), at, total) {
+        return at;
+    }
+    put(out, at, b"eyJhbGciOiJFUzI1NiJ9");
+    put_element(out, at + 20, payload)
+}
+
+// A compact form, at a place; the place behind it.
+pub(crate) fn put_form(payload: &[u8], signature: &[u8], out: &mut [u8], at: usize) -> usize
+    requires { ⌜ (length (now payload) ≤ longestPayload) × (length (now signature) ≤ 64) ⌝ }
+    ensures { λ r. ⌜ (r ≡ behind (now (out .entry)) at (signedForm (parts (now (payload .entry)) (now (signature .entry))))) × (now (out .exit) ≡ placed (now (out .entry)) at (signedForm (parts (now (payload .entry)) (now (signature .entry))))) ⌝ }
+{
+    let total = 22 + (payload.len() * 4 + 2) / 3 + (signature.len() * 4 + 2) / 3;
+    if !has_room(out.len(), at, total) {
+        return at;
+    }
+    let p = put_input(payload, out, at);
+    put_element(out, p, signature)
+}

@@ -1,0 +1,154 @@
+// The machine-readable code of a receipt: made of a compact form, turned back into one, and the ID field in it.
+use super::form::LONGEST_PAYLOAD;
+use super::form::Reading;
+use super::form::decode;
+use super::form::next_at;
+use super::form::nothing;
+use super::form::payload_good;
+use super::form::put_form;
+use super::form::read_form;
+use super::form::signature_good;
+use primitives::Alphabet;
+use primitives::base64_encode;
+use primitives::put;
+ghost use mathlib.Core.Path.{_≡_};
+ghost use Prim.Native.Nat.{_≤_};
+ghost use lib.ListN.{length, take};
+ghost use Rattle.primitives.specs.Place.{placed};
+ghost use Rattle.receipt.specs.Payload.{longestPayload};
+ghost use Rattle.receipt.specs.Form.{parts};
+ghost use Rattle.receipt.specs.FormReading.{found};
+ghost use Rattle.receipt.specs.Code.{lastAt, codeText, partsOfCode, written, codeAnswer, codeBuffer, uncodeAnswer, uncodeBuffer, idField, idPart};
+
+// What a call that writes a text answers: 0 and the text's length, or the number of the question and 0.
+pub struct Answer {
+    pub number: u32,
+    pub length: usize,
+}
+
+// ---- reading
+
+// The place of the last b; the slice's length where there is none.
+fn last_at(b: u8, s: &[u8]) -> usize
+    ensures { λ r. ⌜ r ≡ lastAt b (now (s .entry)) ⌝ }
+{
+    let mut i = s.len();
+    while 0 < i {
+        i -= 1;
+        if s[i] == b {
+            return i;
+        }
+    }
+    s.len()
+}
+
+// The parts of a code: the payload stands at its start, the signature at the start of a buffer.
+fn read_code(code: &[u8], signature: &mut [u8]) -> Reading
+    requires { ⌜ length (now signature) ≡ 64 ⌝ }
+    ensures { λ r. ⌜ (r .payload ≤ length (now (code .entry))) × (r .signature ≤ 64) × (found (r .good) (take (r .payload) (now (code .entry))) (take (r .signature) (now (signature .exit))) ≡ partsOfCode (now (code .entry))) ⌝ }
+{
+    let n = last_at(95, code);
+    if code.len() <= n {
+        return nothing();
+    }
+    let from = n + 1;
+    let m = decode(Alphabet::Standard, &code[from..], signature);
+    if !payload_good(&code[0..n]) {
+        return nothing();
+    }
+    Reading {
+        good: signature_good(&signature[0..m]),
+        payload: n,
+        signature: m,
+    }
+}
+
+// ---- writing
+
+// A code, at the start of the output.
+fn put_code(payload: &[u8], signature: &[u8], out: &mut [u8]) -> Answer
+    requires { ⌜ (length (now payload) ≤ longestPayload) × (length (now signature) ≤ 64) ⌝ }
+    ensures { λ r. ⌜ (r ≡ written (now (out .entry)) (codeText (parts (now (payload .entry)) (now (signature .entry))))) × (now (out .exit) ≡ placed (now (out .entry)) 0 (codeText (parts (now (payload .entry)) (now (signature .entry))))) ⌝ }
+{
+    let n = payload.len();
+    let length = n + 1 + (signature.len() + 2) / 3 * 4;
+    if out.len() < length {
+        return Answer {
+            number: 23,
+            length: 0,
+        };
+    }
+    put(out, 0, payload);
+    put(out, n, b"_");
+    base64_encode(Alphabet::Standard, signature, out, n + 1);
+    Answer {
+        number: 0,
+        length: length,
+    }
+}
+
+// ---- the calls
+
+// The code of a compact form, at the start of the output. Good parts? 22. Output long enough? 23.
+pub fn code(form: &[u8], out: &mut [u8]) -> Answer
+    ensures { λ r. ⌜ (r ≡ codeAnswer (now (form .entry)) (now (out .entry))) × (now (out .exit) ≡ codeBuffer (now (form .entry)) (now (out .entry))) ⌝ }
+{
+    let mut payload = [0u8; LONGEST_PAYLOAD];
+    let mut signature = [0u8; 64];
+    let r = read_form(form, &mut payload, &mut signature);
+    if !r.good {
+        return Answer {
+            number: 22,
+            length: 0,
+        };
+    }
+    let n = r.payload;
+    let m = r.signature;
+    put_code(&payload[0..n], &signature[0..m], out)
+}
+
+// The compact form of a code, at the start of the output. Good parts? 24. Output long enough? 23.
+pub fn uncode(code: &[u8], out: &mut [u8]) -> Answer
+    ensures { λ r. ⌜ (r ≡ uncodeAnswer (now (code .entry)) (now (out .entry))) × (now (out .exit) ≡ uncodeBuffer (now (code .entry)) (now (out .entry))) ⌝ }
+{
+    let mut signature = [0u8; 64];
+    let r = read_code(code, &mut signature);
+    if !r.good {
+        return Answer {
+            number: 24,
+            length: 0,
+        };
+    }
+    let n = r.payload;
+    let m = r.signature;
+    let end = put_form(&code[0..n], &signature[0..m], out, 0);
+    if end == 0 {
+        return Answer {
+            number: 23,
+            length: 0,
+        };
+    }
+    Answer {
+        number: 0,
+        length: end,
+    }
+}
+
+// The ID field of a code, as a part of it; an empty part where uncode refuses the code or there is no such field.
+pub fn fields<'a>(code: &'a [u8]) -> &'a [u8]
+    ensures { λ r. ⌜ (now r ≡ idField (now (code .entry))) × (now r ≡ idPart (now (code .entry))) ⌝ }
+{
+    let mut signature = [0u8; 64];
+    let r = read_code(code, &mut signature);
+    if !r.good {
+        return &code[0..0];
+    }
+    let n = r.payload;
+    let payload = &code[0..n];
+    let a = next_at(95, payload, 1) + 1;
+    let e = next_at(95, payload, a);
+    if n <= e {
+        return &code[0..0];
+    }
+    &code[a..e]
+}
