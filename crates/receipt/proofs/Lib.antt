@@ -7,6 +7,7 @@ pub mod CounterFields
 pub mod Counting
 pub mod Dates
 pub mod Digits
+pub mod Entries
 pub mod EntryCalls
 pub mod ExactEntry
 pub mod Finding

@@ -45,3 +45,13 @@ pub use settings::id_good;
 pub use settings::name_at;
 pub use settings::serial_good;
 pub use settings::settings_good;
+
+// What the journal needs of the primitives: bytes and numbers at a place of a buffer, and the widths of a counter.
+pub use primitives::Number;
+pub use primitives::counter_fits;
+pub use primitives::has_room;
+pub use primitives::number_at;
+pub use primitives::put;
+pub use primitives::put_number;
+pub use primitives::same;
+pub use primitives::width_good;

@@ -1,0 +1,113 @@
+-- Take over accepts just the valid journals.
+use Prim.Native.Nat.{ℕ, zero, suc, _<_}
+use mathlib.Core.Path.{_≡_, refl, sym, ap, _∙_, subst, transport}
+use mathlib.Core.Bool.{true}
+use mathlib.Core.List.{List, _∷_, _++_}
+use native.Mathlib.Nat.{zero-add}
+use native.Mathlib.Omega.{arith}
+use lib.IntN.{+ℤ-idl}
+use lib.ListN.{length, drop}
+use Rattle.primitives.specs.Bytes.{AllBytes}
+use Rattle.primitives.specs.Counter.{widthGood}
+use Rattle.receipt.specs.Settings.{nameText, settingsGood}
+use Rattle.receipt.specs.Chain.{chainValue}
+use Rattle.receipt.specs.declared.settings.Settings.{Settings}
+use Rattle.receipt.specs.declared.entry.Entry.{Entry}
+use Rattle.journal.specs.Head.{head, headLength}
+use Rattle.journal.specs.State.{Typed, ask, ifZero, fresh}
+use Rattle.journal.specs.TakeOver.{settingsOf, countOf, headGood, headNumber, refused, accepted, checkFrom, takeOver}
+use Rattle.journal.specs.Receipts.{receiptsIn, sum}
+use Rattle.journal.specs.Valid.{Right, RightBehind, Valid, texts, lastOf, chainOf}
+use Rattle.journal.specs.declared.state.State.{State}
+use Rattle.journal.specs.declared.state.TakenOver.{TakenOver}
+use Rattle.journal.proofs.Asking.{ask-zero}
+use Rattle.journal.proofs.Heads.{length-head, read-settings, read-count, head-good, good-head, read-typed, read-few, read-back}
+use Rattle.journal.proofs.Check.{RightFrom, AllRight, run, complete, Reads, sound-from, all-each, each-all}
+
+-- ---- a journal of right entries is accepted, with the state behind them
+
+module _ (s : Settings) (key : List ℕ) (n : ℕ) where
+  pub head-passes : (k : ℕ) (more : List ℕ) → Typed s → settingsGood s ≡ true → widthGood n ≡ true → k < 4294967296
+      → takeOver (head s k ++ more) key n ≡ checkFrom k (fresh s n key) (head s k ++ more)
+  unfolding takeOver headNumber ask ifZero
+  head-passes k more t g w f =
+      rw (w, head-good s (t .lengths) g k f more, read-settings s (t .lengths) g k f more, read-count s (t .lengths) g k f more)
+
+  fresh-complete : (es : List Entry) → Typed s → settingsGood s ≡ true → AllRight (fresh s n key) es
+      → checkFrom (length es) (fresh s n key) (head s (length es) ++ texts s n es) ≡ accepted (run (fresh s n key) es)
+  unfolding fresh
+  fresh-complete es t g h = complete es (fresh s n key) (head s (length es)) (length-head s (t .lengths) g (length es)) t h
+
+  pub takes : (es : List Entry) → Typed s → settingsGood s ≡ true → widthGood n ≡ true → length es < 4294967296 → AllRight (fresh s n key) es
+      → takeOver (head s (length es) ++ texts s n es) key n ≡ accepted (run (fresh s n key) es)
+  takes es t g w f h = head-passes (length es) (texts s n es) t g w f ∙ fresh-complete es t g h
+
+  -- ---- valid journals
+
+  from-fresh : (before : List Entry) (e : Entry) → RightFrom (fresh s n key) before e ≡ RightBehind s key n before e
+  unfolding fresh
+  from-fresh before e =
+      λ i. Right s key n (lastOf 0 before) (zero-add (length before) i) (+ℤ-idl (sum (receiptsIn before)) i) (chainOf s n (chainValue (nameText (s .id))) before) e
+
+  pub fresh-each : (es : List Entry) → AllRight (fresh s n key) es
+      → (before : List Entry) (e : Entry) (behind : List Entry) → es ≡ before ++ (e ∷ behind) → RightBehind s key n before e
+  fresh-each es h before e behind q = transport (from-fresh before e) (all-each es (fresh s n key) h before e behind q)
+
+  pub each-fresh : (es : List Entry) → ((before : List Entry) (e : Entry) (behind : List Entry) → es ≡ before ++ (e ∷ behind) → RightBehind s key n before e)
+      → AllRight (fresh s n key) es
+  each-fresh es h = each-all es (fresh s n key) (λ before e behind q. transport (sym (from-fresh before e)) (h before e behind q))
+
+-- the entries of a valid journal, all right from the fresh state on
+pub valid-right : {j key : List ℕ} {n : ℕ} (v : Valid j key n) → AllRight (fresh (v .settings) n key) (v .entries)
+valid-right {j} {key} {n} v = each-fresh (v .settings) key n (v .entries) (v .each)
+
+pub valid-taken : {j key : List ℕ} {n : ℕ} (v : Valid j key n) → takeOver j key n ≡ accepted (run (fresh (v .settings) n key) (v .entries))
+valid-taken {j} {key} {n} v =
+    ap (λ (l : List ℕ). takeOver l key n) (v .bytes)
+    ∙ takes (v .settings) key n (v .entries) (v .typed) (v .good) (v .width) (v .few) (valid-right v)
+
+accepted-number : (st : State) → accepted st .number ≡ 0
+unfolding accepted
+accepted-number st = refl
+
+pub valid-accepted : (j key : List ℕ) (n : ℕ) → Valid j key n → takeOver j key n .number ≡ 0
+valid-accepted j key n v = ap (λ (t : TakenOver). t .number) (valid-taken v) ∙ accepted-number (run (fresh (v .settings) n key) (v .entries))
+
+-- ---- and back
+
+fresh-settings : (s : Settings) (n : ℕ) (key : List ℕ) → fresh s n key .settings ≡ s
+unfolding fresh
+fresh-settings s n key = refl
+
+-- the rest behind the head of a fresh state
+fresh-bytes : (s : Settings) (n k : ℕ) (key j : List ℕ) (r : Reads k (fresh s n key) j) → drop (headLength s) j ≡ texts s n (r .entries)
+unfolding fresh
+fresh-bytes s n k key j r = r .bytes
+
+head-number : (m : ℕ) (t : TakenOver) → ifZero m t (refused m 0) .number ≡ 0 → (m ≡ 0) × (t .number ≡ 0)
+unfolding ifZero refused
+head-number zero t z = (refl, z)
+head-number (suc m) t z = absurd (omega arith)
+
+head-answers : (j : List ℕ) (n : ℕ) → headNumber j n ≡ 0 → (widthGood n ≡ true) × (headGood j ≡ true)
+unfolding headNumber
+head-answers j n z = let p = ask-zero _ _ _ z in (p .0, ask-zero _ _ _ (p .1) .0)
+
+pub accepted-valid : (j key : List ℕ) (n : ℕ) → AllBytes j → takeOver j key n .number ≡ 0 → Valid j key n
+unfolding takeOver
+accepted-valid j key n b z =
+    let p = head-number (headNumber j n) _ z in
+    let q = head-answers j n (p .0) in
+    let h = q .1 in
+    let s = settingsOf j in
+    let r = sound-from (countOf j) (fresh s n key) j (subst Typed (sym (fresh-settings s n key)) (read-typed j b h)) b (p .1) in
+    record {
+      width = q .0;
+      settings = s;
+      typed = read-typed j b h;
+      good = good-head j b h .good;
+      entries = r .entries;
+      few = subst (λ (k : ℕ). k < 4294967296) (sym (r .count)) (read-few j b h);
+      bytes = read-back j b h ∙ (λ i. head s (sym (r .count) i) ++ fresh-bytes s n (countOf j) key j r i);
+      each = fresh-each s key n (r .entries) (r .right);
+    }

@@ -1,0 +1,16 @@
+pub mod Asking
+pub mod Heads
+pub mod Places
+pub mod Check
+pub mod Accepting
+pub mod Lists
+pub mod Registers
+pub mod Forth
+pub mod Again
+pub mod Dropping
+pub mod Refusals
+pub mod Preparing
+pub mod Refused
+pub mod FirstNo
+pub mod Steps
+pub mod Touching

@@ -1,0 +1,66 @@
+-- What a refused call leaves.
+use Prim.Native.Nat.{ℕ, zero, suc}
+use mathlib.Core.Path.{_≡_, refl}
+use mathlib.Core.Bool.{Bool, true, false, cond}
+use mathlib.Core.List.{List}
+use lib.Dec.{leb}
+use lib.ListN.{length}
+use Rattle.receipt.specs.declared.settings.Settings.{Settings}
+use Rattle.receipt.specs.declared.details.Details.{Details}
+use Rattle.journal.specs.State.{ifZero, unopened, fresh}
+use Rattle.journal.specs.Open.{openNumber, opened, openBuffer}
+use Rattle.journal.specs.Issue.{issueNumber, issued, issueBuffer}
+use Rattle.journal.specs.Prepare.{prepareNumber, prepareAnswer, prepareBuffer}
+use Rattle.journal.specs.TakeOver.{settingsOf, countOf, headNumber, textAt, stepNumber, after, refused, accepted, checkFrom, takeOver}
+use Rattle.journal.specs.Demands.{RefusedChangesNothing}
+use Rattle.journal.specs.declared.state.State.{State}
+use Rattle.journal.specs.declared.state.TakenOver.{TakenOver}
+use Rattle.journal.proofs.Asking.{ifZero-no}
+
+open-refused : (s : Settings) (key : List ℕ) (n : ℕ) (buf : List ℕ) → (opened s key n (length buf) .number ≡ 0 → ⊥)
+    → (opened s key n (length buf) .state ≡ unopened) × (openBuffer s n buf ≡ buf)
+unfolding opened openBuffer
+open-refused s key n buf h = (ifZero-no (openNumber s n (length buf)) _ _ h, ifZero-no (openNumber s n (length buf)) _ _ h)
+
+issue-refused : (st : State) (d : Details) (sig buf : List ℕ) → (issued st d sig (length buf) .number ≡ 0 → ⊥)
+    → (issued st d sig (length buf) .state ≡ st) × (issueBuffer st d sig buf ≡ buf)
+unfolding issued issueBuffer
+issue-refused st d sig buf h = (ifZero-no (issueNumber st d sig (length buf)) _ _ h, ifZero-no (issueNumber st d sig (length buf)) _ _ h)
+
+prepare-refused : (st : State) (d : Details) (out : List ℕ) → (prepareAnswer st d (length out) .number ≡ 0 → ⊥)
+    → (prepareAnswer st d (length out) .length ≡ 0) × (prepareBuffer st d out ≡ out)
+unfolding prepareAnswer prepareBuffer
+prepare-refused st d out h = (ifZero-no (prepareNumber st d (length out)) _ _ h, ifZero-no (prepareNumber st d (length out)) _ _ h)
+
+-- an answer that is refused has the unopened state
+refused-state : (k i : ℕ) → refused k i .state ≡ unopened
+unfolding refused
+refused-state k i = refl
+
+-- a number picks the refusal, or the answer that is left
+pick : (k i : ℕ) (t : TakenOver) → ((t .number ≡ 0 → ⊥) → t .state ≡ unopened) → (ifZero k t (refused k i) .number ≡ 0 → ⊥) → ifZero k t (refused k i) .state ≡ unopened
+unfolding ifZero
+pick zero i t f h = f h
+pick (suc k) i t f h = refused-state (suc k) i
+
+zero-number : (st : State) → accepted st .number ≡ 0
+unfolding accepted
+zero-number st = refl
+
+check-refused : (m : ℕ) (st : State) (j : List ℕ) → (checkFrom m st j .number ≡ 0 → ⊥) → checkFrom m st j .state ≡ unopened
+unfolding checkFrom
+check-refused zero st j h = go (leb (length j) (st .length)) h
+  where
+    go : (t : Bool) → (cond t (accepted st) (refused 21 (st .issued)) .number ≡ 0 → ⊥) → cond t (accepted st) (refused 21 (st .issued)) .state ≡ unopened
+    go true h = absurd (h (zero-number st))
+    go false h = refused-state 21 (st .issued)
+check-refused (suc m) st j h =
+    pick (stepNumber st j) (st .issued) (checkFrom m (after st (textAt j (st .length))) j) (check-refused m (after st (textAt j (st .length))) j) h
+
+take-refused : (j key : List ℕ) (n : ℕ) → (takeOver j key n .number ≡ 0 → ⊥) → takeOver j key n .state ≡ unopened
+unfolding takeOver
+take-refused j key n h =
+    pick (headNumber j n) 0 (checkFrom (countOf j) (fresh (settingsOf j) n key) j) (check-refused (countOf j) (fresh (settingsOf j) n key) j) h
+
+pub refused-changes-nothing : RefusedChangesNothing
+refused-changes-nothing = record { opens = open-refused; issues = issue-refused; prepares = prepare-refused; takes = take-refused }

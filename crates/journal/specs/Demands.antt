@@ -1,0 +1,129 @@
+-- What is owed of journals and calls, as statements; the proofs are in proofs/.
+use Prim.Native.Nat.{ℕ, _+_, _≤_, _<_}
+use mathlib.Core.Path.{_≡_}
+use mathlib.Core.List.{List, _∷_, _++_}
+use lib.ListN.{length, take, replicate, getD}
+use Rattle.primitives.specs.Bytes.{AllBytes}
+use Rattle.primitives.specs.Place.{overwrite}
+use Rattle.primitives.specs.Number.{bytesOf}
+use Rattle.receipt.specs.Chain.{hashInput}
+use Rattle.receipt.specs.Form.{secondDot}
+use Rattle.receipt.specs.declared.settings.Settings.{Settings}
+use Rattle.receipt.specs.declared.details.Details.{Details}
+use Rattle.receipt.specs.declared.entry.Entry.{Entry}
+use Rattle.journal.specs.Head.{headLength, countPlace, entryText}
+use Rattle.journal.specs.State.{Typed, unopened}
+use Rattle.journal.specs.Open.{openNumber, opened, openBuffer}
+use Rattle.journal.specs.Issue.{textOf, issueNumber, issued, issueBuffer}
+use Rattle.journal.specs.Prepare.{preparedText, prepareNumber, prepareAnswer, prepareBuffer}
+use Rattle.journal.specs.TakeOver.{settingsOf, refused, accepted, takeOver}
+use Rattle.journal.specs.Receipts.{receiptsIn, sum}
+use Rattle.journal.specs.Valid.{Valid, texts}
+use Rattle.journal.specs.FirstNo.{NoAt}
+use Rattle.journal.specs.Calls.{Call, TypedCalls, Register, journalOf, opening, calls, numbersOf, receiptsOf, callsOf}
+use Rattle.journal.specs.declared.state.State.{State}
+
+-- "Accepted means that Take over returns no number, which is so exactly for a valid journal"
+abbrev pub AcceptedIsValid : Type 0
+AcceptedIsValid =
+    (j key : List ℕ) (n : ℕ) → AllBytes j → (takeOver j key n .number ≡ 0 → Valid j key n) × (Valid j key n → takeOver j key n .number ≡ 0)
+
+-- a journal is valid with one list of entries
+abbrev pub OneReading : Type 0
+OneReading = (j key : List ℕ) (n : ℕ) (v w : Valid j key n) → v .entries ≡ w .entries
+
+-- ---- demand 3: lists of calls
+
+-- what holds after the calls cs from the register g on
+pub record Written (key : List ℕ) (n : ℕ) (g : Register) (cs : List Call) : Type 0 where
+  -- the journal is accepted, with the register's own state
+  pub taken : takeOver (journalOf (calls g cs)) key n ≡ accepted (calls g cs .state)
+  -- its receipts are those of the calls that were not refused, in order
+  pub valid : Valid (journalOf (calls g cs)) key n
+  pub receipts : (v : Valid (journalOf (calls g cs)) key n) → receiptsIn (v .entries) ≡ receiptsOf g cs
+  -- the counter is the sum of their amounts
+  pub counter : calls g cs .state .counter ≡ sum (receiptsOf g cs)
+
+-- from an Open that was not refused, after every list of calls
+abbrev pub Forth : Type 0
+Forth =
+    (s : Settings) (key : List ℕ) (n : ℕ) (buf : List ℕ) → Typed s → AllBytes key → openNumber s n (length buf) ≡ 0
+    → (cs : List Call) → TypedCalls cs → Written key n (opening s key n buf) cs
+
+-- what holds where the entries es of the journal j are issued anew
+pub record Again (j key : List ℕ) (n : ℕ) (es : List Entry) (buf : List ℕ) : Type 0 where
+  -- "Open with the CSP, ID and serial of its head, the key and N under which it was accepted": not refused
+  pub opened : openNumber (settingsOf j) n (length buf) ≡ 0
+  -- one call for each entry, such as the code's types allow: none is refused
+  pub typed : TypedCalls (callsOf es)
+  pub none : numbersOf (opening (settingsOf j) key n buf) (callsOf es) ≡ replicate (length es) 0
+  -- the buffer is the journal, byte by byte
+  pub journal : calls (opening (settingsOf j) key n buf) (callsOf es) .buf ≡ j
+  -- under the state that taking over gave
+  pub state : calls (opening (settingsOf j) key n buf) (callsOf es) .state ≡ takeOver j key n .state
+  pub counter : takeOver j key n .state .counter ≡ sum (receiptsIn es)
+
+-- for every accepted journal, "and any buffer of its length"
+abbrev pub Back : Type 0
+Back =
+    (j key : List ℕ) (n : ℕ) → AllBytes key → (v : Valid j key n) (buf : List ℕ) → length buf ≡ length j → Again j key n (v .entries) buf
+
+-- ---- journals
+
+-- a journal that is valid with these entries
+pub record ValidWith (j key : List ℕ) (n : ℕ) (es : List Entry) : Type 0 where
+  pub valid : Valid j key n
+  pub entries : valid .entries ≡ es
+
+-- "Dropping last entries and lowering the count leaves a valid journal."
+abbrev pub Dropping : Type 0
+Dropping =
+    (j key : List ℕ) (n : ℕ) (v : Valid j key n) (kept dropped : List Entry) → v .entries ≡ kept ++ dropped
+    → ValidWith (overwrite (take (headLength (v .settings) + length (texts (v .settings) n kept)) j) (countPlace (v .settings)) (bytesOf 4 (length kept))) key n kept
+
+-- "Within one journal rising numbers make every hash input for an IV different."
+abbrev pub InputsDiffer : Type 0
+InputsDiffer =
+    (j key : List ℕ) (n : ℕ) (v : Valid j key n) (a b c : List Entry) (e f : Entry) → v .entries ≡ a ++ (e ∷ (b ++ (f ∷ c)))
+    → hashInput (v .settings .id) (e .fields .details .number) ≡ hashInput (v .settings .id) (f .fields .details .number) → ⊥
+
+-- ---- Issue
+
+-- "appends an entry, rewrites the receipts count, and touches no other byte"
+abbrev pub TouchesNoOther : Type 0
+TouchesNoOther =
+    (st : State) (d : Details) (sig buf : List ℕ) (i : ℕ) → (countPlace (st .settings) ≤ i → i < countPlace (st .settings) + 4 → ⊥)
+    → (st .length ≤ i → i < st .length + length (entryText (textOf st d sig)) → ⊥) → getD (issueBuffer st d sig buf) i 0 ≡ getD buf i 0
+
+-- ---- refused calls
+
+-- a call that is refused leaves buffer and state; Open and Take over return the unopened state
+pub record RefusedChangesNothing : Type 0 where
+  pub opens : (s : Settings) (key : List ℕ) (n : ℕ) (buf : List ℕ) → (opened s key n (length buf) .number ≡ 0 → ⊥)
+      → (opened s key n (length buf) .state ≡ unopened) × (openBuffer s n buf ≡ buf)
+  pub issues : (st : State) (d : Details) (sig buf : List ℕ) → (issued st d sig (length buf) .number ≡ 0 → ⊥)
+      → (issued st d sig (length buf) .state ≡ st) × (issueBuffer st d sig buf ≡ buf)
+  pub prepares : (st : State) (d : Details) (out : List ℕ) → (prepareAnswer st d (length out) .number ≡ 0 → ⊥)
+      → (prepareAnswer st d (length out) .length ≡ 0) × (prepareBuffer st d out ≡ out)
+  pub takes : (j key : List ℕ) (n : ℕ) → (takeOver j key n .number ≡ 0 → ⊥) → takeOver j key n .state ≡ unopened
+
+-- ---- Prepare
+
+-- the text of Prepare is what stands before the second "." of the form that Issue appends, whatever the signature
+abbrev pub PreparedIsIssued : Type 0
+PreparedIsIssued = (st : State) (d : Details) (sig : List ℕ) → take (secondDot (textOf st d sig)) (textOf st d sig) ≡ preparedText st d
+
+-- where Issue is not refused, neither is Prepare with room for its text
+abbrev pub PreparedBefore : Type 0
+PreparedBefore =
+    (st : State) (d : Details) (sig : List ℕ) (room space : ℕ) → issueNumber st d sig room ≡ 0 → length (preparedText st d) ≤ space
+    → prepareNumber st d space ≡ 0
+
+-- ---- Take over
+
+-- a refusal has the number and the index of the first question with the answer no; and where there is such a question, its number and index are the answer
+abbrev pub FirstNo : Type 0
+FirstNo =
+    (j key : List ℕ) (n : ℕ) → AllBytes j
+    → ((takeOver j key n .number ≡ 0 → ⊥) → NoAt j key n (takeOver j key n .number) (takeOver j key n .index))
+    × ((number index : ℕ) → NoAt j key n number index → takeOver j key n ≡ refused number index)

@@ -1,0 +1,11 @@
+pub mod Head
+pub mod State
+pub mod Open
+pub mod Issue
+pub mod Prepare
+pub mod TakeOver
+pub mod Receipts
+pub mod Valid
+pub mod Calls
+pub mod FirstNo
+pub mod Demands
