@@ -1,227 +1,276 @@
--- The steps of the calls, over plain values: what an answer is, behind each test.
+-- The turns of taking over: one entry, all entries, and what comes before them.
 use Prim.Native.Nat.{ℕ, suc, _+_, _-_, _≤_, _<_}
-use mathlib.Core.Path.{_≡_, refl, sym, ap, _∙_}
-use mathlib.Core.Bool.{true, false, and-false}
-use mathlib.Core.List.{List, _++_}
+use mathlib.Core.Path.{_≡_, refl, sym, ap, _∙_, subst}
+use mathlib.Core.Bool.{Bool, true, false, not}
+use mathlib.Core.List.{List}
+use native.Mathlib.Nat.{sub-zero}
 use native.Mathlib.Omega.{arith}
-use borrow.Author.Tests.{le-leb, lt-leb, eq-eqb, ne-eqb}
-use lib.ListN.{length, take, drop, length-append}
-use Rattle.primitives.specs.Place.{overwrite}
-use Rattle.primitives.specs.Number.{bytesOf, numberAt}
-use Rattle.primitives.specs.declared.buffer.Number.the-variants.{Is}
-use Rattle.primitives.proofs.Over.{then}
-use Rattle.primitives.proofs.Numbers.{length-bytesOf, number-there}
-use Rattle.receipt.specs.Settings.{nameText, settingsGood, TypedSettings}
-use Rattle.receipt.proofs.Names.{good-settings, length-text}
-use Rattle.receipt.specs.declared.settings.Settings.{Settings}
+use borrow.Author.Tests.{leb-true, le-leb, lt-leb, eqb-true, eq-eqb, ne-eqb}
+use lib.Dec.{leb, eqb}
+use lib.IntN.{ℤ, pos}
+use mir.Syntax.{w64}
+use mir.Val.{SFits, toZ, ofZ}
+use mir.Facts.{toZ-ofZ}
+use lib.ListN.{length, take, drop, length-take}
+use Rattle.primitives.specs.Counter.{widthGood}
+use Rattle.primitives.specs.Aes.{keySchedule}
+use Rattle.receipt.specs.Settings.{nameText}
+use Rattle.receipt.specs.Details.{standard, startGood, counterAfter}
+use Rattle.receipt.specs.Chain.{chainValue, decryptedCounter}
+use Rattle.receipt.specs.Compact.{readEntry}
 use Rattle.receipt.specs.declared.details.Details.{Details}
-use Rattle.receipt.specs.declared.machine_code.Answer.{Answer}
-use Rattle.journal.specs.Head.{head, headLength, countPlace, entryText}
-use Rattle.journal.specs.State.{ask, ifZero, unopened, fresh}
-use Rattle.journal.specs.Open.{openNumber, opened, openBuffer}
-use Rattle.journal.specs.Issue.{textOf, issueNumber, next, issued, written, issueBuffer}
-use Rattle.journal.specs.Prepare.{preparedText, prepareNumber, prepareAnswer, prepareBuffer}
-use Rattle.journal.specs.TakeOver.{countAt, idLength, serialLength, settingsOf, countOf, headGood, headNumber, lengthAt, there, textAt, entryNumber, after, stepNumber, refused, accepted, checkFrom, takeOver}
+use Rattle.receipt.specs.declared.details.After.{After}
+use Rattle.receipt.specs.declared.payload.Fields.{Fields}
+use Rattle.receipt.specs.declared.entry.Found.{Found}
+use Rattle.receipt.specs.declared.settings.Settings.{Settings}
+use Rattle.primitives.proofs.Zlaws.{same-bits}
+use Rattle.receipt.proofs.Lists.{both, true-is-not-false, and-no, and-yes, not-yes}
+use Rattle.journal.specs.Head.{entryText, headLength}
+use Rattle.journal.specs.State.{ask, ifZero, fresh}
+use Rattle.journal.specs.Issue.{firstGood, newCounter, next}
+use Rattle.journal.specs.TakeOver.{countAt, countOf, settingsOf, headGood, headNumber, lengthAt, there, textAt, found, equal, counterRight, fieldsNumber, entryNumber, after, stepNumber, refused, accepted, checkFrom, takeOver}
 use Rattle.journal.specs.declared.state.State.{State}
-use Rattle.journal.specs.declared.state.Opened.{Opened}
-use Rattle.journal.specs.declared.state.Issued.{Issued}
-use Rattle.journal.proofs.Asking.{ifZero-no, ifZero-yes}
+use Rattle.journal.specs.declared.state.TakenOver.{TakenOver}
+use Rattle.journal.proofs.Asking.{ask-zero, ask-yes, ask-no, ifZero-yes, ifZero-no, equal-true, equal-refl}
 use Rattle.journal.proofs.Places.{length-entry}
-use Rattle.journal.proofs.Lists.{issue-zero}
+use Rattle.journal.proofs.Check.{above-true}
 
--- ---- Open
+-- ---- the bytes of an entry
 
-module _ (s : Settings) (key : List ℕ) (n : ℕ) (buf : List ℕ) {m : ℕ} (e : m ≡ openNumber s n (length buf)) where
-  pub open-refused : {st : State} → (m ≡ 0 → ⊥) → st ≡ unopened
-      → (_≡_ {A = Opened} (record { number = m; state = st }) (opened s key n (length buf))) × (buf ≡ openBuffer s n buf)
-  unfolding opened openBuffer
-  open-refused {st} h u =
-      let z : openNumber s n (length buf) ≡ 0 → ⊥ = λ q. h (e ∙ q) in
-      let v : st ≡ ifZero (openNumber s n (length buf)) (fresh s n key) unopened = u ∙ sym (ifZero-no (openNumber s n (length buf)) (fresh s n key) unopened z) in
-      ((λ i. record { number = e i; state = v i }), sym (ifZero-no (openNumber s n (length buf)) (overwrite buf 0 (head s 0)) buf z))
-
-  pub open-done : {st : State} {buf′ : List ℕ} → m ≡ 0 → st ≡ fresh s n key → buf′ ≡ overwrite buf 0 (head s 0)
-      → (_≡_ {A = Opened} (record { number = 0; state = st }) (opened s key n (length buf))) × (buf′ ≡ openBuffer s n buf)
-  unfolding opened openBuffer
-  open-done {st} z u w =
-      let q : openNumber s n (length buf) ≡ 0 = sym e ∙ z in
-      let v : st ≡ ifZero (openNumber s n (length buf)) (fresh s n key) unopened = u ∙ sym (ifZero-yes (fresh s n key) unopened q) in
-      ((λ i. record { number = sym q i; state = v i }), w ∙ sym (ifZero-yes (overwrite buf 0 (head s 0)) buf q))
-
--- the head, piece by piece
-pub head-written : (s : Settings) (k : ℕ) → TypedSettings s → settingsGood s ≡ true → (b : List ℕ) {b₁ b₂ b₃ b₄ b₅ b₆ b₇ : List ℕ} → headLength s ≤ length b
-    → b₁ ≡ overwrite b 0 (bytesOf 4 3) → b₂ ≡ overwrite b₁ 4 (s .csp) → b₃ ≡ overwrite b₂ 7 (bytesOf 4 (s .id .len)) → b₄ ≡ overwrite b₃ 11 (nameText (s .id))
-    → b₅ ≡ overwrite b₄ (11 + s .id .len) (bytesOf 4 (s .serial .len)) → b₆ ≡ overwrite b₅ (15 + s .id .len) (nameText (s .serial))
-    → b₇ ≡ overwrite b₆ (15 + s .id .len + s .serial .len) (bytesOf 4 k) → b₇ ≡ overwrite b 0 (head s k)
-unfolding head headLength
-head-written s k t g b room e₁ e₂ e₃ e₄ e₅ e₆ e₇ =
-    let n = good-settings s g in
-    let l₁ = length-bytesOf 4 3 in
-    let l₂ = t .csp in
-    let l₃ = length-bytesOf 4 (s .id .len) in
-    let l₄ = length-text (s .id) (t .id) (n .id .most) in
-    let l₅ = length-bytesOf 4 (s .serial .len) in
-    let l₆ = length-text (s .serial) (t .serial) (n .serial .most) in
-    let x₁ = bytesOf 4 3 in
-    let x₂ = x₁ ++ s .csp in
-    let x₃ = x₂ ++ bytesOf 4 (s .id .len) in
-    let x₄ = x₃ ++ nameText (s .id) in
-    let x₅ = x₄ ++ bytesOf 4 (s .serial .len) in
-    let x₆ = x₅ ++ nameText (s .serial) in
-    let a₂ = length-append x₁ (s .csp) in
-    let a₃ = length-append x₂ (bytesOf 4 (s .id .len)) in
-    let a₄ = length-append x₃ (nameText (s .id)) in
-    let a₅ = length-append x₄ (bytesOf 4 (s .serial .len)) in
-    let a₆ = length-append x₅ (nameText (s .serial)) in
-    let f₂ = then b x₁ (s .csp) 0 4 e₁ e₂ (omega arith) (omega arith) in
-    let f₃ = then b x₂ (bytesOf 4 (s .id .len)) 0 7 f₂ e₃ (omega arith) (omega arith) in
-    let f₄ = then b x₃ (nameText (s .id)) 0 11 f₃ e₄ (omega arith) (omega arith) in
-    let f₅ = then b x₄ (bytesOf 4 (s .serial .len)) 0 (11 + s .id .len) f₄ e₅ (omega arith) (omega arith) in
-    let f₆ = then b x₅ (nameText (s .serial)) 0 (15 + s .id .len) f₅ e₆ (omega arith) (omega arith) in
-    then b x₆ (bytesOf 4 k) 0 (15 + s .id .len + s .serial .len) f₆ e₇ (omega arith) (omega arith)
-
--- ---- Issue
-
--- the count fits four bytes
-pub issued-small : (st : State) (d : Details) (sig : List ℕ) (room : ℕ) → d .number < 4294967296 → issueNumber st d sig room ≡ 0 → st .issued + 1 < 4294967296
-issued-small st d sig room h z =
-    let a = issue-zero st d sig room z in
-    omega (arith, a .sound .issued, a .details .above)
-
--- the entry and the count, piece by piece
-pub entry-written : (st : State) (text b : List ℕ) {b₁ b₂ b₃ : List ℕ} → st .length + length (entryText text) ≤ length b
-    → b₁ ≡ overwrite b (st .length) (bytesOf 2 (length text)) → b₂ ≡ overwrite b₁ (st .length + 2) text
-    → b₃ ≡ overwrite b₂ (countPlace (st .settings)) (bytesOf 4 (st .issued + 1)) → b₃ ≡ written st text b
-unfolding written entryText
-entry-written st text b room e₁ e₂ e₃ =
-    let l = length-bytesOf 2 (length text) in
-    let a = length-append (bytesOf 2 (length text)) text in
-    let f = then b (bytesOf 2 (length text)) text (st .length) (st .length + 2) e₁ e₂ (omega arith) (omega arith) in
-    e₃ ∙ ap (λ (x : List ℕ). overwrite x (countPlace (st .settings)) (bytesOf 4 (st .issued + 1))) f
-
-module _ (st : State) (d : Details) (sig buf : List ℕ) {m : ℕ} (e : m ≡ issueNumber st d sig (length buf)) where
-  pub issue-refused : (m ≡ 0 → ⊥) → (_≡_ {A = Issued} (record { number = m; state = st }) (issued st d sig (length buf))) × (buf ≡ issueBuffer st d sig buf)
-  unfolding issued issueBuffer
-  issue-refused h =
-      let k = issueNumber st d sig (length buf) in
-      let z : issueNumber st d sig (length buf) ≡ 0 → ⊥ = λ q. h (e ∙ q) in
-      let v : st ≡ ifZero (issueNumber st d sig (length buf)) (next st d (textOf st d sig)) st = sym (ifZero-no (issueNumber st d sig (length buf)) (next st d (textOf st d sig)) st z) in
-      ((λ i. record { number = e i; state = v i }), sym (ifZero-no (issueNumber st d sig (length buf)) (written st (textOf st d sig) buf) buf z))
-
-  pub issue-done : {text buf′ : List ℕ} {st′ : State} → m ≡ 0 → text ≡ textOf st d sig → st′ ≡ next st d text → buf′ ≡ written st text buf
-      → (_≡_ {A = Issued} (record { number = 0; state = st′ }) (issued st d sig (length buf))) × (buf′ ≡ issueBuffer st d sig buf)
-  unfolding issued issueBuffer
-  issue-done {text} {buf′} {st′} z t u w =
-      let q : issueNumber st d sig (length buf) ≡ 0 = sym e ∙ z in
-      let v : st′ ≡ ifZero (issueNumber st d sig (length buf)) (next st d (textOf st d sig)) st = u ∙ (ap (next st d) t ∙ sym (ifZero-yes (next st d (textOf st d sig)) st q)) in
-      ((λ i. record { number = sym q i; state = v i }), w ∙ (ap (λ (x : List ℕ). written st x buf) t ∙ sym (ifZero-yes (written st (textOf st d sig) buf) buf q)))
-
--- ---- Prepare
-
-module _ (st : State) (d : Details) (out : List ℕ) {m : ℕ} (e : m ≡ prepareNumber st d (length out)) where
-  pub prepare-refused : (m ≡ 0 → ⊥) → (_≡_ {A = Answer} (record { number = m; length = 0 }) (prepareAnswer st d (length out))) × (out ≡ prepareBuffer st d out)
-  unfolding prepareAnswer prepareBuffer
-  prepare-refused h =
-      let z : prepareNumber st d (length out) ≡ 0 → ⊥ = λ q. h (e ∙ q) in
-      let v : 0 ≡ ifZero (prepareNumber st d (length out)) (length (preparedText st d)) 0 = sym (ifZero-no (prepareNumber st d (length out)) (length (preparedText st d)) 0 z) in
-      ((λ i. record { number = e i; length = v i }), sym (ifZero-no (prepareNumber st d (length out)) (overwrite out 0 (preparedText st d)) out z))
-
-  pub prepare-done : {l : ℕ} {out′ : List ℕ} → m ≡ 0 → l ≡ length (preparedText st d) → out′ ≡ overwrite out 0 (preparedText st d)
-      → (_≡_ {A = Answer} (record { number = 0; length = l }) (prepareAnswer st d (length out))) × (out′ ≡ prepareBuffer st d out)
-  unfolding prepareAnswer prepareBuffer
-  prepare-done {l} z u w =
-      let q : prepareNumber st d (length out) ≡ 0 = sym e ∙ z in
-      let v : l ≡ ifZero (prepareNumber st d (length out)) (length (preparedText st d)) 0 = u ∙ sym (ifZero-yes (length (preparedText st d)) 0 q) in
-      ((λ i. record { number = sym q i; length = v i }), w ∙ sym (ifZero-yes (overwrite out 0 (preparedText st d)) out q))
-
--- ---- Take over
-
--- a count where all its bytes are there
-pub count-is : (j : List ℕ) (at n : ℕ) → n ≤ 8 → at + n ≤ length j → numberAt j at n ≡ Is (countAt j at n)
-unfolding countAt
-count-is j at n h r = number-there j at n h r
-
-module _ (j key : List ℕ) (n : ℕ) {m : ℕ} (e : m ≡ headNumber j n) where
-  pub head-refused : (m ≡ 0 → ⊥) → refused m 0 ≡ takeOver j key n
-  unfolding takeOver
-  head-refused h =
-      let z : headNumber j n ≡ 0 → ⊥ = λ q. h (e ∙ q) in
-      ap (λ (k : ℕ). refused k 0) e ∙ sym (ifZero-no (headNumber j n) (checkFrom (countOf j) (fresh (settingsOf j) n key) j) (refused (headNumber j n) 0) z)
-
-  pub head-done : m ≡ 0 → checkFrom (countOf j) (fresh (settingsOf j) n key) j ≡ takeOver j key n
-  unfolding takeOver
-  head-done z = sym (ifZero-yes (checkFrom (countOf j) (fresh (settingsOf j) n key) j) (refused (headNumber j n) 0) (sym e ∙ z))
-
--- the tests of question 14
-module _ (j : List ℕ) where
-  pub head-three : (countAt j 0 4 ≡ 3 → ⊥) → headGood j ≡ false
-  unfolding headGood
-  head-three h = rw (ne-eqb (countAt j 0 4) 3 h)
-
-  pub head-short : length j < 19 + idLength j + serialLength j → headGood j ≡ false
-  unfolding headGood
-  head-short h = rw (lt-leb (19 + idLength j + serialLength j) (length j) h, and-false)
-
-  pub head-settings : countAt j 0 4 ≡ 3 → 19 + idLength j + serialLength j ≤ length j → settingsGood (settingsOf j) ≡ headGood j
-  unfolding headGood
-  head-settings e h = rw (eq-eqb (countAt j 0 4) 3 e, le-leb (19 + idLength j + serialLength j) (length j) h)
-
--- the tests of question 15
 module _ (j : List ℕ) (at : ℕ) where
-  pub there-length : length j < at + 2 → there j at ≡ false
+  pub there-is : {t : Bool} {n : ℕ} → leb (at + 2) (length j) ≡ true → n ≡ countAt j at 2 → t ≡ leb (at + 2 + n) (length j) → t ≡ there j at
+  unfolding there lengthAt
+  there-is a e q = and-yes _ _ _ a (q ∙ ap (λ (k : ℕ). leb (at + 2 + k) (length j)) e)
+
+  pub room-yes : {t : Bool} → t ≡ leb (at + 2) (length j) → not t ≡ false → at + 2 ≤ length j
+  room-yes e h = leb-true (at + 2) (length j) (not-yes _ _ e h)
+
+  pub record Room (n : ℕ) : Type 0 where
+    pub count : at + 2 ≤ length j
+    pub all : at + 2 + n ≤ length j
+    pub is : take (at + 2 + n - (at + 2)) (drop (at + 2) j) ≡ textAt j at
+    pub upto : at + 2 + length (take (at + 2 + n - (at + 2)) (drop (at + 2) j)) ≤ length j
+
+  pub there-count : there j at ≡ true → at + 2 ≤ length j
   unfolding there
-  there-length h = rw (lt-leb (at + 2) (length j) h)
+  there-count h = leb-true _ _ (both _ _ h .0)
 
-  pub there-bytes : at + 2 ≤ length j → length j < at + 2 + lengthAt j at → there j at ≡ false
-  unfolding there
-  there-bytes h l = rw (le-leb (at + 2) (length j) h, lt-leb (at + 2 + lengthAt j at) (length j) l)
+  pub there-room : {n : ℕ} → there j at ≡ true → n ≡ countAt j at 2 → Room n
+  unfolding there textAt lengthAt
+  there-room {n} h e =
+      let p = both (leb (at + 2) (length j)) (leb (at + 2 + countAt j at 2) (length j)) h in
+      let a = leb-true (at + 2 + countAt j at 2) (length j) (p .1) in
+      let k : at + 2 + n - (at + 2) ≡ countAt j at 2 = omega (arith, e) in
+      record {
+        count = leb-true (at + 2) (length j) (p .0);
+        all = omega (arith, e, a);
+        is = ap (λ (m : ℕ). take m (drop (at + 2) j)) k;
+        upto = omega (arith, e, a, length-take (at + 2 + n - (at + 2)) (drop (at + 2) j));
+      }
 
-  pub there-all : at + 2 + lengthAt j at ≤ length j → there j at ≡ true
-  unfolding there
-  there-all h = rw (le-leb (at + 2) (length j) (omega arith), le-leb (at + 2 + lengthAt j at) (length j) h)
+-- ---- the questions of an entry
 
-  -- the part that is lent to the reader
-  pub part-is : {m : ℕ} → m ≡ lengthAt j at → take (at + 2 + m - (at + 2)) (drop (at + 2) j) ≡ textAt j at
-  unfolding textAt
-  part-is {m} e = let q : at + 2 + m - (at + 2) ≡ lengthAt j at = omega arith in ap (λ (k : ℕ). take k (drop (at + 2) j)) q
+pub first-later : (st : State) (d : Details) → (st .issued ≡ 0 → ⊥) → true ≡ firstGood st d
+unfolding firstGood
+first-later st d h = sym (rw (ne-eqb (st .issued) 0 h))
 
--- entry by entry: i of them are done
-module _ (j : List ℕ) (count i : ℕ) (st : State) where
-  module _ (turn : i < count) where
-    left : count - i ≡ suc (count - (i + 1))
-    left = omega arith
+pub first-now : (st : State) (d : Details) → st .issued ≡ 0 → startGood d ≡ firstGood st d
+unfolding firstGood
+first-now st d h = sym (rw (eq-eqb (st .issued) 0 h))
 
-    pub turn-missing : there j (st .length) ≡ false → checkFrom (count - i) st j ≡ refused 15 (st .issued)
-    unfolding checkFrom stepNumber ask ifZero
-    turn-missing t = rw (left, t)
+pub equal-no : (a b : ℤ) → (a ≡ b → ⊥) → equal a b ≡ false
+equal-no a b h = go (equal a b) refl
+  where
+    go : (t : Bool) → equal a b ≡ t → t ≡ false
+    go true e = absurd (h (equal-true a b e))
+    go false e = refl
 
-    pub turn-refused : {q : ℕ} → there j (st .length) ≡ true → q ≡ entryNumber st (textAt j (st .length)) → (q ≡ 0 → ⊥) → checkFrom (count - i) st j ≡ refused q (st .issued)
-    unfolding checkFrom stepNumber ask
-    turn-refused {q} t e h = rw (left, t, ← e) (ifZero-no q _ _ h)
+pub equal-yes : (a b : ℤ) → a ≡ b → equal a b ≡ true
+equal-yes a b e = ap (equal a) (sym e) ∙ equal-refl a
 
-    pub turn-done : {st′ : State} → there j (st .length) ≡ true → entryNumber st (textAt j (st .length)) ≡ 0 → st′ ≡ after st (textAt j (st .length))
-        → checkFrom (count - i) st j ≡ checkFrom (count - (i + 1)) st′ j
-    unfolding checkFrom stepNumber ask ifZero
-    turn-done t z e = rw (left, t, z, e)
+-- a test of the bits of two numbers
+pub bits-equal : {x y z : ℤ} → SFits w64 x → SFits w64 y → x ≡ z → eqb (ofZ w64 x) (ofZ w64 y) ≡ equal z y
+bits-equal {x} {y} {z} f g e = go (eqb (ofZ w64 x) (ofZ w64 y)) refl
+  where
+    go : (t : Bool) → eqb (ofZ w64 x) (ofZ w64 y) ≡ t → t ≡ equal z y
+    go true q = sym (equal-yes z y (sym e ∙ same-bits x y f g (eqb-true (ofZ w64 x) (ofZ w64 y) q)))
+    go false q = sym (equal-no z y (λ r. true-is-not-false (sym q ∙ eq-eqb (ofZ w64 x) (ofZ w64 y) (ap (ofZ w64) (e ∙ r)))))
 
-  module _ (over : count ≤ i) where
-    none-left : count - i ≡ 0
-    none-left = omega arith
+-- the machine's number is the state's
+pub after-back : (st : State) (d : Details) {a : After} → SFits w64 (st .counter) → a ≡ counterAfter (st .width) (toZ w64 (ofZ w64 (st .counter))) d
+    → a ≡ counterAfter (st .width) (st .counter) d
+after-back st d f e = e ∙ ap (λ (z : ℤ). counterAfter (st .width) z d) (toZ-ofZ f)
 
-    pub end-left : st .length < length j → checkFrom (count - i) st j ≡ refused 21 (st .issued)
-    unfolding checkFrom
-    end-left h = rw (none-left, lt-leb (length j) (st .length) h)
+module _ (st : State) (f : Fields) {a : After} (e : a ≡ counterAfter (st .width) (st .counter) (f .details)) where
+  new-is : a ≡ newCounter st (f .details)
+  unfolding newCounter
+  new-is = e
 
-    pub end-done : length j ≤ st .length → checkFrom (count - i) st j ≡ accepted st
-    unfolding checkFrom
-    end-done h = rw (none-left, le-leb (length j) (st .length) h)
+  pub counter-no : a .fits ≡ false → false ≡ counterRight st f
+  unfolding counterRight
+  counter-no h = and-no _ _ (ap (λ (x : After). x .fits) (sym new-is) ∙ h)
 
--- the state behind an entry: its place and its index
-module _ (st : State) (text : List ℕ) where
-  pub after-length : after st text .length ≡ st .length + 2 + length text
+  module _ (h : a .fits ≡ true) where
+    fits : newCounter st (f .details) .fits ≡ true
+    fits = ap (λ (x : After). x .fits) (sym new-is) ∙ h
+
+    pub counter-other : standard (f .details .kind) ≡ false → true ≡ counterRight st f
+    unfolding counterRight
+    counter-other k = and-yes _ _ _ fits (sym (rw k))
+
+    pub counter-standard : {t : Bool} {schedule : List (List ℕ)} → standard (f .details .kind) ≡ true → schedule ≡ keySchedule (st .key)
+        → SFits w64 (a .counter)
+        → t ≡ equal (decryptedCounter schedule (st .settings .id) (f .details .number) (st .width) (f .counter)) (toZ w64 (ofZ w64 (a .counter)))
+        → t ≡ counterRight st f
+    unfolding counterRight
+    counter-standard k s g q =
+        and-yes _ _ _ fits
+        (q ∙ ap (equal _) (toZ-ofZ g) ∙ (λ i. equal (decryptedCounter (s i) (st .settings .id) (f .details .number) (st .width) (f .counter)) (new-is i .counter)) ∙ sym (rw k))
+
+pub above-of : (st : State) (f : Fields) → fieldsNumber st f ≡ 0 → st .last < f .details .number
+unfolding fieldsNumber
+above-of st f z = above-true st (f .details) (ask-zero _ _ _ z .0)
+
+-- ---- one entry
+
+-- a step that was refused, and one that was not
+pub stays : (x st : State) {k n : ℕ} → k ≡ n → (k ≡ 0 → ⊥) → (k ≡ n) × (st ≡ ifZero n x st)
+stays x st {k} {n} e h = (e, sym (ifZero-no n x st (λ q. h (e ∙ q))))
+
+pub moves : (x st : State) {y : State} {n : ℕ} → 0 ≡ n → y ≡ x → (0 ≡ n) × (y ≡ ifZero n x st)
+moves x st e q = (e, q ∙ sym (ifZero-yes x st (sym e)))
+
+module _ (st : State) (text : List ℕ) {r : Found} (e : r ≡ readEntry (st .settings) (st .width) text) where
+  found-ok : {t : Bool} → r .ok ≡ t → found st text .ok ≡ t
+  unfolding found
+  found-ok h = ap (λ (x : Found). x .ok) (sym e) ∙ h
+
+  pub entry-no : r .ok ≡ false → 16 ≡ entryNumber st text
+  unfolding entryNumber
+  entry-no h = sym (ask-no 16 _ (found-ok h))
+
+  pub entry-is : {n : ℕ} → r .ok ≡ true → n ≡ fieldsNumber st (r .entry .fields) → n ≡ entryNumber st text
+  unfolding entryNumber found
+  entry-is h q = q ∙ ap (λ (x : Found). fieldsNumber st (x .entry .fields)) e ∙ sym (ask-yes 16 _ (found-ok h))
+
+  pub after-is : {x : State} → x ≡ next st (r .entry .fields .details) text → x ≡ after st text
+  unfolding after found
+  after-is q = q ∙ ap (λ (x : Found). next st (x .entry .fields .details) text) e
+
+pub next-is : (st : State) (d : Details) (text : List ℕ) {a : After} {chain : List ℕ} → SFits w64 (a .counter)
+    → a ≡ counterAfter (st .width) (st .counter) d → chain ≡ chainValue text
+    → _≡_ {A = State} (record { settings = st .settings; width = st .width; key = st .key; counter = toZ w64 (ofZ w64 (a .counter)); last = d .number; issued = st .issued + 1; chain = chain; length = st .length + 2 + length text })
+    (next st d text)
+unfolding next newCounter
+next-is st d text {a} {chain} f e q =
+    let l : st .length + 2 + length text ≡ st .length + length (entryText text) = omega (arith, length-entry text) in
+    λ i. record { settings = st .settings; width = st .width; key = st .key; counter = (toZ-ofZ f ∙ ap (λ (x : After). x .counter) e) i; last = d .number; issued = st .issued + 1; chain = q i; length = l i }
+
+module _ (st : State) (j : List ℕ) where
+  pub step-no : there j (st .length) ≡ false → 15 ≡ stepNumber st j
+  unfolding stepNumber
+  step-no h = sym (ask-no 15 _ h)
+
+  -- what a step gives
+  abbrev pub Stepped : ℕ → State → Type 0
+  Stepped k x = (k ≡ stepNumber st j) × (x ≡ ifZero (stepNumber st j) (after st (textAt j (st .length))) st)
+
+  step-there : there j (st .length) ≡ true → stepNumber st j ≡ entryNumber st (textAt j (st .length))
+  unfolding stepNumber
+  step-there h = ask-yes 15 _ h
+
+  pub step-is : {t : List ℕ} {k : ℕ} {x : State} → there j (st .length) ≡ true → t ≡ textAt j (st .length)
+      → (k ≡ entryNumber st t) × (x ≡ ifZero (entryNumber st t) (after st t) st) → Stepped k x
+  step-is {t} {k} {x} h e p =
+      let q : entryNumber st t ≡ stepNumber st j = ap (entryNumber st) e ∙ sym (step-there h) in
+      (p .0 ∙ q, p .1 ∙ (λ i. ifZero (q i) (after st (e i)) st))
+
+  -- ---- a turn
+
+  one-more : (m : ℕ) → checkFrom (suc m) st j
+      ≡ ifZero (stepNumber st j) (checkFrom m (after st (textAt j (st .length))) j) (refused (stepNumber st j) (st .issued))
+  unfolding checkFrom
+  one-more m = refl
+
+  after-key : after st (textAt j (st .length)) .key ≡ st .key
   unfolding after next
-  after-length = omega (arith, length-entry text)
+  after-key = refl
 
-  pub after-issued : after st text .issued ≡ st .issued + 1
+  zero-fields : stepNumber st j ≡ 0 → fieldsNumber st (found st (textAt j (st .length)) .entry .fields) ≡ 0
+  unfolding stepNumber entryNumber
+  zero-fields z = ask-zero _ _ _ (ask-zero _ _ _ z .1) .1
+
+  after-below : stepNumber st j ≡ 0 → st .issued ≤ st .last → after st (textAt j (st .length)) .issued ≤ after st (textAt j (st .length)) .last
   unfolding after next
-  after-issued = refl
+  after-below z h = let a = above-of st (found st (textAt j (st .length)) .entry .fields) (zero-fields z) in omega arith
+
+  module _ {k : ℕ} {x : State} (p : Stepped k x) where
+    pub turn-no : (left : ℕ) → 0 < left → (k ≡ 0 → ⊥) → checkFrom left st j ≡ refused k (st .issued)
+    turn-no left some h =
+        let e : left ≡ suc (left - 1) = omega arith in
+        ap (λ (m : ℕ). checkFrom m st j) e ∙ one-more (left - 1) ∙ ifZero-no (stepNumber st j) _ _ (λ q. h (p .0 ∙ q))
+        ∙ ap (λ (m : ℕ). refused m (st .issued)) (sym (p .0))
+
+    module _ (z : k ≡ 0) where
+      moved : x ≡ after st (textAt j (st .length))
+      moved = p .1 ∙ ifZero-yes _ _ (sym (p .0) ∙ z)
+
+      pub turn-yes : (left : ℕ) → 0 < left → checkFrom left st j ≡ checkFrom (left - 1) x j
+      turn-yes left some =
+          let e : left ≡ suc (left - 1) = omega arith in
+          ap (λ (m : ℕ). checkFrom m st j) e ∙ one-more (left - 1) ∙ ifZero-yes _ _ (sym (p .0) ∙ z)
+          ∙ ap (λ (y : State). checkFrom (left - 1) y j) (sym moved)
+
+      pub turn-key : x .key ≡ st .key
+      turn-key = ap (λ (y : State). y .key) moved ∙ after-key
+
+      pub turn-below : st .issued ≤ st .last → x .issued ≤ x .last
+      turn-below h = subst (λ (y : State). y .issued ≤ y .last) (sym moved) (after-below (sym (p .0) ∙ z) h)
+
+  pub ended-no : (left : ℕ) → left ≡ 0 → st .length < length j → checkFrom left st j ≡ refused 21 (st .issued)
+  unfolding checkFrom
+  ended-no left z h = rw (z, lt-leb (length j) (st .length) h)
+
+  pub ended-yes : (left : ℕ) → left ≡ 0 → length j ≤ st .length → checkFrom left st j ≡ record { number = 0; index = 0; state = st }
+  unfolding checkFrom accepted
+  ended-yes left z h = rw (z, le-leb (length j) (st .length) h)
+
+-- ---- the journal
+
+module _ (j key : List ℕ) (n : ℕ) where
+  pub over-width : widthGood n ≡ false → takeOver j key n ≡ refused 4 0
+  unfolding takeOver headNumber ask ifZero
+  over-width w = rw w
+
+  module _ (w : widthGood n ≡ true) where
+    pub over-head : headGood j ≡ false → takeOver j key n ≡ refused 14 0
+    unfolding takeOver headNumber ask ifZero
+    over-head h = rw (w, h)
+
+    over-yes : headGood j ≡ true → takeOver j key n ≡ checkFrom (countOf j) (fresh (settingsOf j) n key) j
+    unfolding takeOver headNumber ask ifZero
+    over-yes h = rw (w, h)
+
+pub fresh-is : (s : Settings) (n : ℕ) (key : List ℕ) {chain : List ℕ} → chain ≡ chainValue (take (s .id .len - 0) (s .id .bytes))
+    → _≡_ {A = State} (record { settings = s; width = n; key = key; counter = pos 0; last = 0; issued = 0; chain = chain; length = 19 + s .id .len + s .serial .len }) (fresh s n key)
+unfolding fresh headLength nameText
+fresh-is s n key e = λ i. record { settings = s; width = n; key = key; counter = pos 0; last = 0; issued = 0; chain = (e ∙ ap (λ (m : ℕ). chainValue (take m (s .id .bytes))) (sub-zero (s .id .len))) i; length = 19 + s .id .len + s .serial .len }
+
+-- what is called, one behind the other
+module _ (j key : List ℕ) (n : ℕ) (s : Settings) {st : State} (e : st ≡ fresh s n key) where
+  pub over-read : {count : ℕ} {r : TakenOver} → widthGood n ≡ true → headGood j ≡ true → s ≡ settingsOf j → count ≡ countOf j → r ≡ checkFrom count st j
+      → r ≡ takeOver j key n
+  over-read w h es ec er =
+      er ∙ (λ i. checkFrom (ec i) ((e ∙ ap (λ (x : Settings). fresh x n key) es) i) j) ∙ sym (over-yes j key n w h)
+
+  fresh-key : fresh s n key .key ≡ key
+  unfolding fresh
+  fresh-key = refl
+
+  fresh-below : fresh s n key .issued ≤ fresh s n key .last
+  unfolding fresh
+  fresh-below = omega arith
+
+  pub fresh-starts : {schedule : List (List ℕ)} → schedule ≡ keySchedule key → (schedule ≡ keySchedule (st .key)) × (st .issued ≤ st .last)
+  fresh-starts q =
+      (q ∙ ap keySchedule (sym (ap (λ (x : State). x .key) e ∙ fresh-key)), subst (λ (x : State). x .issued ≤ x .last) (sym e) fresh-below)
