@@ -6,7 +6,9 @@ pub mod Dropping
 pub mod FirstNo
 pub mod Forth
 pub mod Heads
+pub mod IssueCalls
 pub mod Lists
+pub mod OpenCalls
 pub mod Places
 pub mod Preparing
 pub mod Readings

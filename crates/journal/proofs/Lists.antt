@@ -237,7 +237,7 @@ pub record Signed (g : Signature) : Type 0 where
   pub long : length (g .bytes) ≡ 64
   pub bytes : AllBytes (g .bytes)
 
-sized-cases : (sig : List ℕ) → signatureSized sig ≡ true → eqb (length sig) 0 ≡ false → length sig ≡ 64
+pub sized-cases : (sig : List ℕ) → signatureSized sig ≡ true → eqb (length sig) 0 ≡ false → length sig ≡ 64
 unfolding signatureSized
 sized-cases sig e n = go (eqb (length sig) 64) refl e
   where

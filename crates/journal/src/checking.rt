@@ -1,10 +1,12 @@
 // Taking over a journal: its head, and entry by entry.
+use super::issuing::next;
+use super::questions::first_good;
 use super::reading::count_at;
 use super::reading::head_whole;
 use super::reading::receipts_count;
 use super::reading::settings_at;
-use super::starting::fresh;
-use super::starting::unopened;
+use super::register::fresh;
+use super::register::unopened;
 use super::state::State;
 use super::state::TakenOver;
 use receipt::Details;
@@ -17,7 +19,6 @@ ghost use Rattle.primitives.specs.Bytes.{same};
 ghost use Rattle.primitives.specs.Aes.{keySchedule};
 ghost use Rattle.receipt.specs.Chain.{decryptedCounter};
 ghost use Rattle.journal.specs.State.{ifZero};
-ghost use Rattle.journal.specs.Issue.{firstGood, next};
 ghost use Rattle.journal.specs.TakeOver.{there, textAt, equal, counterRight, fieldsNumber, entryNumber, after, stepNumber, refused, accepted, checkFrom, takeOver};
 
 // ---- one entry
@@ -31,16 +32,6 @@ fn there(j: &[u8], at: usize) -> bool
     }
     let n = count_at(j, at, 2);
     receipt::has_room(j.len(), at + 2, n)
-}
-
-// 18: the first receipt is standard with five zeros.
-fn first_good(st: State, d: Details) -> bool
-    ensures { λ r. ⌜ r ≡ firstGood st d ⌝ }
-{
-    if st.issued != 0 {
-        return true;
-    }
-    receipt::start_good(d)
 }
 
 // 19: the chain field is that of the state.
@@ -100,27 +91,6 @@ fn fields_number(schedule: &[[u8; 4]; 60], st: State, f: Fields) -> u32
         return 20;
     }
     0
-}
-
-// The state behind a receipt with these details and this compact form.
-fn next(st: State, d: Details, text: &[u8]) -> State
-    requires { ⌜ (st .issued + 1 < 4294967296) × (st .length + 2 + length (now text) < 18446744073709551616) ⌝ }
-    ensures { λ r. ⌜ r ≡ next st d (now (text .entry)) ⌝ }
-{
-    let settings = st.settings;
-    let key = st.key;
-    let new = receipt::counter_after(st.width, st.counter, d);
-    let chain = receipt::chain_value(text);
-    State {
-        settings: settings,
-        width: st.width,
-        key: key,
-        counter: new.counter,
-        last: d.number,
-        issued: st.issued + 1,
-        chain: chain,
-        length: st.length + 2 + text.len(),
-    }
 }
 
 // The number of an entry, and the state behind it where the number is 0.

@@ -1,11 +1,11 @@
 -- What is known of names, of entries that can be spelled, and of the encrypted counter.
-use Prim.Native.Nat.{ℕ, zero, suc, _-_, _≤_}
+use Prim.Native.Nat.{ℕ, zero, suc, _-_, _≤_, _<_}
 use mathlib.Core.Path.{_≡_, refl, sym, ap, _∙_}
 use mathlib.Core.Bool.{Bool, true, false, not, _&&_, _||_}
 use mathlib.Core.List.{List}
 use native.Mathlib.Omega.{arith}
 use borrow.Author.Tests.{leb-true, le-leb}
-use lib.ListN.{length, drop, replicate, length-append, length-take, length-drop, length-replicate}
+use lib.ListN.{length, take, drop, replicate, length-append, length-take, length-drop, length-replicate}
 use Rattle.primitives.specs.Bytes.{AllBytes}
 use Rattle.primitives.specs.Counter.{widthGood, xorFirst}
 use Rattle.primitives.proofs.ByteLists.{bytes-append, bytes-take, bytes-replicate}
@@ -13,22 +13,30 @@ use Rattle.primitives.specs.Aes.{cipher}
 use Rattle.primitives.proofs.Cipher.{AllWords, length-cipher, cipher-bytes}
 use Rattle.primitives.proofs.Twos.{counter-whole}
 use Rattle.primitives.proofs.Xors.{bytes-xorFirst, length-xorFirst, drop-xorFirst, xorFirst-back}
-use Rattle.receipt.specs.Settings.{nameOf, cspGood, idGood, serialGood, settingsGood, sized}
+use Rattle.receipt.specs.Settings.{nameText, nameOf, cspGood, idGood, serialGood, settingsGood, sized}
 use Rattle.receipt.specs.DateTime.{dateGood}
 use Rattle.receipt.specs.Details.{standard, amountsGood}
 use Rattle.receipt.specs.Chain.{iv, keyStream, encryptedCounter, decryptedCounter}
-use Rattle.receipt.specs.Payload.{zeros, counterGood, fieldsGood}
-use Rattle.receipt.specs.Compact.{signatureZero, entryGood, spellable}
+use Rattle.receipt.specs.Payload.{payload, zeros, counterGood, fieldsGood}
+use Rattle.receipt.specs.Compact.{signingInput, signatureZero, entryGood, spellable}
 use Rattle.receipt.specs.declared.details.Kind.{Kind}
 use Rattle.receipt.specs.declared.details.Kind.the-variants.{Standard, Cancellation, Training}
 use Rattle.receipt.specs.declared.settings.Name.{Name}
 use Rattle.receipt.specs.declared.settings.Settings.{Settings}
 use Rattle.receipt.specs.declared.entry.Signature.{Signature}
+use Rattle.receipt.specs.declared.payload.Fields.{Fields}
 use Rattle.receipt.specs.declared.entry.Entry.{Entry}
 use Rattle.receipt.proofs.Lists.{both, true-is-not-false}
 use Rattle.receipt.proofs.CounterFields.{zeros-are}
+use Rattle.receipt.proofs.FormCalls.{length-input}
 
--- ---- the name of a text
+-- ---- the part of an array that holds a name, and the name of a text
+
+pub lent-name : (name : Name) → take (name .len - 0) (name .bytes) ≡ nameText name
+unfolding nameText
+lent-name name =
+    let e : name .len - 0 ≡ name .len = omega arith in
+    ap (λ (k : ℕ). take k (name .bytes)) e
 
 pub len-of : (t : List ℕ) → nameOf t .len ≡ length t
 unfolding nameOf
@@ -147,3 +155,9 @@ encrypt-back schedule id number n bytes w g l b z =
     let bx : AllBytes x = bytes-xorFirst n b (cipher-bytes (iv id number) w) in
     let dx : drop n x ≡ replicate (8 - n) 0 = drop-xorFirst n bytes k h ∙ z in
     ap (λ (c : List ℕ). xorFirst n c k) (counter-whole n g bx lx dx) ∙ xorFirst-back n bytes k h
+
+-- ---- what is signed is never empty
+
+pub input-some : (s : Settings) (n : ℕ) (f : Fields) → 0 < length (signingInput s n f)
+unfolding signingInput
+input-some s n f = omega (arith, length-input (payload s n f))

@@ -43,7 +43,7 @@ counter-key-requires : tie.Need-counter-key-requires
 counter-key-requires c κs = search needs
 
 fresh-requires : tie.Need-fresh-requires
-fresh-requires c κs = let q = good-settings (c .before .before .before .settings-at .result) (not-yes _ _ (c .before .before .settings-good .ensures) (c .before .if3 .left)) in (q .id .most, q .serial .most)
+fresh-requires c κs = not-yes _ _ (c .before .before .settings-good .ensures) (c .before .if3 .left)
 
 receipts-count-requires : tie.Need-receipts-count-requires
 receipts-count-requires c κs = whole-room (c .before .before .before .before .before .before .before .before .before .before .before .args .j .now) (not-yes _ _ (c .before .before .before .before .before .before .before .head-whole .ensures) (c .before .before .before .before .before .before .if2 .left))
