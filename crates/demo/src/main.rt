@@ -1,0 +1,177 @@
+// A register's day on the screen: it is opened, receipts are issued, the journal is taken over, and a broken one is refused.
+mod screen;
+
+use journal::State;
+use receipt::DateTime;
+use receipt::Details;
+use receipt::Kind;
+use receipt::Settings;
+use screen::hex;
+use screen::number;
+use screen::say;
+
+// A receipt of the day.
+fn details(number: u32, minute: u32, amounts: [i64; 5], kind: Kind) -> Details {
+    Details {
+        number: number,
+        date: DateTime {
+            year: 2026,
+            month: 11,
+            day: 15,
+            hour: 8,
+            minute: minute,
+            second: 0,
+        },
+        amounts: amounts,
+        kind: kind,
+    }
+}
+
+// The machine-readable code of the compact form between two places of the journal.
+fn show_code(buf: &[u8], a: usize, e: usize) {
+    let mut out = [0u8; 284];
+    if e < a {
+        return;
+    }
+    if buf.len() < e {
+        return;
+    }
+    let r = receipt::code(&buf[a..e], &mut out);
+    say(b"  code ");
+    screen::first(&out, r.length);
+    say(b"\n");
+}
+
+// The state after a receipt.
+fn show_state(st: State) {
+    let chain = st.chain;
+    say(b"  number ");
+    number(st.last as u64);
+    say(b", counter ");
+    screen::cents(st.counter);
+    say(b" cents, chain value ");
+    hex(&chain);
+    say(b"\n");
+}
+
+// Issues a receipt and shows what came of it.
+fn issue(title: &[u8], st: State, d: Details, signature: &[u8], buf: &mut [u8]) -> State {
+    let at = st.length;
+    say(title);
+    let r = journal::issue(st, d, signature, buf);
+    let next = r.state;
+    if r.number != 0 {
+        say(b"  refused ");
+        number(r.number as u64);
+        say(b"\n");
+        return next;
+    }
+    show_state(next);
+    if at < 4096 {
+        show_code(buf, at + 2, next.length);
+    }
+    next
+}
+
+// What a take-over of the first n bytes answers.
+fn take_over(title: &[u8], buf: &[u8], n: usize, key: [u8; 32]) {
+    say(title);
+    if buf.len() < n {
+        return;
+    }
+    let t = journal::take_over(&buf[0..n], key, 8);
+    if t.number != 0 {
+        say(b"  refused ");
+        number(t.number as u64);
+        say(b" at entry ");
+        number(t.index as u64);
+        say(b"\n");
+        return;
+    }
+    let st = t.state;
+    say(b"  accepted, ");
+    number(st.issued as u64);
+    say(b" receipts, counter ");
+    screen::cents(st.counter);
+    say(b" cents\n");
+}
+
+// The start receipt and a sale.
+fn morning(opened: State, buf: &mut [u8]) -> State {
+    let sign = [0x5au8; 64];
+    let a = issue(
+        b"start receipt\n",
+        opened,
+        details(1, 0, [0, 0, 0, 0, 0], Kind::Standard),
+        &sign,
+        buf,
+    );
+    issue(
+        b"a sale at three rates\n",
+        a,
+        details(2, 5, [1050, 450, 0, 78, 0], Kind::Standard),
+        &sign,
+        buf,
+    )
+}
+
+// A cancellation and a training receipt.
+fn noon(st: State, buf: &mut [u8]) -> State {
+    let sign = [0xa5u8; 64];
+    let a = issue(
+        b"a cancellation\n",
+        st,
+        details(3, 6, [-1050, 0, 0, 0, 0], Kind::Cancellation),
+        &sign,
+        buf,
+    );
+    issue(
+        b"a training receipt\n",
+        a,
+        details(4, 9, [9900, 0, 0, 0, 0], Kind::Training),
+        &sign,
+        buf,
+    )
+}
+
+// The device fails, and a number is used twice.
+fn evening(st: State, buf: &mut [u8]) -> State {
+    let a = issue(
+        b"a sale while the signature device has failed\n",
+        st,
+        details(5, 30, [0, 320, 0, 0, 0], Kind::Standard),
+        b"",
+        buf,
+    );
+    issue(
+        b"the same number again\n",
+        a,
+        details(5, 31, [100, 0, 0, 0, 0], Kind::Standard),
+        b"",
+        buf,
+    )
+}
+
+fn main() {
+    let key = [7u8; 32];
+    let mut buf = io::buffer();
+    let s = Settings {
+        csp: [b'A', b'T', b'0'],
+        id: receipt::name_at(b"SHOP-1"),
+        serial: receipt::name_at(b"1a2b3c"),
+    };
+    let r = journal::open(s, key, 8, &mut buf);
+    let opened = r.state;
+    say(b"register SHOP-1 opened\n");
+    let first = morning(opened, &mut buf);
+    let second = noon(first, &mut buf);
+    let st = evening(second, &mut buf);
+    take_over(b"the journal is taken over\n", &buf, st.length, key);
+    screen::flip(&mut buf, 400);
+    take_over(
+        b"one byte of it is changed, and it is taken over again\n",
+        &buf,
+        st.length,
+        key,
+    );
+}
