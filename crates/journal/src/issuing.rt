@@ -180,7 +180,7 @@ pub fn issue(st: State, d: Details, signature: &[u8], buf: &mut [u8]) -> Issued
     ensures { λ r. ⌜ (r ≡ issued st d (now (signature .entry)) (length (now (buf .entry)))) × (now (buf .exit) ≡ issueBuffer st d (now (signature .entry)) (now (buf .entry))) ⌝ }
 {
     let number = issue_number(st, d, signature, buf.len());
-    if number != 0 {
+    if 0 < number {
         return Issued { number, state: st };
     }
     append(st, d, signature, buf)

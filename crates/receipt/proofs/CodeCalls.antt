@@ -15,9 +15,10 @@ use Rattle.primitives.specs.declared.base64.Alphabet.the-variants.{Standard}
 use Rattle.primitives.proofs.Over.{placed-room, placed-full, behind-room, behind-full, room-true, room-false}
 use Rattle.primitives.proofs.Questions.{yes, no}
 use Rattle.receipt.specs.declared.machine_code.Answer.{Answer}
+use Rattle.receipt.specs.declared.machine_code.Part.{Part}
 use Rattle.receipt.specs.declared.form.Reading.{Reading}
 use Rattle.receipt.specs.Form.{nextAt, part, parts, payloadGood, signatureGood, partsGood, signedForm, partsOfForm}
-use Rattle.receipt.specs.Code.{lastAt, codeText, partsOfCode, written, codeAnswer, codeBuffer, uncodeAnswer, uncodeBuffer, idStart, idEnd, idEnded, idField, idPart}
+use Rattle.receipt.specs.Code.{lastAt, codeText, partsOfCode, written, codeAnswer, codeBuffer, uncodeAnswer, uncodeBuffer, idStart, idEnd, idThere, nowhere, idPlace, idField}
 use Rattle.receipt.specs.FormReading.{short, found}
 use Rattle.receipt.proofs.Finding.{next-from, next-most}
 use Rattle.receipt.proofs.CodeTexts.{good-payload, good-signature, read-signed}
@@ -160,10 +161,20 @@ part-front s n a e h k l =
     sym (take-append-le (e - a) (drop a (take n s)) (drop n s) (omega (arith, length-drop a (take n s))))
     ∙ ap (take (e - a)) (sym (drop-append-le a (take n s) (drop n s) (omega arith)) ∙ ap (drop a) (take-append-drop n s))
 
+-- what a place says of the ID field of a code
+abbrev pub Placed : List ℕ → Part → Type 0
+Placed code x = (x ≡ idPlace code) × (x .start ≤ x .end) × (x .end ≤ length code) × (part (x .start) (x .end) code ≡ idField code)
+
+-- nowhere is right where there is no field
+none-placed : (code : List ℕ) {x : Part} → x ≡ nowhere → nowhere ≡ idPlace code → [] ≡ idField code → Placed code x
+none-placed code h k l = rw (h) (k, omega arith, omega arith, l)
+
 module _ (code sig : List ℕ) (r : Reading) (e : found (r .good) (take (r .payload) code) (take (r .signature) sig) ≡ partsOfCode code) where
-  pub no-id : not (r .good) ≡ true → ([] ≡ idField code) × ([] ≡ idPart code)
-  unfolding idField idPart
-  no-id t = let q : none ≡ partsOfCode code = found-none (r .good) (take (r .payload) code) (take (r .signature) sig) e t in (rw (sym q), rw (sym q))
+  pub no-id : {x : Part} → x ≡ nowhere → not (r .good) ≡ true → Placed code x
+  unfolding idField idPlace
+  no-id h t =
+      let q : none ≡ partsOfCode code = found-none (r .good) (take (r .payload) code) (take (r .signature) sig) e t in
+      none-placed code h (rw (sym q)) (rw (sym q))
 
   module _ (t : not (r .good) ≡ false) {f : ℕ} (er : f ≡ nextAt 95 (take (r .payload - 0) code) 1) where
     p : List ℕ
@@ -186,23 +197,33 @@ module _ (code sig : List ℕ) (r : Reading) (e : found (r .good) (take (r .payl
       unfolding p
       long = length-take-le (r .payload) code within
 
-      pub ordered : f + 1 ≤ k
-      ordered = omega (arith, ek, next-from 95 (take (r .payload - 0) code) (f + 1))
-
       q : some (parts p (take (r .signature) sig)) ≡ partsOfCode code
       unfolding p
       q = found-some (r .good) (take (r .payload) code) (take (r .signature) sig) e t
 
-      pub id-unended : r .payload ≤ k → ([] ≡ idField code) × ([] ≡ idPart code)
-      unfolding idField idPart idEnded
-      id-unended h =
-          let w : ltb (idEnd p) (length p) ≡ false = le-ltb (idEnd p) (length p) (omega (arith, long, end-is)) in
-          (rw (sym q, w), rw (sym q, w))
+      -- no third mark, or nothing before it
+      missing : {x : Part} → x ≡ nowhere → idThere p ≡ false → Placed code x
+      unfolding idField idPlace
+      missing h w = none-placed code h (rw (sym q, w)) (rw (sym q, w))
 
-      pub id-there : k < r .payload → (part (f + 1) k code ≡ idField code) × (part (f + 1) k code ≡ idPart code)
-      unfolding idField idPart idEnded p
-      id-there h =
-          let w : ltb (idEnd p) (length p) ≡ true = lt-ltb (idEnd p) (length p) (omega (arith, long, end-is)) in (
-            rw (start-is, end-is, sym q, w) (sym (part-front code (r .payload) (idStart p) (idEnd p) within (omega (arith, start-is, end-is, ordered)) (omega (arith, end-is)))),
-            rw (start-is, end-is, sym q, w),
-          )
+      pub id-unended : {x : Part} → x ≡ nowhere → r .payload ≤ k → Placed code x
+      unfolding idThere
+      id-unended h l = missing h (rw (le-ltb (idEnd p) (length p) (omega (arith, long, end-is))))
+
+      module _ (h : k < r .payload) where
+        ended : ltb (idEnd p) (length p) ≡ true
+        ended = lt-ltb (idEnd p) (length p) (omega (arith, long, end-is))
+
+        pub id-empty : {x : Part} → x ≡ nowhere → k ≤ f + 1 → Placed code x
+        unfolding idThere
+        id-empty g l = missing g (rw (ended, le-ltb (idStart p) (idEnd p) (omega (arith, start-is, end-is))))
+
+        pub id-there : f + 1 < k → Placed code (record { start = f + 1; end = k })
+        unfolding idField idPlace idThere p
+        id-there l =
+            let w : ltb (idStart p) (idEnd p) ≡ true = lt-ltb (idStart p) (idEnd p) (omega (arith, start-is, end-is)) in (
+              rw (start-is, end-is, sym q, ended, w),
+              omega arith,
+              omega arith,
+              rw (start-is, end-is, sym q, ended, w) (sym (part-front code (r .payload) (idStart p) (idEnd p) within (omega (arith, start-is, end-is)) (omega (arith, end-is)))),
+            )

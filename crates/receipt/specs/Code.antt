@@ -1,6 +1,6 @@
 -- The machine-readable code of a receipt, the way back to the compact form, and the ID field of a code.
 use Prim.Native.Nat.{ℕ, zero, suc, _+_}
-use mathlib.Core.Bool.{Bool, cond}
+use mathlib.Core.Bool.{Bool, cond, _&&_}
 use mathlib.Core.List.{List, [], _∷_, _++_}
 use mathlib.Core.Option.{Option, none, some, Option·map}
 use lib.Dec.{ltb, eqb}
@@ -10,6 +10,7 @@ use Rattle.primitives.specs.Base64.{encoding, decoding}
 use Rattle.primitives.specs.declared.base64.Alphabet.the-variants.{Standard}
 use Rattle.receipt.specs.Form.{nextAt, part, Parts, goodParts, signedForm, partsOfForm}
 use Rattle.receipt.specs.declared.machine_code.Answer.{Answer}
+use Rattle.receipt.specs.declared.machine_code.Part.{Part}
 
 -- ---- the text
 
@@ -77,26 +78,25 @@ idStart p = nextAt 95 p 1 + 1
 unfoldable pub idEnd : List ℕ → ℕ
 idEnd p = nextAt 95 p (idStart p)
 
--- there is a third "_" in the payload
-unfoldable pub idEnded : List ℕ → Bool
-idEnded p = ltb (idEnd p) (length p)
+-- "with a second and third '_' in the payload and something between them"
+unfoldable pub idThere : List ℕ → Bool
+idThere p = ltb (idEnd p) (length p) && ltb (idStart p) (idEnd p)
 
--- what stands in a text where a payload has its ID field; nothing where the payload has no third "_"
-abbrev pub idWithin : List ℕ → List ℕ → List ℕ
-idWithin p text = cond (idEnded p) (part (idStart p) (idEnd p) text) []
+-- where a code has its ID field: at its start stands the payload. 0 and 0 where the code is refused or has no such field
+abbrev pub nowhere : Part
+nowhere = record { start = 0; end = 0 }
+
+abbrev pub idPlaceOf : Option Parts → Part
+idPlaceOf none = nowhere
+idPlaceOf (some p) = cond (idThere (p .payload)) (record { start = idStart (p .payload); end = idEnd (p .payload) }) nowhere
+
+unfoldable pub idPlace : List ℕ → Part
+idPlace code = idPlaceOf (partsOfCode code)
 
 -- Fields: what stands between the second and the third "_" of the payload of a code; nothing where the code is refused
 abbrev pub idOf : Option Parts → List ℕ
 idOf none = []
-idOf (some p) = idWithin (p .payload) (p .payload)
+idOf (some p) = cond (idThere (p .payload)) (part (idStart (p .payload)) (idEnd (p .payload)) (p .payload)) []
 
 unfoldable pub idField : List ℕ → List ℕ
 idField code = idOf (partsOfCode code)
-
--- the same as a part of the code, at whose start the payload stands
-abbrev pub idPartOf : Option Parts → List ℕ → List ℕ
-idPartOf none code = []
-idPartOf (some p) code = idWithin (p .payload) code
-
-unfoldable pub idPart : List ℕ → List ℕ
-idPart code = idPartOf (partsOfCode code) code

@@ -16,9 +16,9 @@ ghost use Prim.Native.Nat.{_≤_};
 ghost use lib.ListN.{length, take};
 ghost use Rattle.primitives.specs.Place.{placed};
 ghost use Rattle.receipt.specs.Payload.{longestPayload};
-ghost use Rattle.receipt.specs.Form.{parts};
+ghost use Rattle.receipt.specs.Form.{parts, part};
 ghost use Rattle.receipt.specs.FormReading.{found};
-ghost use Rattle.receipt.specs.Code.{lastAt, codeText, partsOfCode, written, codeAnswer, codeBuffer, uncodeAnswer, uncodeBuffer, idField, idPart};
+ghost use Rattle.receipt.specs.Code.{lastAt, codeText, partsOfCode, written, codeAnswer, codeBuffer, uncodeAnswer, uncodeBuffer, nowhere, idPlace, idField};
 
 // What a call that writes a text answers: 0 and the text's length, or the number of the question and 0.
 pub struct Answer {
@@ -134,21 +134,48 @@ pub fn uncode(code: &[u8], out: &mut [u8]) -> Answer
     }
 }
 
-// The ID field of a code, as a part of it; an empty part where uncode refuses the code or there is no such field.
-pub fn fields<'a>(code: &'a [u8]) -> &'a [u8]
-    ensures { λ r. ⌜ (now r ≡ idField (now (code .entry))) × (now r ≡ idPart (now (code .entry))) ⌝ }
+// ---- the ID field
+
+// The bytes from a place up to another.
+pub struct Part {
+    pub start: usize,
+    pub end: usize,
+}
+
+fn nowhere() -> Part
+    ensures { λ r. ⌜ r ≡ nowhere ⌝ }
+{
+    Part { start: 0, end: 0 }
+}
+
+// Where the ID field stands in a code; nowhere where uncode refuses the code or there is no such field.
+pub fn id_place(code: &[u8]) -> Part
+    ensures { λ r. ⌜ (r ≡ idPlace (now (code .entry))) × (r .start ≤ r .end) × (r .end ≤ length (now (code .entry))) × (part (r .start) (r .end) (now (code .entry)) ≡ idField (now (code .entry))) ⌝ }
 {
     let mut signature = [0u8; 64];
     let r = read_code(code, &mut signature);
     if !r.good {
-        return &code[0..0];
+        return nowhere();
     }
     let n = r.payload;
     let payload = &code[0..n];
     let a = next_at(95, payload, 1) + 1;
     let e = next_at(95, payload, a);
     if n <= e {
-        return &code[0..0];
+        return nowhere();
     }
+    if e <= a {
+        return nowhere();
+    }
+    Part { start: a, end: e }
+}
+
+// The ID field of a code, as a part of it; an empty part where uncode refuses the code or there is no such field.
+pub fn fields<'a>(code: &'a [u8]) -> &'a [u8]
+    ensures { λ r. ⌜ (now r ≡ idField (now (code .entry))) × (now r ≡ part (idPlace (now (code .entry)) .start) (idPlace (now (code .entry)) .end) (now (code .entry))) ⌝ }
+{
+    let p = id_place(code);
+    let a = p.start;
+    let e = p.end;
     &code[a..e]
 }

@@ -1,4 +1,5 @@
 -- `issuing::issue` meets its contract.
+use native.Mathlib.Omega.{arith}
 use Rattle.journal.proofs.IssueCalls.{issue-refused, issue-asked}
 use borrow.Author.Needs.{needs}
 use Rattle.journal.proofs.issuing.issue.Statement.{statement}
@@ -8,10 +9,10 @@ issue-number-requires : tie.Need-issue-number-requires
 issue-number-requires c κs = search needs
 
 returns : tie.Need-returns
-returns c = issue-refused (c .before .before .before .before .args .st) (c .before .before .before .before .args .d) (c .before .before .before .before .args .signature .now) (c .before .before .before .before .args .buf .now) (c .before .issue-number .ensures) (c .if1 .taken)
+returns c = issue-refused (c .before .before .before .before .args .st) (c .before .before .before .before .args .d) (c .before .before .before .before .args .signature .now) (c .before .before .before .before .args .buf .now) (c .before .issue-number .ensures) (λ z. omega (arith, z, c .if1 .taken))
 
 append-requires : tie.Need-append-requires
-append-requires c κs = issue-asked (c .before .before .before .before .before .args .st) (c .before .before .before .before .before .args .d) (c .before .before .before .before .before .args .signature .now) (c .before .before .before .before .before .args .buf .now) (c .before .before .issue-number .ensures) (c .before .if1 .left)
+append-requires c κs = issue-asked (c .before .before .before .before .before .args .st) (c .before .before .before .before .before .args .d) (c .before .before .before .before .before .args .signature .now) (c .before .before .before .before .before .args .buf .now) (c .before .before .issue-number .ensures) (omega (arith, c .before .if1 .left))
 
 same-length : tie.Need-same-length
 same-length c = search needs
