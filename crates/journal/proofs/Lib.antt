@@ -1,5 +1,6 @@
 pub mod Accepting
 pub mod Again
+pub mod Agreement
 pub mod Asking
 pub mod Check
 pub mod Dropping

@@ -68,6 +68,12 @@ abbrev pub Back : Type 0
 Back =
     (j key : List ℕ) (n : ℕ) → AllBytes key → (v : Valid j key n) (buf : List ℕ) → length buf ≡ length j → Again j key n (v .entries) buf
 
+-- demand 3 as one theorem: what the writer writes is accepted with its receipts and their sum, and what is accepted the writer writes
+pub record WritingAndCheckingAgree : Type 0 where
+  pub accepted : AcceptedIsValid
+  pub forth : Forth
+  pub back : Back
+
 -- ---- journals
 
 -- a journal that is valid with these entries

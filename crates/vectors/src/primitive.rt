@@ -10,7 +10,7 @@ use primitives::Alphabet;
 use primitives::Decoded;
 
 // The digest of a text's first n bytes.
-fn print_digest(name: &[u8], text: &[u8], n: usize) {
+pub(crate) fn print_digest(name: &[u8], text: &[u8], n: usize) {
     if n <= text.len() {
         let digest = primitives::sha256(&text[0..n]);
         print_hex(name, &digest, 32);

@@ -26,7 +26,7 @@ pub(crate) fn chain_row(line: &[u8]) {
 }
 
 // A number below 2^32; 0 where it is none.
-fn number_of(text: &[u8]) -> u32 {
+pub(crate) fn number_of(text: &[u8]) -> u32 {
     let v = digits(text, 0);
     if 4294967295 < v {
         return 0;
@@ -94,7 +94,7 @@ pub(crate) fn code_row(line: &[u8]) {
 }
 
 // The settings of a row: CSP, register ID and serial.
-fn settings_of(csp: &[u8], id: &[u8], serial: &[u8]) -> Settings {
+pub(crate) fn settings_of(csp: &[u8], id: &[u8], serial: &[u8]) -> Settings {
     let mut letters = [0u8; 3];
     primitives::put(&mut letters, 0, csp);
     Settings {

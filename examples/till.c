@@ -1,0 +1,68 @@
+/* A till: opens a register, issues three receipts, prints their codes, and takes its journal over.
+ *
+ *     cc -Iinclude examples/till.c target/staticlib/libdevice.a -o till
+ */
+#include "ditgrux.h"
+
+#include <stdio.h>
+#include <string.h>
+
+static uint8_t journal[4096];
+static uint8_t state[DITGRUX_STATE];
+
+/* Stands for the signature device: returns how many bytes it wrote, 64, or 0 where it has failed. A real one signs with ES256. */
+static size_t sign(const uint8_t *input, size_t length, int works, uint8_t signature[DITGRUX_SIGNATURE])
+{
+    if (!works)
+        return 0;
+    ditgrux_sha256(input, length, signature, DITGRUX_HASH);
+    memcpy(signature + DITGRUX_HASH, signature, DITGRUX_HASH);
+    return DITGRUX_SIGNATURE;
+}
+
+/* One receipt: what the device signs is prepared, the receipt is issued, its code is printed. */
+static uint32_t sell(uint32_t number, uint32_t minute, int64_t standard, int64_t reduced, uint32_t kind, int device_works)
+{
+    uint8_t input[DITGRUX_LONGEST_INPUT], signature[DITGRUX_SIGNATURE], code[DITGRUX_LONGEST_CODE];
+    size_t length, start = ditgrux_journal_length(state, sizeof state) + 2;
+    uint32_t refused = ditgrux_prepare(state, sizeof state, number, 2026, 11, 15, 8, minute, 0, standard, reduced, 0, 0, 0, kind, input,
+                                       sizeof input, &length);
+    if (refused)
+        return refused;
+    size_t signed_bytes = sign(input, length, device_works, signature);
+    refused = ditgrux_issue(state, sizeof state, number, 2026, 11, 15, 8, minute, 0, standard, reduced, 0, 0, 0, kind, signature,
+                            signed_bytes, journal, sizeof journal);
+    if (refused)
+        return refused;
+    /* the compact form lies in the journal, behind the two bytes of its length */
+    ditgrux_code(journal + start, ditgrux_journal_length(state, sizeof state) - start, code, sizeof code, &length);
+    printf("%.*s\n", (int)length, (const char *)code);
+    return 0;
+}
+
+int main(void)
+{
+    const uint8_t key[DITGRUX_KEY] = "a key of thirty-two plain bytes";
+    uint8_t settings[DITGRUX_SETTINGS];
+    uint32_t refused, index;
+
+    if (ditgrux_settings((const uint8_t *)"AT0", 3, (const uint8_t *)"TILL-1", 6, (const uint8_t *)"1a2b", 4, 5, key, sizeof key, settings,
+                         sizeof settings))
+        return 1;
+    if (ditgrux_open(settings, sizeof settings, journal, sizeof journal, state, sizeof state))
+        return 1;
+    if (sell(1, 0, 0, 0, DITGRUX_STANDARD, 1) || sell(2, 5, 1050, 450, DITGRUX_STANDARD, 1) || sell(3, 9, -1050, 0, DITGRUX_CANCELLATION, 0))
+        return 1;
+    printf("number 3 again: refused %u\n", (unsigned)sell(3, 10, 100, 0, DITGRUX_STANDARD, 1));
+
+    size_t length = ditgrux_journal_length(state, sizeof state);
+    uint8_t again[DITGRUX_STATE];
+    refused = ditgrux_take_over(journal, length, key, sizeof key, 5, again, sizeof again, &index);
+    printf("taken over: number %u, %u receipts, counter %lld cents, %s state\n", (unsigned)refused,
+           (unsigned)ditgrux_receipts(again, sizeof again), (long long)ditgrux_counter(again, sizeof again),
+           memcmp(again, state, sizeof state) ? "another" : "the same");
+    journal[length - 1] ^= 1;
+    refused = ditgrux_take_over(journal, length, key, sizeof key, 5, again, sizeof again, &index);
+    printf("one bit changed: refused %u at entry %u\n", (unsigned)refused, (unsigned)index);
+    return 0;
+}

@@ -1,0 +1,191 @@
+//! The calls of the C interface as one trait, and the peer's answers to them.
+
+use crate::layout::{SETTINGS, STATE, settings_bytes, settings_of, state_bytes, state_of};
+use crate::receipt::Details;
+use crate::register::State;
+use crate::settings::{Name, Settings, csp_good, id_good, serial_good, width_good};
+use crate::{base64, code, crypto, register};
+
+/// A number and a length.
+#[derive(Clone, Copy, Debug, PartialEq, Eq)]
+pub struct Written {
+    pub number: u32,
+    pub length: usize,
+}
+
+/// A number and an index.
+#[derive(Clone, Copy, Debug, PartialEq, Eq)]
+pub struct TakenOver {
+    pub number: u32,
+    pub index: u32,
+}
+
+/// A number, and a place with its length.
+#[derive(Clone, Copy, Debug, PartialEq, Eq)]
+pub struct Part {
+    pub number: u32,
+    pub start: usize,
+    pub length: usize,
+}
+
+/// include/ditgrux.h, call by call: slices for pointers and lengths, results for pointers to a number.
+pub trait Calls {
+    fn settings(&self, csp: &[u8], id: &[u8], serial: &[u8], width: usize, key: &[u8], settings: &mut [u8]) -> u32;
+    fn counter(&self, state: &[u8]) -> i64;
+    fn last_number(&self, state: &[u8]) -> u32;
+    fn receipts(&self, state: &[u8]) -> u32;
+    fn journal_length(&self, state: &[u8]) -> usize;
+    fn open(&self, settings: &[u8], journal: &mut [u8], state: &mut [u8]) -> u32;
+    fn prepare(&self, state: &[u8], details: &Details, output: &mut [u8]) -> Written;
+    fn issue(&self, state: &mut [u8], details: &Details, signature: &[u8], journal: &mut [u8]) -> u32;
+    fn take_over(&self, journal: &[u8], key: &[u8], width: usize, state: &mut [u8]) -> TakenOver;
+    fn code(&self, form: &[u8], output: &mut [u8]) -> Written;
+    fn uncode(&self, code: &[u8], output: &mut [u8]) -> Written;
+    fn fields(&self, code: &[u8]) -> Part;
+    fn sha256(&self, data: &[u8], output: &mut [u8]) -> u32;
+    fn base64(&self, url: u32, data: &[u8], output: &mut [u8]) -> Written;
+    fn unbase64(&self, url: u32, text: &[u8], output: &mut [u8]) -> Written;
+}
+
+/// This implementation.
+pub struct Peer;
+
+fn written(answer: Result<usize, u32>) -> Written {
+    match answer {
+        Ok(length) => Written { number: 0, length },
+        Err(number) => Written { number, length: 0 },
+    }
+}
+
+/// The bytes to the start of the output: their length, or 23.
+fn put(bytes: &[u8], output: &mut [u8]) -> Result<usize, u32> {
+    output.get_mut(..bytes.len()).ok_or(23u32)?.copy_from_slice(bytes);
+    Ok(bytes.len())
+}
+
+impl Calls for Peer {
+    fn settings(&self, csp: &[u8], id: &[u8], serial: &[u8], width: usize, key: &[u8], settings: &mut [u8]) -> u32 {
+        if !csp_good(csp) {
+            return 1;
+        }
+        if !id_good(id) {
+            return 2;
+        }
+        if !serial_good(serial) {
+            return 3;
+        }
+        if !width_good(width as u64) || key.len() != 32 {
+            return 4;
+        }
+        if settings.len() != SETTINGS {
+            return 23;
+        }
+        let mut given =
+            Settings { id: Name::of(id), serial: Name::of(serial), width: width as u64, ..Default::default() };
+        given.csp.copy_from_slice(csp);
+        given.key.copy_from_slice(key);
+        settings.copy_from_slice(&settings_bytes(&given));
+        0
+    }
+
+    fn counter(&self, state: &[u8]) -> i64 {
+        state_of(state).counter
+    }
+
+    fn last_number(&self, state: &[u8]) -> u32 {
+        state_of(state).last_number
+    }
+
+    fn receipts(&self, state: &[u8]) -> u32 {
+        state_of(state).receipts
+    }
+
+    fn journal_length(&self, state: &[u8]) -> usize {
+        state_of(state).journal_length as usize
+    }
+
+    fn open(&self, settings: &[u8], journal: &mut [u8], state: &mut [u8]) -> u32 {
+        if state.len() != STATE {
+            return 6;
+        }
+        let (number, opened) = match register::open(&settings_of(settings), journal) {
+            Ok(opened) => (0, opened),
+            Err(number) => (number, State::default()),
+        };
+        state.copy_from_slice(&state_bytes(&opened));
+        number
+    }
+
+    fn prepare(&self, state: &[u8], details: &Details, output: &mut [u8]) -> Written {
+        written(register::prepare(&state_of(state), details, output))
+    }
+
+    fn issue(&self, state: &mut [u8], details: &Details, signature: &[u8], journal: &mut [u8]) -> u32 {
+        let mut held = state_of(state);
+        match register::issue(&mut held, details, signature, journal) {
+            Ok(()) => {
+                state.copy_from_slice(&state_bytes(&held));
+                0
+            }
+            Err(number) => number,
+        }
+    }
+
+    fn take_over(&self, journal: &[u8], key: &[u8], width: usize, state: &mut [u8]) -> TakenOver {
+        if state.len() != STATE {
+            return TakenOver { number: 6, index: 0 };
+        }
+        let answer = match key.try_into() {
+            Ok(key) => register::take_over(journal, key, width as u64),
+            // a key of another length is asked with the width
+            Err(_) => Err(register::Refused { number: 4, index: 0 }),
+        };
+        let (taken, held) = match answer {
+            Ok(held) => (TakenOver { number: 0, index: 0 }, held),
+            Err(refused) => (TakenOver { number: refused.number, index: refused.index }, State::default()),
+        };
+        state.copy_from_slice(&state_bytes(&held));
+        taken
+    }
+
+    fn code(&self, form: &[u8], output: &mut [u8]) -> Written {
+        written(code::code(form, output))
+    }
+
+    fn uncode(&self, code: &[u8], output: &mut [u8]) -> Written {
+        written(code::uncode(code, output))
+    }
+
+    fn fields(&self, code: &[u8]) -> Part {
+        match code::fields(code) {
+            Some(id) => Part { number: 0, start: id.start, length: id.len() },
+            None => Part { number: 24, start: 0, length: 0 },
+        }
+    }
+
+    fn sha256(&self, data: &[u8], output: &mut [u8]) -> u32 {
+        written(put(&crypto::sha256(data), output)).number
+    }
+
+    fn base64(&self, url: u32, data: &[u8], output: &mut [u8]) -> Written {
+        let text = if url == 0 {
+            let mut text = vec![0; base64::padded_letters(data.len())];
+            base64::write_padded(data, &mut text);
+            text
+        } else {
+            let mut text = vec![0; base64::letters(data.len())];
+            base64::write_url(data, &mut text);
+            text
+        };
+        written(put(&text, output))
+    }
+
+    fn unbase64(&self, url: u32, text: &[u8], output: &mut [u8]) -> Written {
+        let mut data = vec![0; text.len()];
+        let length = if url == 0 { base64::read_padded(text, &mut data) } else { base64::read_url(text, &mut data) };
+        written(match length {
+            Some(length) => put(&data[..length], output),
+            None => Err(22),
+        })
+    }
+}

@@ -1,0 +1,331 @@
+//! One call by the library and by the peer on the same bytes, and everything compared: the answer, and every buffer with
+//! a canary before and behind it.
+
+use std::fmt::Debug;
+
+use crate::calls::{Calls, Part, Peer, TakenOver, Written};
+use crate::device::Library;
+use crate::receipt::Details;
+
+/// The calls in the order of the table, with the numbers that each can return.
+pub const CALLS: [(&str, &[u32]); 12] = [
+    ("settings", &[0, 1, 2, 3, 4, 23]),
+    ("figures", &[0]),
+    ("open", &[0, 1, 2, 3, 4, 5, 6]),
+    ("prepare", &[0, 6, 7, 8, 9, 10, 11, 13]),
+    ("issue", &[0, 6, 7, 8, 9, 10, 11, 12, 13]),
+    ("take_over", &[0, 4, 6, 14, 15, 16, 17, 18, 19, 20, 21]),
+    ("code", &[0, 22, 23]),
+    ("uncode", &[0, 23, 24]),
+    ("fields", &[0, 24]),
+    ("sha256", &[0, 23]),
+    ("base64", &[0, 23]),
+    ("unbase64", &[0, 22, 23]),
+];
+
+/// The highest number of the paper's calls.
+const NUMBERS: usize = 25;
+
+const CANARY: usize = 48;
+
+/// Bytes between two canaries.
+#[derive(Clone, PartialEq, Eq)]
+pub struct Guarded {
+    bytes: Vec<u8>,
+}
+
+impl Guarded {
+    pub fn of(content: &[u8]) -> Self {
+        let mut bytes = Vec::with_capacity(content.len() + 2 * CANARY);
+        bytes.extend((0..CANARY).map(|i| 0xc0 ^ i as u8));
+        bytes.extend_from_slice(content);
+        bytes.extend((0..CANARY).map(|i| 0x3f ^ i as u8));
+        Guarded { bytes }
+    }
+
+    pub fn get(&self) -> &[u8] {
+        &self.bytes[CANARY..self.bytes.len() - CANARY]
+    }
+
+    pub fn get_mut(&mut self) -> &mut [u8] {
+        let end = self.bytes.len() - CANARY;
+        &mut self.bytes[CANARY..end]
+    }
+}
+
+/// What was found: the call, its inputs, and both answers, to be printed.
+#[derive(Debug)]
+pub struct Difference {
+    pub text: String,
+}
+
+pub type Compared<T> = Result<T, Difference>;
+
+pub fn hex(bytes: &[u8]) -> String {
+    bytes.iter().map(|byte| format!("{byte:02x}")).collect()
+}
+
+/// Both sides, and how often each call returned each number.
+pub struct Compare {
+    pub comparisons: u64,
+    tally: [[u64; NUMBERS]; CALLS.len()],
+}
+
+impl Default for Compare {
+    fn default() -> Self {
+        Compare { comparisons: 0, tally: [[0; NUMBERS]; CALLS.len()] }
+    }
+}
+
+impl Compare {
+    /// Does one call on both sides. `free` is the buffer that a refusal may change.
+    fn run<const BUFFERS: usize, Answer: Copy + PartialEq + Debug>(
+        &mut self,
+        call: &'static str,
+        values: &dyn Debug,
+        buffers: [(&str, &[u8]); BUFFERS],
+        free: Option<usize>,
+        work: impl Fn(&dyn Calls, &mut [Guarded; BUFFERS]) -> Answer,
+        number: impl Fn(Answer) -> u32,
+    ) -> Compared<(Answer, [Guarded; BUFFERS])> {
+        let before = buffers.map(|(_, bytes)| Guarded::of(bytes));
+        let (mut library, mut peer) = (before.clone(), before.clone());
+        let library_answer = work(&Library, &mut library);
+        let peer_answer = work(&Peer, &mut peer);
+        self.comparisons += 1;
+
+        let what = if library_answer != peer_answer {
+            "other answers"
+        } else if library != peer {
+            "other bytes in a buffer or around it"
+        } else if number(library_answer) != 0 && (0..BUFFERS).any(|i| Some(i) != free && library[i] != before[i]) {
+            "refused, and a buffer is changed"
+        } else {
+            let number = number(library_answer);
+            let row = CALLS.iter().position(|(name, _)| *name == call).expect("a call of the table");
+            if CALLS[row].1.contains(&number) {
+                self.tally[row][number as usize] += 1;
+                return Ok((peer_answer, peer));
+            }
+            "a number that this call does not have"
+        };
+
+        let mut text = format!("{what}\ncall {call}\n");
+        if !format!("{values:?}").is_empty() {
+            text += &format!("values {values:?}\n");
+        }
+        for (name, bytes) in buffers {
+            text += &format!("{name} ({} bytes) {}\n", bytes.len(), hex(bytes));
+        }
+        text += &format!("library answers {library_answer:?}\npeer answers    {peer_answer:?}\n");
+        for i in 0..BUFFERS {
+            let name = buffers[i].0;
+            if library[i] != before[i] || peer[i] != before[i] {
+                text += &format!("{name} after, library (with canaries) {}\n", hex(&library[i].bytes));
+                text += &format!("{name} after, peer (with canaries)    {}\n", hex(&peer[i].bytes));
+            }
+        }
+        Err(Difference { text })
+    }
+
+    /// Settings; `output` is what lies there before.
+    pub fn settings(
+        &mut self,
+        csp: &[u8],
+        id: &[u8],
+        serial: &[u8],
+        width: usize,
+        key: &[u8],
+        output: &mut [u8],
+    ) -> Compared<u32> {
+        let (number, after) = self.run(
+            "settings",
+            &format_args!("width {width}"),
+            [("csp", csp), ("id", id), ("serial", serial), ("key", key), ("settings", output)],
+            None,
+            |side, [csp, id, serial, key, settings]| {
+                side.settings(csp.get(), id.get(), serial.get(), width, key.get(), settings.get_mut())
+            },
+            |number| number,
+        )?;
+        output.copy_from_slice(after[4].get());
+        Ok(number)
+    }
+
+    /// The four figures that a state says.
+    pub fn figures(&mut self, state: &[u8]) -> Compared<()> {
+        self.run(
+            "figures",
+            &format_args!(""),
+            [("state", state)],
+            None,
+            |side, [state]| {
+                let state = state.get();
+                (side.counter(state), side.last_number(state), side.receipts(state), side.journal_length(state))
+            },
+            |_| 0,
+        )?;
+        Ok(())
+    }
+
+    pub fn open(&mut self, settings: &[u8], journal: &mut [u8], state: &mut [u8]) -> Compared<u32> {
+        let (number, after) = self.run(
+            "open",
+            &format_args!(""),
+            [("settings", settings), ("journal", journal), ("state", state)],
+            Some(2),
+            |side, [settings, journal, state]| side.open(settings.get(), journal.get_mut(), state.get_mut()),
+            |number| number,
+        )?;
+        journal.copy_from_slice(after[1].get());
+        state.copy_from_slice(after[2].get());
+        Ok(number)
+    }
+
+    pub fn prepare(&mut self, state: &[u8], details: &Details, output: &mut [u8]) -> Compared<Written> {
+        let (written, after) = self.run(
+            "prepare",
+            details,
+            [("state", state), ("output", output)],
+            None,
+            |side, [state, output]| side.prepare(state.get(), details, output.get_mut()),
+            |written| written.number,
+        )?;
+        output.copy_from_slice(after[1].get());
+        Ok(written)
+    }
+
+    pub fn issue(
+        &mut self,
+        state: &mut [u8],
+        details: &Details,
+        signature: &[u8],
+        journal: &mut [u8],
+    ) -> Compared<u32> {
+        let (number, after) = self.run(
+            "issue",
+            details,
+            [("state", state), ("signature", signature), ("journal", journal)],
+            None,
+            |side, [state, signature, journal]| {
+                side.issue(state.get_mut(), details, signature.get(), journal.get_mut())
+            },
+            |number| number,
+        )?;
+        state.copy_from_slice(after[0].get());
+        journal.copy_from_slice(after[2].get());
+        Ok(number)
+    }
+
+    pub fn take_over(&mut self, journal: &[u8], key: &[u8], width: usize, state: &mut [u8]) -> Compared<TakenOver> {
+        let (taken, after) = self.run(
+            "take_over",
+            &format_args!("width {width}"),
+            [("journal", journal), ("key", key), ("state", state)],
+            Some(2),
+            |side, [journal, key, state]| side.take_over(journal.get(), key.get(), width, state.get_mut()),
+            |taken| taken.number,
+        )?;
+        state.copy_from_slice(after[2].get());
+        Ok(taken)
+    }
+
+    pub fn code(&mut self, form: &[u8], output: &mut [u8]) -> Compared<Written> {
+        let (written, after) = self.run(
+            "code",
+            &format_args!(""),
+            [("form", form), ("output", output)],
+            None,
+            |side, [form, output]| side.code(form.get(), output.get_mut()),
+            |written| written.number,
+        )?;
+        output.copy_from_slice(after[1].get());
+        Ok(written)
+    }
+
+    pub fn uncode(&mut self, code: &[u8], output: &mut [u8]) -> Compared<Written> {
+        let (written, after) = self.run(
+            "uncode",
+            &format_args!(""),
+            [("code", code), ("output", output)],
+            None,
+            |side, [code, output]| side.uncode(code.get(), output.get_mut()),
+            |written| written.number,
+        )?;
+        output.copy_from_slice(after[1].get());
+        Ok(written)
+    }
+
+    pub fn fields(&mut self, code: &[u8]) -> Compared<Part> {
+        let (part, _) = self.run(
+            "fields",
+            &format_args!(""),
+            [("code", code)],
+            None,
+            |side, [code]| side.fields(code.get()),
+            |part| part.number,
+        )?;
+        Ok(part)
+    }
+
+    pub fn sha256(&mut self, data: &[u8], output: &mut [u8]) -> Compared<u32> {
+        let (number, after) = self.run(
+            "sha256",
+            &format_args!(""),
+            [("data", data), ("output", output)],
+            None,
+            |side, [data, output]| side.sha256(data.get(), output.get_mut()),
+            |number| number,
+        )?;
+        output.copy_from_slice(after[1].get());
+        Ok(number)
+    }
+
+    pub fn base64(&mut self, url: u32, data: &[u8], output: &mut [u8]) -> Compared<Written> {
+        let (written, after) = self.run(
+            "base64",
+            &format_args!("url {url}"),
+            [("data", data), ("output", output)],
+            None,
+            |side, [data, output]| side.base64(url, data.get(), output.get_mut()),
+            |written| written.number,
+        )?;
+        output.copy_from_slice(after[1].get());
+        Ok(written)
+    }
+
+    pub fn unbase64(&mut self, url: u32, text: &[u8], output: &mut [u8]) -> Compared<Written> {
+        let (written, after) = self.run(
+            "unbase64",
+            &format_args!("url {url}"),
+            [("text", text), ("output", output)],
+            None,
+            |side, [text, output]| side.unbase64(url, text.get(), output.get_mut()),
+            |written| written.number,
+        )?;
+        output.copy_from_slice(after[1].get());
+        Ok(written)
+    }
+
+    /// How often each call returned each number, one line for each call.
+    pub fn table(&self) -> String {
+        let mut text = String::new();
+        for (row, (name, numbers)) in CALLS.iter().enumerate() {
+            text += &format!("{name:<10}");
+            for &number in *numbers {
+                text += &format!(" {number}:{}", self.tally[row][number as usize]);
+            }
+            text += "\n";
+        }
+        text
+    }
+
+    /// The calls with a number that never occurred.
+    pub fn missing(&self) -> Vec<(&'static str, u32)> {
+        let mut missing = Vec::new();
+        for (row, (name, numbers)) in CALLS.iter().enumerate() {
+            missing.extend(numbers.iter().filter(|n| self.tally[row][**n as usize] == 0).map(|n| (*name, *n)));
+        }
+        missing
+    }
+}

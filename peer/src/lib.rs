@@ -1,0 +1,23 @@
+//! The receipt journal of a cash register in plain Rust, written from the paper alone: the peer of libdevice.a, which it
+//! is compared with.
+
+pub mod base64;
+#[cfg(feature = "device")]
+pub mod bench;
+pub mod calls;
+pub mod code;
+#[cfg(feature = "device")]
+pub mod compare;
+pub mod crypto;
+#[cfg(feature = "device")]
+pub mod device;
+pub mod layout;
+pub mod model;
+pub mod random;
+pub mod receipt;
+pub mod register;
+#[cfg(feature = "device")]
+pub mod rounds;
+pub mod sample;
+pub mod settings;
+pub mod text;

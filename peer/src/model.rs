@@ -1,0 +1,152 @@
+//! A journal in its parts, to be changed and put together again.
+
+use crate::base64;
+use crate::crypto::Aes256;
+use crate::receipt::{Kind, chain_value, counter_after, counter_iv, encrypt_counter, read_amount, read_compact};
+
+pub fn url_text(data: &[u8]) -> Vec<u8> {
+    let mut text = vec![0; base64::letters(data.len())];
+    base64::write_url(data, &mut text);
+    text
+}
+
+pub fn padded_text(data: &[u8]) -> Vec<u8> {
+    let mut text = vec![0; base64::padded_letters(data.len())];
+    base64::write_padded(data, &mut text);
+    text
+}
+
+/// The places of the fields in a payload.
+pub const NUMBER: usize = 2;
+pub const FIRST_AMOUNT: usize = 4;
+pub const COUNTER: usize = 9;
+pub const CHAIN: usize = 11;
+
+#[derive(Clone)]
+pub struct Entry {
+    /// The first element as it is written.
+    pub header: Vec<u8>,
+    /// The payload is `lead` and the fields joined by "_".
+    pub lead: Vec<u8>,
+    pub fields: Vec<Vec<u8>>,
+    pub signature: Vec<u8>,
+    /// Stands for all of the above.
+    pub raw: Option<Vec<u8>>,
+    /// Its spelling was changed.
+    pub respelled: bool,
+}
+
+impl Entry {
+    /// The parts of a well spelled compact form.
+    pub fn of(form: &[u8]) -> Entry {
+        let parts = read_compact(form).expect("well spelled");
+        let fields = parts.payload()[1..].split(|&byte| byte == b'_').map(<[u8]>::to_vec).collect();
+        Entry {
+            header: form.split(|&byte| byte == b'.').next().expect("an element").to_vec(),
+            lead: b"_".to_vec(),
+            fields,
+            signature: parts.signature().to_vec(),
+            raw: None,
+            respelled: false,
+        }
+    }
+
+    pub fn payload(&self) -> Vec<u8> {
+        [&self.lead[..], &self.fields.join(&b'_')[..]].concat()
+    }
+
+    pub fn form(&self) -> Vec<u8> {
+        match &self.raw {
+            Some(raw) => raw.clone(),
+            None => [&self.header[..], &url_text(&self.payload()), &url_text(&self.signature)].join(&b'.'),
+        }
+    }
+
+    /// By the counter field.
+    pub fn kind(&self) -> Kind {
+        match self.fields.get(COUNTER).map(|field| &field[..]) {
+            Some(b"U1RP") => Kind::Cancellation,
+            Some(b"VFJB") => Kind::Training,
+            _ => Kind::Standard,
+        }
+    }
+
+    /// Five amounts, 0 where one can't be read.
+    pub fn amounts(&self) -> [i64; 5] {
+        std::array::from_fn(|i| self.fields.get(FIRST_AMOUNT + i).and_then(|field| read_amount(field)).unwrap_or(0))
+    }
+}
+
+#[derive(Clone)]
+pub struct Journal {
+    pub csp: Vec<u8>,
+    pub id: Vec<u8>,
+    pub serial: Vec<u8>,
+    pub count: u32,
+    pub entries: Vec<Entry>,
+}
+
+impl Journal {
+    /// The parts of a valid journal.
+    pub fn of(journal: &[u8]) -> Journal {
+        let mut rest = journal;
+        let mut take = |length: usize| {
+            let (taken, behind) = rest.split_at(length);
+            rest = behind;
+            taken.to_vec()
+        };
+        let number = |bytes: Vec<u8>| bytes.iter().fold(0usize, |number, &byte| number << 8 | byte as usize);
+        let [csp, id, serial] = std::array::from_fn(|_| {
+            let length = number(take(4));
+            take(length)
+        });
+        let count = number(take(4));
+        let entries = (0..count)
+            .map(|_| {
+                let length = number(take(2));
+                Entry::of(&take(length))
+            })
+            .collect();
+        Journal { csp, id, serial, count: count as u32, entries }
+    }
+
+    pub fn bytes(&self) -> Vec<u8> {
+        let mut bytes = Vec::new();
+        for section in [&self.csp, &self.id, &self.serial] {
+            bytes.extend((section.len() as u32).to_be_bytes());
+            bytes.extend(section);
+        }
+        bytes.extend(self.count.to_be_bytes());
+        for entry in &self.entries {
+            let form = entry.form();
+            bytes.extend((form.len() as u16).to_be_bytes());
+            bytes.extend(form);
+        }
+        bytes
+    }
+
+    /// Makes the chain fields right from this entry on, raw entries aside.
+    pub fn chain_right(&mut self, from: usize) {
+        for i in from..self.entries.len() {
+            let previous = if i == 0 { self.id.clone() } else { self.entries[i - 1].form() };
+            if let Some(field) = self.entries[i].fields.get_mut(CHAIN) {
+                *field = padded_text(&chain_value(&previous));
+            }
+        }
+    }
+
+    /// Makes the counter fields of standard receipts right from this entry on; a sum that doesn't fit loses its upper
+    /// bytes.
+    pub fn counters_right(&mut self, from: usize, key: &[u8; 32], width: usize) {
+        let aes = Aes256::new(key);
+        let mut counter = 0;
+        for (i, entry) in self.entries.iter_mut().enumerate() {
+            let kind = entry.kind();
+            counter = counter_after(counter, kind, &entry.amounts()) as i64;
+            if i >= from && kind == Kind::Standard && entry.fields.len() > COUNTER {
+                let iv = counter_iv(&self.id, &entry.fields[NUMBER]);
+                entry.fields[COUNTER] = padded_text(&encrypt_counter(&aes, &iv, counter, width)[..width]);
+            }
+        }
+    }
+}

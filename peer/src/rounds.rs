@@ -1,0 +1,1191 @@
+//! The rounds of the differential run. A round is made from the seed and its number alone, so that it can be repeated.
+
+use crate::calls::{Calls, Peer};
+use crate::compare::{Compare, Compared, Difference, hex};
+use crate::layout::{SETTINGS, STATE, settings_bytes, state_bytes, state_of};
+use crate::model::{CHAIN, COUNTER, Entry, FIRST_AMOUNT, Journal, NUMBER, padded_text, url_text};
+use crate::random::Random;
+use crate::receipt::{
+    AMOUNT_LIMIT, Details, FAILURE, Kind, LONGEST_COMPACT, LONGEST_INPUT, chain_value, read_compact, read_entry,
+};
+use crate::register::State;
+use crate::sample;
+use crate::settings::{Name, Settings};
+
+/// Does one round.
+pub fn round(compare: &mut Compare, seed: u64, number: u64) -> Compared<()> {
+    let mut round = Round { random: Random::of(seed, number), compare };
+    round.primitives()?;
+    round.settings()?;
+    round.opening()?;
+    for _ in 0..12 {
+        round.state_made_by_hand()?;
+    }
+    round.spoiled_bytes_of_a_state()?;
+
+    let written = round.call_list()?;
+    round.taken_over(&written)?;
+    for _ in 0..16 {
+        round.damaged(&written)?;
+    }
+    for _ in 0..24 {
+        round.rebuilt(&written)?;
+    }
+    round.wrong_by_design(&written)?;
+    round.sums_at_the_end()?;
+    if round.random.once_in(16) {
+        round.cut_everywhere(&written)?;
+        round.every_bit_of_the_head(&written)?;
+    }
+    if round.random.once_in(256) {
+        round.long_journal()?;
+    }
+    for _ in 0..4 {
+        round.codes_of(&written)?;
+    }
+    for _ in 0..8 {
+        round.free_codes()?;
+    }
+    Ok(())
+}
+
+/// A journal that a list of calls wrote, and under what.
+struct Accepted {
+    settings: Settings,
+    journal: Vec<u8>,
+}
+
+impl Accepted {
+    fn width(&self) -> usize {
+        self.settings.width as usize
+    }
+}
+
+struct Round<'a> {
+    random: Random,
+    compare: &'a mut Compare,
+}
+
+impl Round<'_> {
+    /// Random bytes of a length: what lies in a buffer before the call.
+    fn garbage(&self, length: usize) -> Vec<u8> {
+        self.random.bytes(length)
+    }
+
+    /// A length to give for an output that needs `needed` bytes: exact, one short, none, or more.
+    fn room(&self, needed: usize) -> usize {
+        match self.random.below(5) {
+            0 => needed.saturating_sub(1),
+            1 => needed + 1 + self.random.below(40),
+            2 if self.random.once_in(4) => self.random.below(needed + 1),
+            _ => needed,
+        }
+    }
+
+    /// The same bytes in another length, as 155 or 123 bytes must not be.
+    fn other_length(&self, bytes: &[u8]) -> Vec<u8> {
+        let length = bytes.len();
+        let other = self.random.pick(&[0, 1, length - 1, length + 1, 2 * length]);
+        let mut longer = bytes.to_vec();
+        longer.resize(other, 0);
+        longer
+    }
+
+    // ---- primitives
+
+    fn primitives(&mut self) -> Compared<()> {
+        for _ in 0..3 {
+            let length = self.random.pick(&[0, 1, 55, 56, 57, 63, 64, 65, 119, 120, 128, self.random.below(600)]);
+            let data = self.garbage(length);
+            let room = self.random.pick(&[0, 31, 32, 32, 32, 33, 64]);
+            let mut output = self.garbage(room);
+            self.compare.sha256(&data, &mut output)?;
+        }
+        for _ in 0..3 {
+            let url = self.random.pick(&[0, 1, 0, 1, 2, 256, u32::MAX]);
+            let length = self.random.pick(&[0, 1, 2, 3, 8, 34, 64, self.random.below(400)]);
+            let data = self.garbage(length);
+            let mut text = if url == 0 { padded_text(&data) } else { url_text(&data) };
+            let room = self.room(text.len());
+            let mut output = self.garbage(room);
+            self.compare.base64(url, &data, &mut output)?;
+
+            match self.random.below(4) {
+                0 => (),
+                1 => self.respell_base64(&mut text),
+                2 => self.damage_bytes(&mut text),
+                _ => text = self.letters(),
+            }
+            let room = self.room(length);
+            let mut output = self.garbage(room);
+            self.compare.unbase64(url, &text, &mut output)?;
+        }
+        Ok(())
+    }
+
+    /// Letters of BASE64 in any order, with some padding.
+    fn letters(&self) -> Vec<u8> {
+        let length = self.random.below(14);
+        let mut text: Vec<u8> = (0..length).map(|_| self.random.pick(b"ABQgwxyz0189+/-_=")).collect();
+        text.resize(length + self.random.below(4), b'=');
+        text
+    }
+
+    /// One thing wrong with a text of BASE64 that is easily let through.
+    fn respell_base64(&self, text: &mut Vec<u8>) {
+        const ORDER: &[u8] = b"ABCDEFGHIJKLMNOPQRSTUVWXYZabcdefghijklmnopqrstuvwxyz0123456789+/";
+        let letters = text.iter().rposition(|&byte| byte != b'=').map_or(0, |place| place + 1);
+        match self.random.below(7) {
+            // other bits in the last letter: unused ones where the group isn't whole
+            0 | 1 if letters > 0 => {
+                let value = ORDER.iter().position(|&letter| letter == text[letters - 1]).unwrap_or(62);
+                text[letters - 1] = ORDER[value ^ self.random.pick(&[1, 2, 3, 4, 8, 15])];
+            }
+            2 => text.truncate(letters),
+            3 => text.push(b'='),
+            4 => {
+                text.pop();
+            }
+            5 if letters > 0 => {
+                let place = self.random.below(letters);
+                text[place] = self.random.pick(b"+/-_=.,@[`{ \n\0\x80\xff");
+            }
+            _ => {
+                let place = self.random.below(text.len() + 1);
+                text.insert(place, self.random.pick(b"A=\n \r"));
+            }
+        }
+    }
+
+    // ---- settings and open
+
+    fn settings(&mut self) -> Compared<()> {
+        for _ in 0..6 {
+            let mut csp = sample::csp(&self.random).to_vec();
+            let mut id = sample::id(&self.random);
+            let mut serial = sample::serial(&self.random);
+            let mut width = self.random.between(5, 8) as usize;
+            let mut key = sample::key(&self.random).to_vec();
+            let mut room = SETTINGS;
+            // none, one or two things wrong
+            for _ in 0..self.random.below(3) {
+                match self.random.below(10) {
+                    0 => csp = sample::bad_csp(&self.random).to_vec(),
+                    1 => csp = self.random.pick(&[&b""[..], b"AT", b"AT00", b"A", b"ATAT0"]).to_vec(),
+                    2 => {
+                        let place = self.random.below(id.len());
+                        id[place] = sample::no_id_byte(&self.random);
+                    }
+                    3 => id = vec![b'~'; self.random.pick(&[0, 33, 34, 256 + 3, 65_536 + 1])],
+                    4 => {
+                        let place = self.random.below(serial.len());
+                        serial[place] = sample::no_serial_byte(&self.random);
+                    }
+                    5 => serial = vec![b'a'; self.random.pick(&[0, 33, 64, 256 + 3])],
+                    6 => width = sample::bad_width(&self.random) as usize,
+                    7 => key = vec![9; self.random.pick(&[0, 1, 31, 33, 64])],
+                    _ => room = self.random.pick(&[0, 1, 122, 124, 155]),
+                }
+                if id.is_empty() || serial.is_empty() {
+                    break;
+                }
+            }
+            let mut output = self.garbage(room);
+            self.compare.settings(&csp, &id, &serial, width, &key, &mut output)?;
+        }
+        Ok(())
+    }
+
+    fn opening(&mut self) -> Compared<()> {
+        for _ in 0..6 {
+            let mut settings = sample::settings(&self.random);
+            let head = settings.head_length();
+            for _ in 0..self.random.pick(&[0, 1, 1, 2]) {
+                settings = {
+                    let mut spoiled = settings;
+                    // spoiling starts from a good name
+                    if settings.good().is_ok() {
+                        sample::spoil_settings(&self.random, &mut spoiled);
+                    } else {
+                        spoiled.width = sample::bad_width(&self.random);
+                    }
+                    spoiled
+                };
+            }
+            let mut bytes = settings_bytes(&settings).to_vec();
+            if self.random.once_in(8) {
+                bytes = self.other_length(&bytes);
+            }
+            let room = match self.random.below(4) {
+                0 => head - 1,
+                1 => self.random.pick(&[0, 4, head - 4, head + 1]),
+                2 => head + self.random.below(300),
+                _ => head,
+            };
+            let mut journal = self.garbage(room);
+            let mut state = self.garbage(STATE);
+            if self.random.once_in(8) {
+                state = self.other_length(&state);
+            }
+            self.compare.open(&bytes, &mut journal, &mut state)?;
+            self.compare.figures(&state)?;
+        }
+        Ok(())
+    }
+
+    // ---- a list of calls
+
+    /// Open and a list of calls, refused ones among them; then the journal is taken over and written again.
+    fn call_list(&mut self) -> Compared<Accepted> {
+        let given = sample::settings(&self.random);
+        let mut settings = [0; SETTINGS];
+        let number = self.compare.settings(
+            &given.csp,
+            given.id(),
+            given.serial(),
+            given.width as usize,
+            &given.key,
+            &mut settings,
+        )?;
+        let room = given.head_length() + self.random.pick(&[1000, 2000, 4000, self.random.below(3000)]);
+        let mut journal = self.garbage(room);
+        let mut state = self.garbage(STATE);
+        let opened = self.compare.open(&settings, &mut journal, &mut state)?;
+        self.demand((number, opened) == (0, 0), "good settings are opened", &journal)?;
+
+        for _ in 0..1 + self.random.below(14) {
+            let held = state_of(&state);
+            let mut details = sample::details(&self.random, &held);
+            for _ in 0..self.random.pick(&[0, 0, 0, 1, 1, 2]) {
+                sample::spoil_details(&self.random, &mut details, &held);
+            }
+            let signature = if self.random.once_in(8) {
+                sample::bad_signature(&self.random)
+            } else {
+                sample::signature(&self.random)
+            };
+            self.prepared(&state, &details)?;
+            if self.random.once_in(4) {
+                self.issued_into_room(&state, &details, &signature, &journal)?;
+            }
+            self.compare.issue(&mut state, &details, &signature, &mut journal)?;
+            self.compare.figures(&state)?;
+        }
+
+        journal.truncate(state_of(&state).journal_length as usize);
+        let mut taken = self.garbage(STATE);
+        let answer = self.compare.take_over(&journal, &given.key, given.width as usize, &mut taken)?;
+        self.demand(answer.number == 0, "the journal of a list is accepted", &journal)?;
+        self.demand(taken == state, "the state taken over is the one of the list", &journal)?;
+        let accepted = Accepted { settings: given, journal };
+        self.written_again(&accepted)?;
+        Ok(accepted)
+    }
+
+    /// What must hold of both sides together.
+    fn demand(&self, holds: bool, what: &str, journal: &[u8]) -> Compared<()> {
+        if holds {
+            return Ok(());
+        }
+        Err(Difference { text: format!("does not hold: {what}\njournal {}\n", hex(journal)) })
+    }
+
+    /// Prepare into outputs of some lengths.
+    fn prepared(&mut self, state: &[u8], details: &Details) -> Compared<()> {
+        let needed = Peer.prepare(state, details, &mut [0; LONGEST_INPUT]).length;
+        let room = self.room(needed);
+        let mut output = self.garbage(room);
+        self.compare.prepare(state, details, &mut output)?;
+        Ok(())
+    }
+
+    /// Issue into a copy of the buffer that is exactly long enough, or one byte short.
+    fn issued_into_room(&mut self, state: &[u8], details: &Details, signature: &[u8], journal: &[u8]) -> Compared<()> {
+        let mut after = state.to_vec();
+        let mut wide = journal.to_vec();
+        wide.resize(journal.len() + 2 + LONGEST_COMPACT, 0x5a);
+        if Peer.issue(&mut after, details, signature, &mut wide) != 0 {
+            return Ok(());
+        }
+        let end = state_of(&after).journal_length as usize;
+        let held = state_of(state).journal_length as usize;
+        for length in [end, end - 1, end + 1, held, held + 1] {
+            let mut buffer = wide.clone();
+            buffer.truncate(length);
+            let mut copy = state.to_vec();
+            self.compare.issue(&mut copy, details, signature, &mut buffer)?;
+        }
+        Ok(())
+    }
+
+    /// Writes an accepted journal again, entry by entry, as demand 3 says.
+    fn written_again(&mut self, accepted: &Accepted) -> Compared<()> {
+        let mut journal = self.garbage(accepted.journal.len());
+        let mut state = [0; STATE];
+        self.compare.open(&settings_bytes(&accepted.settings), &mut journal, &mut state)?;
+        for entry in Journal::of(&accepted.journal).entries {
+            let form = entry.form();
+            let receipt = read_entry(&accepted.settings, &form).expect("accepted");
+            let parts = read_compact(&form).expect("accepted");
+            let signature = if parts.signature() == FAILURE { &[] } else { parts.signature() };
+            let details = Details {
+                number: receipt.number,
+                date: receipt.date,
+                amounts: receipt.amounts,
+                kind: match receipt.kind {
+                    Kind::Standard => 0,
+                    Kind::Cancellation => 1,
+                    Kind::Training => 2,
+                },
+            };
+            let number = self.compare.issue(&mut state, &details, signature, &mut journal)?;
+            self.demand(number == 0, "a receipt of an accepted journal is issued", &accepted.journal)?;
+        }
+        self.demand(journal == accepted.journal, "the journal written again is the same", &accepted.journal)
+    }
+
+    // ---- states made by hand
+
+    /// A state made by hand, sound or not, through every call that takes one.
+    fn state_made_by_hand(&mut self) -> Compared<()> {
+        let mut state = sample::sound_state(&self.random, 300);
+        let mut details = sample::details(&self.random, &state);
+        let signature = sample::signature(&self.random);
+        let room = state.journal_length as usize + self.random.pick(&[0, 1, 200, 370, 400]);
+        let journal = self.garbage(room);
+
+        if self.random.once_in(3) {
+            for _ in 0..1 + self.random.below(2) {
+                sample::spoil_details(&self.random, &mut details, &state);
+            }
+        }
+        if self.random.once_in(3) {
+            sample::spoil_state(&self.random, &mut state, room);
+        } else if self.random.once_in(8) {
+            // the journal's length is not asked by Prepare, but for the head
+            state.journal_length = self.random.pick(&[u64::MAX, 1 << 63, room as u64 + 1]);
+        }
+        let mut bytes = state_bytes(&state).to_vec();
+        if self.random.once_in(10) {
+            bytes = self.other_length(&bytes);
+        }
+        self.compare.figures(&bytes)?;
+        self.prepared(&bytes, &details)?;
+        if self.random.once_in(2) {
+            self.issued_into_room(&bytes, &details, &signature, &journal)?;
+        }
+        let signature = if self.random.once_in(10) { sample::bad_signature(&self.random) } else { signature };
+        self.issued(bytes, &details, &signature, journal)
+    }
+
+    fn issued(
+        &mut self,
+        mut state: Vec<u8>,
+        details: &Details,
+        signature: &[u8],
+        mut journal: Vec<u8>,
+    ) -> Compared<()> {
+        self.compare.issue(&mut state, details, signature, &mut journal)?;
+        Ok(())
+    }
+
+    /// A sound state with one bit or byte of its 155 changed, and 155 random bytes.
+    fn spoiled_bytes_of_a_state(&mut self) -> Compared<()> {
+        for _ in 0..6 {
+            let state = sample::sound_state(&self.random, 20);
+            let details = sample::details(&self.random, &state);
+            let mut bytes = state_bytes(&state).to_vec();
+            match self.random.below(4) {
+                0 => bytes = self.garbage(STATE),
+                1 => {
+                    let place = self.random.below(STATE);
+                    bytes[place] = self.random.byte();
+                }
+                _ => {
+                    let bit = self.random.below(8 * STATE);
+                    bytes[bit / 8] ^= 1 << (bit % 8);
+                }
+            }
+            self.compare.figures(&bytes)?;
+            self.prepared(&bytes, &details)?;
+            let journal = self.garbage(500);
+            self.issued(bytes, &details, &[], journal)?;
+        }
+        Ok(())
+    }
+
+    // ---- journals taken over
+
+    fn take_over(&mut self, accepted: &Accepted, journal: &[u8]) -> Compared<()> {
+        let mut state = self.garbage(STATE);
+        self.compare.take_over(journal, &accepted.settings.key, accepted.width(), &mut state)?;
+        Ok(())
+    }
+
+    /// An accepted journal under other keys, widths, lengths of key and state.
+    fn taken_over(&mut self, accepted: &Accepted) -> Compared<()> {
+        let journal = &accepted.journal;
+        let key = accepted.settings.key;
+        for width in [5, 6, 7, 8, sample::bad_width(&self.random) as usize] {
+            let mut state = self.garbage(STATE);
+            self.compare.take_over(journal, &key, width, &mut state)?;
+        }
+        let mut other = key;
+        other[self.random.below(32)] ^= 1 << self.random.below(8);
+        let mut state = self.garbage(STATE);
+        self.compare.take_over(journal, &other, accepted.width(), &mut state)?;
+        let wrong = self.random.pick(&[0, 1, 31, 33]);
+        self.compare.take_over(journal, &vec![9; wrong], accepted.width(), &mut state)?;
+        let mut state = self.other_length(&state);
+        let width = self.random.pick(&[accepted.width(), 4]);
+        self.compare.take_over(journal, &key, width, &mut state)?;
+        Ok(())
+    }
+
+    /// One or more changes to any bytes.
+    fn damage_bytes(&self, bytes: &mut Vec<u8>) {
+        if bytes.is_empty() {
+            bytes.push(self.random.byte());
+            return;
+        }
+        let place = self.random.below(bytes.len());
+        match self.random.below(7) {
+            0 | 1 => bytes[place] ^= 1 << self.random.below(8),
+            2 => bytes[place] = self.random.byte(),
+            3 => bytes[place] = self.random.pick(b"_.=-,0T\0\xff"),
+            4 => bytes.insert(place, self.random.pick(b"_.=A0\0")),
+            5 => {
+                bytes.remove(place);
+            }
+            _ => bytes.truncate(place),
+        }
+    }
+
+    /// The bytes of an accepted journal, damaged.
+    fn damaged(&mut self, accepted: &Accepted) -> Compared<()> {
+        let mut journal = accepted.journal.clone();
+        let head = accepted.settings.head_length();
+        match self.random.below(10) {
+            // the head: a count, or a byte
+            0 => {
+                let id = accepted.settings.id().len();
+                let place = self.random.pick(&[0, 7, 11 + id, head - 4]);
+                let count = u32::from_be_bytes(*journal[place..].first_chunk().expect("a count"));
+                let other = self.random.pick(&[
+                    count.wrapping_add(1),
+                    count.wrapping_sub(1),
+                    0,
+                    1,
+                    32,
+                    33,
+                    u32::MAX,
+                    count | 0x0100_0000,
+                    count | 0x8000_0000,
+                ]);
+                journal[place..place + 4].copy_from_slice(&other.to_be_bytes());
+            }
+            1 => {
+                let place = self.random.below(head);
+                journal[place] = self.random.pick(b"_ \0a0A\x7f\xff");
+            }
+            // bytes behind
+            2 => {
+                let behind = self.random.pick(&[1, 2, 3, 4, 300]);
+                journal.extend(self.garbage(behind));
+            }
+            // the length of an entry
+            3 if journal.len() > head => {
+                let places = entry_places(&journal, head);
+                let place = places[self.random.below(places.len())];
+                let length = u16::from_be_bytes([journal[place], journal[place + 1]]);
+                let rest = (journal.len() - place - 2) as u16;
+                let other = self.random.pick(&[
+                    length.wrapping_add(1),
+                    length.wrapping_sub(1),
+                    0,
+                    u16::MAX,
+                    rest,
+                    rest.wrapping_add(1),
+                    length ^ 0x100,
+                ]);
+                journal[place..place + 2].copy_from_slice(&other.to_be_bytes());
+            }
+            // a byte cut out or put in and the entry's length made right
+            4 if journal.len() > head => {
+                let places = entry_places(&journal, head);
+                let place = places[self.random.below(places.len())];
+                let length = u16::from_be_bytes([journal[place], journal[place + 1]]) as usize;
+                let mut form = journal[place + 2..place + 2 + length].to_vec();
+                self.damage_bytes(&mut form);
+                let mut entry = (form.len() as u16).to_be_bytes().to_vec();
+                entry.extend(form);
+                journal.splice(place..place + 2 + length, entry);
+            }
+            // a cut
+            5 => journal.truncate(self.random.below(accepted.journal.len() + 1)),
+            6 if journal.len() > head => {
+                let places = entry_places(&journal, head);
+                let place = places[self.random.below(places.len())];
+                journal.truncate(place + self.random.below(3));
+            }
+            7 => journal = self.random_journal(),
+            _ => {
+                for _ in 0..1 + self.random.below(2) {
+                    self.damage_bytes(&mut journal);
+                }
+            }
+        }
+        self.take_over(accepted, &journal)
+    }
+
+    /// A head or a part of one and random bytes.
+    fn random_journal(&self) -> Vec<u8> {
+        let settings = sample::settings(&self.random);
+        let mut journal = vec![0; settings.head_length()];
+        settings.write_head(self.random.pick(&[0, 1, 2, u32::MAX]), &mut journal);
+        let behind = self.random.pick(&[0, 1, 2, 3, 300]);
+        journal.extend(self.garbage(behind));
+        if self.random.once_in(3) {
+            journal.truncate(self.random.below(journal.len() + 1));
+        }
+        journal
+    }
+
+    fn cut_everywhere(&mut self, accepted: &Accepted) -> Compared<()> {
+        for length in 0..accepted.journal.len() {
+            self.take_over(accepted, &accepted.journal[..length])?;
+        }
+        Ok(())
+    }
+
+    fn every_bit_of_the_head(&mut self, accepted: &Accepted) -> Compared<()> {
+        for bit in 0..8 * accepted.settings.head_length() {
+            let mut journal = accepted.journal.clone();
+            journal[bit / 8] ^= 1 << (bit % 8);
+            self.take_over(accepted, &journal)?;
+        }
+        Ok(())
+    }
+
+    /// An accepted journal with some of its parts changed, and mostly chain and counters of what follows made right
+    /// again, so that later questions are reached.
+    fn rebuilt(&mut self, accepted: &Accepted) -> Compared<()> {
+        let mut journal = Journal::of(&accepted.journal);
+        if journal.entries.is_empty() {
+            return self.take_over(accepted, &accepted.journal);
+        }
+        let mut first = journal.entries.len();
+        for _ in 0..self.random.pick(&[1, 1, 1, 2]) {
+            let place = self.random.below(journal.entries.len());
+            first = first.min(place);
+            match self.random.below(12) {
+                // swapped, dropped or doubled
+                0 => {
+                    let other = self.random.below(journal.entries.len());
+                    first = first.min(other);
+                    journal.entries.swap(place, other);
+                }
+                1 if journal.entries.len() > 1 => {
+                    journal.entries.remove(place);
+                    journal.count -= self.random.pick(&[0, 1, 1]);
+                }
+                2 => {
+                    let copy = journal.entries[place].clone();
+                    journal.entries.insert(place, copy);
+                    journal.count += self.random.pick(&[0, 1, 1]);
+                }
+                // signed again
+                3 => journal.entries[place].signature = self.random.pick(&[&[3; 64][..], FAILURE]).to_vec(),
+                4 => self.respell_compact(&mut journal.entries[place]),
+                5 | 6 => self.say_otherwise(&mut journal.entries[place]),
+                _ => self.respell_field(&mut journal.entries[place]),
+            }
+            if journal.entries.is_empty() {
+                break;
+            }
+        }
+        // the chain of the changed entry itself, too, but for a change of that very field
+        let from = first + self.random.below(2);
+        match self.random.below(8) {
+            0 => (),
+            1 | 2 => journal.chain_right(from),
+            _ => {
+                journal.counters_right(from, &accepted.settings.key, accepted.width());
+                journal.chain_right(from);
+            }
+        }
+        let bytes = journal.bytes();
+        self.take_over(accepted, &bytes)
+    }
+
+    /// Another spelling of one field, mostly a wrong one.
+    fn respell_field(&self, entry: &mut Entry) {
+        if std::mem::replace(&mut entry.respelled, true) {
+            return;
+        }
+        let place = self.random.below(15);
+        match place {
+            0 => {
+                let csp = entry.fields[0].split_off(3);
+                let csp = &csp[..];
+                let other = [csp[0] ^ 1, csp[1], csp[2]];
+                entry.fields[0] = match self.random.below(7) {
+                    0 => [b"R2-", csp].concat(),
+                    1 => [b"r1-", csp].concat(),
+                    2 => [b"R1_", csp].concat(),
+                    3 => [b"R1-", &other[..]].concat(),
+                    4 => [b"R1-", csp, b"0"].concat(),
+                    5 => csp.to_vec(),
+                    _ => b"R1-".to_vec(),
+                };
+            }
+            // ID and serial: another, a part, more
+            1 | 10 => {
+                let field = &mut entry.fields[place];
+                let last = field.len() - 1;
+                match self.random.below(5) {
+                    0 => field[last] ^= 1,
+                    1 => {
+                        field.pop();
+                    }
+                    2 => field.push(b'0'),
+                    3 => field.make_ascii_uppercase(),
+                    _ => field.clear(),
+                }
+            }
+            NUMBER => {
+                let number = String::from_utf8(entry.fields[NUMBER].clone()).expect("digits");
+                let value: u128 = number.parse().expect("digits");
+                entry.fields[NUMBER] = match self.random.below(12) {
+                    0 => "0".to_owned(),
+                    1 => format!("0{number}"),
+                    2 => format!("+{number}"),
+                    3 => format!("-{number}"),
+                    4 => format!(" {number}"),
+                    5 => String::new(),
+                    6 => "4294967296".to_owned(),
+                    7 => "4294967295".to_owned(),
+                    8 => (value + (1 << 32)).to_string(),
+                    9 => (value + (1 << 64)).to_string(),
+                    10 => number.replacen(|_| true, self.random.pick(&["/", ":", "a", "00"]), 1),
+                    _ => "9".repeat(self.random.pick(&[9, 10, 11, 19, 20, 40])),
+                }
+                .into_bytes();
+            }
+            3 => self.respell_date(&mut entry.fields[3]),
+            4..=8 => self.respell_amount(&mut entry.fields[place]),
+            COUNTER => self.respell_counter(&mut entry.fields[COUNTER]),
+            CHAIN => self.respell_chain(&mut entry.fields[CHAIN]),
+            12 => {
+                let field = self.random.below(12);
+                if self.random.once_in(2) {
+                    entry.fields.remove(field);
+                } else {
+                    let other = self.random.pick(&[&b""[..], b"0", b"0,00"]).to_vec();
+                    entry.fields.insert(field, other);
+                }
+            }
+            13 => {
+                let other = self.random.pick(&[&b""[..], b"0", b"0,00"]).to_vec();
+                entry.fields.push(other);
+            }
+            _ => entry.lead = self.random.pick(&[&b""[..], b"__", b"-", b" _"]).to_vec(),
+        }
+    }
+
+    fn respell_date(&self, field: &mut Vec<u8>) {
+        let two = |field: &mut Vec<u8>, place: usize, text: &[u8; 2]| field[place..place + 2].copy_from_slice(text);
+        match self.random.below(12) {
+            0 => field[10] = self.random.pick(b"Dt :-_"),
+            1 => {
+                let month = self.random.pick(&[b"00", b"13", b"99", b"1a", b":0"]);
+                two(field, 5, month);
+            }
+            2 => {
+                let day = self.random.pick(&[b"00", b"29", b"30", b"31", b"32", b"3:", b"/0"]);
+                two(field, 8, day);
+            }
+            3 => {
+                let hour = self.random.pick(&[b"24", b"23", b"2:", b"99"]);
+                two(field, 11, hour);
+            }
+            4 => {
+                let minute = self.random.pick(&[b"60", b"59", b"5:", b"99"]);
+                two(field, 14, minute);
+            }
+            5 => {
+                let second = self.random.pick(&[b"60", b"59", b"5:", b"99"]);
+                two(field, 17, second);
+            }
+            6 => {
+                let century = self.random.pick(&[b"19", b"21", b"00", b"99", b"2a"]);
+                two(field, 0, century);
+            }
+            7 => {
+                let year = self.random.pick(&[b"00", b"99", b"16", b"17"]);
+                two(field, 2, year);
+                field[5..10].copy_from_slice(b"02-29");
+            }
+            8 => {
+                let place = self.random.pick(&[4, 7, 13, 16]);
+                field[place] = self.random.pick(b"-:T/ 0");
+            }
+            9 => field.push(self.random.pick(b"0Z ")),
+            10 => {
+                field.pop();
+            }
+            _ => {
+                let place = self.random.below(19);
+                field[place] = self.random.pick(b"/:0129");
+            }
+        }
+    }
+
+    fn respell_amount(&self, field: &mut Vec<u8>) {
+        let text = String::from_utf8(field.clone()).unwrap_or_default();
+        let negative = text.starts_with('-');
+        let unsigned = text.trim_start_matches('-');
+        let sign = if negative { "-" } else { "" };
+        *field = match self.random.below(16) {
+            0 => "-0,00".to_owned(),
+            1 => format!("{sign}0{unsigned}"),
+            2 => format!("+{unsigned}"),
+            3 => format!("--{unsigned}"),
+            4 => text.replace(',', "."),
+            5 => text.replace(',', ""),
+            6 => format!("{text}0"),
+            7 => text[..text.len().saturating_sub(1)].to_owned(),
+            8 => format!("{sign}100000000,00"),
+            9 => format!("{sign}{},00", "9".repeat(self.random.pick(&[9, 10, 18, 20, 40]))),
+            10 => String::new(),
+            11 => format!("{sign},00"),
+            12 => format!("{sign}0,0{}", self.random.pick(&["/", ":", "a", " "])),
+            13 => format!("{sign}{},00", self.random.pick(&["/", ":", "a", " ", "1 ", "0x1"])),
+            14 => format!("{sign}00,00"),
+            _ => self.random.pick(&["-", ",", "0", "0,", "0,0", "0,000", "-0,0", "0,-1", "STO"]).to_owned(),
+        }
+        .into_bytes();
+    }
+
+    fn respell_counter(&self, field: &mut Vec<u8>) {
+        match self.random.below(6) {
+            0 => self.respell_base64(field),
+            1 => {
+                let width = self.random.pick(&[0, 1, 3, 4, 5, 6, 7, 8, 9, 16]);
+                *field = padded_text(&self.garbage(width));
+            }
+            2 => {
+                let other: &[&[u8]] =
+                    &[b"U1RP", b"VFJB", b"U1RO", b"VFJA", b"u1rp", b"vfjb", b"STO", b"TRA", b"", b"===="];
+                *field = self.random.pick(other).to_vec();
+            }
+            3 => {
+                let place = self.random.below(field.len().max(1));
+                if let Some(byte) = field.get_mut(place) {
+                    *byte = self.random.pick(b"-_ \n=A");
+                }
+            }
+            4 => field.retain(|&byte| byte != b'='),
+            _ => field.extend_from_slice(b"AAAA"),
+        }
+    }
+
+    fn respell_chain(&self, field: &mut Vec<u8>) {
+        match self.random.below(6) {
+            0 => {
+                let place = self.random.below(field.len());
+                field[place] = self.random.pick(b"AB01+/-_=");
+            }
+            1 => field.retain(|&byte| byte != b'='),
+            2 => {
+                let length = self.random.pick(&[0, 7, 8, 8, 9, 32]);
+                *field = padded_text(&self.garbage(length));
+            }
+            _ => self.respell_base64(field),
+        }
+    }
+
+    /// Another form of header, dots or letters of the compact form.
+    fn respell_compact(&self, entry: &mut Entry) {
+        let elements = [entry.header.clone(), url_text(&entry.payload()), url_text(&entry.signature)];
+        let [mut header, mut payload, mut signature] = elements;
+        let mut raw = None;
+        match self.random.below(10) {
+            0 => {
+                let other: [&[u8]; 6] = [
+                    b"eyJhbGciOiJFUzM4NCJ9",
+                    b"eyJhbGciOiJFUzI1NiJ8",
+                    b"eyJhbGciOiJFUzI1NiJ9Cg",
+                    b"eyJhbGciOiJub25lIn0",
+                    b"",
+                    b"EYJHBGCIOIJFUZI1NIJ9",
+                ];
+                header = self.random.pick(&other).to_vec();
+            }
+            1 => self.respell_base64(&mut payload),
+            // stray bits in the last letter of a signature, and the like
+            2 | 3 => self.respell_base64(&mut signature),
+            4 => {
+                let length = self.random.pick(&[0, 1, 33, 34, 35, 48, 63, 65, 66, 96]);
+                signature = url_text(&self.garbage(length));
+            }
+            5 => {
+                let mut text = FAILURE.to_vec();
+                match self.random.below(3) {
+                    0 => text[self.random.below(FAILURE.len())] ^= 1 << self.random.below(7),
+                    1 => text = b"safety device failure".to_vec(),
+                    _ => text.make_ascii_lowercase(),
+                }
+                signature = url_text(&text);
+            }
+            6 => raw = Some([&header[..], &payload, &signature, b""].join(&b'.')),
+            7 => raw = Some([&header[..], &payload].join(&b'.')),
+            8 => raw = Some([&b""[..], &header, &payload, &signature].join(&b'.')),
+            _ => {
+                signature = padded_text(&entry.signature);
+                if self.random.once_in(2) {
+                    signature.retain(|&byte| byte != b'=');
+                }
+            }
+        }
+        entry.raw = Some(raw.unwrap_or_else(|| [header, payload, signature].join(&b'.')));
+    }
+
+    /// Another receipt, well spelled.
+    fn say_otherwise(&self, entry: &mut Entry) {
+        if entry.respelled {
+            return;
+        }
+        match self.random.below(5) {
+            0 => entry.fields[NUMBER] = self.random.between(1, 40).to_string().into_bytes(),
+            1 => {
+                let date = sample::date(&self.random);
+                entry.fields[3] = format!(
+                    "{:04}-{:02}-{:02}T{:02}:{:02}:{:02}",
+                    date.year, date.month, date.day, date.hour, date.minute, date.second
+                )
+                .into_bytes();
+            }
+            2 => {
+                let amount = sample::amount(&self.random);
+                entry.fields[FIRST_AMOUNT + self.random.below(5)] = spelled(amount);
+            }
+            3 => {
+                let kind: [&[u8]; 3] = [b"U1RP", b"VFJB", b"AAAAAAA="];
+                entry.fields[COUNTER] = self.random.pick(&kind).to_vec();
+            }
+            _ => entry.fields[CHAIN] = padded_text(&self.garbage(8)),
+        }
+    }
+
+    /// Journals of the peer's own parts with one thing wrong, for 16 to 20 each.
+    fn wrong_by_design(&mut self, accepted: &Accepted) -> Compared<()> {
+        let (key, width) = (accepted.settings.key, accepted.width());
+        let good = self.built(accepted, 3);
+        let bytes = good.bytes();
+        self.take_over(accepted, &bytes)?;
+
+        // 17: numbers that stay or fall
+        let mut journal = good.clone();
+        journal.entries[2].fields[NUMBER] = journal.entries[self.random.below(2)].fields[NUMBER].clone();
+        journal.counters_right(2, &key, width);
+        journal.chain_right(2);
+        let bytes = journal.bytes();
+        self.take_over(accepted, &bytes)?;
+
+        // 18: the first one another kind, or with amounts whose sum is 0
+        let mut journal = good.clone();
+        match self.random.below(3) {
+            0 => journal.entries[0].fields[COUNTER] = b"U1RP".to_vec(),
+            1 => journal.entries[0].fields[COUNTER] = b"VFJB".to_vec(),
+            _ => {
+                journal.entries[0].fields[FIRST_AMOUNT] = b"0,01".to_vec();
+                journal.entries[0].fields[FIRST_AMOUNT + 4] = b"-0,01".to_vec();
+            }
+        }
+        journal.counters_right(0, &key, width);
+        journal.chain_right(0);
+        let bytes = journal.bytes();
+        self.take_over(accepted, &bytes)?;
+
+        // 19: a chain field over another text, the entries behind it right
+        let mut journal = good.clone();
+        let place = self.random.below(3);
+        let (payload, id) = (journal.entries[0].payload(), journal.id.clone());
+        let mut printed = payload.clone();
+        printed.push(b'_');
+        printed.extend(padded_text(&journal.entries[0].signature));
+        let signed = journal.entries[0].form();
+        let signed = signed[..signed.len() - 1].to_vec();
+        let text = self.random.pick(&[&payload[..], &printed, &signed, &id, b""]);
+        let mut value = chain_value(text);
+        if place == 0 || self.random.once_in(3) {
+            value = chain_value(&if place == 0 { id } else { journal.entries[place - 1].form() });
+            value[self.random.below(8)] ^= 1 << self.random.below(8);
+        }
+        journal.entries[place].fields[CHAIN] = padded_text(&value);
+        journal.chain_right(place + 1);
+        let bytes = journal.bytes();
+        self.take_over(accepted, &bytes)?;
+
+        // 20: the counter before the receipt, or another one, the entries behind it right
+        let mut journal = good.clone();
+        let mut before = good.clone();
+        before.entries[2].fields[FIRST_AMOUNT..FIRST_AMOUNT + 5].fill(b"0,00".to_vec());
+        before.counters_right(2, &key, width);
+        journal.entries[2].fields[COUNTER] = before.entries[2].fields[COUNTER].clone();
+        if self.random.once_in(2) {
+            let mut encrypted = self.garbage(width);
+            encrypted[0] ^= 1;
+            journal.entries[2].fields[COUNTER] = padded_text(&encrypted);
+        }
+        journal.chain_right(3);
+        let bytes = journal.bytes();
+        self.take_over(accepted, &bytes)?;
+
+        // 16: a thing of the second receipt respelled, all behind it right
+        let mut journal = good;
+        self.respell_field(&mut journal.entries[1]);
+        journal.chain_right(2);
+        let bytes = journal.bytes();
+        self.take_over(accepted, &bytes)
+    }
+
+    /// A valid journal of so many standard receipts, made of parts.
+    fn built(&self, accepted: &Accepted, entries: usize) -> Journal {
+        let settings = &accepted.settings;
+        let mut journal = Journal {
+            csp: settings.csp.to_vec(),
+            id: settings.id().to_vec(),
+            serial: settings.serial().to_vec(),
+            count: entries as u32,
+            entries: Vec::new(),
+        };
+        for i in 0..entries {
+            let mut fields = vec![[b"R1-", &settings.csp[..]].concat(), settings.id().to_vec()];
+            fields.push((1000 * i + 1 + self.random.below(900)).to_string().into_bytes());
+            fields.push(b"2024-02-29T23:59:59".to_vec());
+            for _ in 0..5 {
+                let amount = if i == 0 { 0 } else { 1 + self.random.below(10_000) as i64 };
+                fields.push(spelled(amount));
+            }
+            fields.push(b"AAAAAAA=".to_vec());
+            fields.push(settings.serial().to_vec());
+            fields.push(b"AAAAAAAAAAA=".to_vec());
+            let signature = if self.random.once_in(4) { FAILURE.to_vec() } else { self.garbage(64) };
+            journal.entries.push(Entry {
+                header: b"eyJhbGciOiJFUzI1NiJ9".to_vec(),
+                lead: b"_".to_vec(),
+                fields,
+                signature,
+                raw: None,
+                respelled: false,
+            });
+        }
+        journal.counters_right(0, &settings.key, settings.width as usize);
+        journal.chain_right(0);
+        journal
+    }
+
+    /// Width 5 at both ends: a sum that just fits, and sums over the width that come back, in a standard receipt or a
+    /// cancellation.
+    fn sums_at_the_end(&mut self) -> Compared<()> {
+        let settings = Settings { width: 5, ..sample::settings(&self.random) };
+        let accepted = Accepted { settings, journal: Vec::new() };
+        let mut journal = self.built(&accepted, 14);
+        let sign = self.random.pick(&[1, -1]);
+        let end = sample::width_end(5);
+        let last = if sign > 0 { end } else { !end };
+        // ten receipts of 49,999,999,995 cents, then one to the end, then over it, then back
+        for entry in &mut journal.entries[1..11] {
+            for field in &mut entry.fields[FIRST_AMOUNT..FIRST_AMOUNT + 5] {
+                *field = spelled(sign * AMOUNT_LIMIT);
+            }
+        }
+        let left = last - sign * 50 * AMOUNT_LIMIT;
+        let over = self.random.pick(&[0, 0, 1, 2]);
+        let amounts = sample::amounts_with_sum(&self.random, left + sign * over);
+        let parts = [amounts, [sign, 0, 0, 0, 0], [-sign * 100, 0, 0, 0, 0]];
+        for (i, amounts) in parts.into_iter().enumerate() {
+            for (k, amount) in amounts.into_iter().enumerate() {
+                journal.entries[11 + i].fields[FIRST_AMOUNT + k] = spelled(amount);
+            }
+            let kind: [&[u8]; 3] = [b"U1RP", b"VFJB", b"AAAAAAA="];
+            journal.entries[11 + i].fields[COUNTER] = self.random.pick(&kind).to_vec();
+        }
+        let count = self.random.pick(&[12, 13, 14]);
+        journal.entries.truncate(count);
+        journal.count = count as u32;
+        journal.counters_right(0, &settings.key, 5);
+        journal.chain_right(0);
+        let bytes = journal.bytes();
+        self.take_over(&accepted, &bytes)
+    }
+
+    /// Width 6 to its end, which takes 2,815 receipts.
+    fn long_journal(&mut self) -> Compared<()> {
+        let settings = Settings { width: 6, id: Name::of(b"6"), ..sample::settings(&self.random) };
+        let mut journal = vec![0; settings.head_length() + 2830 * (2 + LONGEST_COMPACT)];
+        let mut state = vec![0; STATE];
+        Peer.open(&settings_bytes(&settings), &mut journal, &mut state);
+        let mut details = Details { number: 1, date: sample::date(&self.random), amounts: [0; 5], kind: 0 };
+        let sign = self.random.pick(&[1, -1]);
+        let end = sample::width_end(6);
+        let last = if sign > 0 { end } else { !end };
+        loop {
+            Peer.issue(&mut state, &details, &[], &mut journal);
+            details.number += 1;
+            details.amounts = [sign * AMOUNT_LIMIT; 5];
+            let left = last - state_of(&state).counter;
+            if left.abs() < 5 * AMOUNT_LIMIT {
+                details.amounts = sample::amounts_with_sum(&self.random, left);
+                break;
+            }
+        }
+        self.compare.issue(&mut state, &details, &[], &mut journal)?;
+        let held: State = state_of(&state);
+        journal.truncate(held.journal_length as usize);
+        let accepted = Accepted { settings, journal };
+        let mut taken = vec![0; STATE];
+        let answer = self.compare.take_over(&accepted.journal, &settings.key, 6, &mut taken)?;
+        self.demand(answer.number == 0 && taken == state, "a long journal is accepted", &accepted.journal)?;
+
+        let mut longer = Journal::of(&accepted.journal);
+        let mut over = longer.entries.last().expect("entries").clone();
+        over.fields[NUMBER] = (held.last_number + 1).to_string().into_bytes();
+        over.fields[FIRST_AMOUNT..FIRST_AMOUNT + 5].fill(b"0,00".to_vec());
+        over.fields[FIRST_AMOUNT] = spelled(sign);
+        over.fields[COUNTER] = self.random.pick(&[&b"U1RP"[..], b"AAAAAAAA"]).to_vec();
+        longer.entries.push(over);
+        longer.count += 1;
+        let place = longer.entries.len() - 1;
+        longer.counters_right(place, &settings.key, 6);
+        longer.chain_right(place);
+        let bytes = longer.bytes();
+        self.take_over(&accepted, &bytes)
+    }
+
+    // ---- codes
+
+    /// Code of a form, and Uncode and Fields of it, whole and damaged.
+    fn codes_of(&mut self, accepted: &Accepted) -> Compared<()> {
+        let entries = Journal::of(&accepted.journal).entries;
+        let mut entry = match entries.len() {
+            0 => self.built(accepted, 1).entries.remove(0),
+            length => entries[self.random.below(length)].clone(),
+        };
+        let mut form = entry.form();
+        let code = self.coded(&form)?;
+        self.uncoded(&code)?;
+
+        match self.random.below(3) {
+            0 => self.respell_compact(&mut entry),
+            1 => self.respell_field(&mut entry),
+            _ => entry.raw = None,
+        }
+        form = entry.form();
+        if entry.raw.is_none() && self.random.once_in(2) {
+            self.damage_bytes(&mut form);
+        }
+        self.coded(&form)?;
+
+        let mut damaged = code;
+        let last = damaged.iter().rposition(|&byte| byte == b'_').unwrap_or(0);
+        match self.random.below(4) {
+            0 => {
+                let mut signature = damaged.split_off((last + 1).min(damaged.len()));
+                self.respell_base64(&mut signature);
+                damaged.extend(signature);
+            }
+            1 => damaged[last] = self.random.pick(b"-A=\0"),
+            _ => self.damage_bytes(&mut damaged),
+        }
+        self.uncoded(&damaged)
+    }
+
+    /// Code into outputs of some lengths; the code, where there is one.
+    fn coded(&mut self, form: &[u8]) -> Compared<Vec<u8>> {
+        let mut wide = vec![0; 400];
+        let written = self.compare.code(form, &mut wide)?;
+        wide.truncate(written.length);
+        let room = self.room(written.length);
+        let mut output = self.garbage(room);
+        self.compare.code(form, &mut output)?;
+        Ok(wide)
+    }
+
+    /// Uncode into outputs of some lengths, and Fields.
+    fn uncoded(&mut self, code: &[u8]) -> Compared<()> {
+        let mut wide = vec![0; 400];
+        let written = self.compare.uncode(code, &mut wide)?;
+        let room = self.room(written.length);
+        let mut output = self.garbage(room);
+        self.compare.uncode(code, &mut output)?;
+        self.compare.fields(code)?;
+        if written.number == 0 {
+            let back = Peer.code(&wide[..written.length], &mut [0; 400]);
+            self.demand(back.number == 0 && back.length == code.len(), "a code comes back", code)?;
+        }
+        Ok(())
+    }
+
+    /// Payloads of any bytes and of lengths at the limits, with signatures of any length; and random texts.
+    fn free_codes(&mut self) -> Compared<()> {
+        if self.random.once_in(6) {
+            let length = self.random.pick(&[0, 1, 2, 3, 5, 21, 100, 368, 369, 400, 5000]);
+            let mut text: Vec<u8> = (0..length).map(|_| self.random.pick(b"AQgw_.-=R1\0")).collect();
+            if self.random.once_in(2) {
+                let start = self.random.pick(&[&b"eyJhbGciOiJFUzI1NiJ9."[..], b"eyJhbGciOiJFUzI1NiJ9", b"_R1-"]);
+                text.splice(0..0, start.iter().copied());
+            }
+            self.coded(&text)?;
+            return self.uncoded(&text);
+        }
+        let behind = self.random.pick(&[0, 1, 2, 5, 9, 190, 191, 192, 193, 1000]);
+        let mut payload = self
+            .random
+            .pick(&[&b"_R1-"[..], b"_R1-", b"_R1-", b"_R1-", b"_R1_", b"_R2-", b"R1-A", b"_R1", b""])
+            .to_vec();
+        for _ in 0..behind {
+            payload.push(if self.random.once_in(2) { self.random.pick(b"__A0.") } else { self.random.byte() });
+        }
+        let signature = match self.random.below(8) {
+            0 => FAILURE.to_vec(),
+            1 => {
+                let mut text = FAILURE.to_vec();
+                text[self.random.below(FAILURE.len())] ^= 1 << self.random.below(8);
+                text
+            }
+            2 => {
+                let length = self.random.pick(&[0, 1, 33, 34, 35, 62, 63, 65, 66]);
+                self.garbage(length)
+            }
+            _ => self.garbage(64),
+        };
+        let mut form = [&b"eyJhbGciOiJFUzI1NiJ9"[..], &url_text(&payload), &url_text(&signature)].join(&b'.');
+        let mut code = [&payload[..], b"_", &padded_text(&signature)].concat();
+        if self.random.once_in(6) {
+            self.damage_bytes(&mut form);
+            self.damage_bytes(&mut code);
+        }
+        self.coded(&form)?;
+        self.uncoded(&code)
+    }
+}
+
+/// Where the entries of a valid journal start.
+fn entry_places(journal: &[u8], head: usize) -> Vec<usize> {
+    let mut places = Vec::new();
+    let mut place = head;
+    while place < journal.len() {
+        places.push(place);
+        place += 2 + u16::from_be_bytes([journal[place], journal[place + 1]]) as usize;
+    }
+    places
+}
+
+/// An amount as the paper spells it.
+fn spelled(amount: i64) -> Vec<u8> {
+    let sign = if amount < 0 { "-" } else { "" };
+    format!("{sign}{},{:02}", amount.abs() / 100, amount.abs() % 100).into_bytes()
+}

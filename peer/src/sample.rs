@@ -1,0 +1,330 @@
+//! Random settings, states, details and signatures: good ones, and ones with something wrong.
+
+use crate::random::Random;
+use crate::receipt::{AMOUNT_LIMIT, Date, Details};
+use crate::register::State;
+use crate::settings::{Name, Settings};
+
+// ---- settings
+
+pub fn csp(random: &Random) -> [u8; 3] {
+    let letter = || random.pick(b"ABYZMNAT");
+    let letters = [letter(), letter()];
+    [letters[0], letters[1], random.pick(b"0123456789")]
+}
+
+fn name_length(random: &Random) -> usize {
+    if random.once_in(3) { random.pick(&[1, 2, 31, 32]) } else { 1 + random.below(32) }
+}
+
+pub fn id(random: &Random) -> Vec<u8> {
+    let length = name_length(random);
+    let mut id = Vec::new();
+    while id.len() < length {
+        let byte = random.pick(&[33, 126, b'^', b'`', b'0', b'.', random.between(33, 126) as u8]);
+        if byte != b'_' {
+            id.push(byte);
+        }
+    }
+    id
+}
+
+pub fn serial(random: &Random) -> Vec<u8> {
+    let length = name_length(random);
+    (0..length).map(|_| random.pick(b"0123456789abcdef")).collect()
+}
+
+pub fn key(random: &Random) -> [u8; 32] {
+    match random.below(16) {
+        0 => [0; 32],
+        1 => [0xff; 32],
+        _ => random.array(),
+    }
+}
+
+pub fn settings(random: &Random) -> Settings {
+    Settings {
+        csp: csp(random),
+        id: Name::of(&id(random)),
+        serial: Name::of(&serial(random)),
+        width: random.between(5, 8) as u64,
+        key: key(random),
+    }
+}
+
+pub fn bad_csp(random: &Random) -> [u8; 3] {
+    let mut csp = csp(random);
+    match random.below(4) {
+        0 => csp[random.below(2)] = random.pick(b"@[`a{z0 \0\xc1"),
+        1 => csp[2] = random.pick(b"/:A \0\xb0"),
+        2 => csp = [0; 3],
+        _ => csp.reverse(),
+    }
+    csp
+}
+
+/// A byte that no ID has.
+pub fn no_id_byte(random: &Random) -> u8 {
+    random.pick(&[b'_', 32, 127, 128, 0, 10, 0xff, 0xa1])
+}
+
+/// A byte that no serial has.
+pub fn no_serial_byte(random: &Random) -> u8 {
+    random.pick(b"/:@AFG`g _\0\x7f\xb0\xff")
+}
+
+/// Makes one name bad: a foreign byte, a wrong length, or a byte behind the end.
+fn spoil_name(random: &Random, name: &mut Name, foreign: u8) {
+    let length = name.length as usize;
+    match random.below(6) {
+        0 | 1 => name.bytes[random.below(length)] = foreign,
+        2 => name.length = 0,
+        3 => *name = Name::default(),
+        4 if length < 32 => {
+            let place = random.pick(&[length, 31, length + random.below(32 - length)]);
+            name.bytes[place] = random.pick(&[1, b'a', 0x80, 0xff]);
+        }
+        _ => {
+            let long = [33, 34, 64, 255, 256 + name.length, (1 << 32) + name.length, (1 << 63) + name.length, u64::MAX];
+            name.length = random.pick(&long);
+        }
+    }
+}
+
+pub fn bad_width(random: &Random) -> u64 {
+    random.pick(&[0, 1, 4, 9, 10, 256 + 5, (1 << 32) + 5, (1 << 63) + 8, u64::MAX])
+}
+
+/// Makes the settings bad by one of 1 to 4.
+pub fn spoil_settings(random: &Random, settings: &mut Settings) {
+    match random.below(4) {
+        0 => settings.csp = bad_csp(random),
+        1 => {
+            let foreign = no_id_byte(random);
+            spoil_name(random, &mut settings.id, foreign);
+        }
+        2 => {
+            let foreign = no_serial_byte(random);
+            spoil_name(random, &mut settings.serial, foreign);
+        }
+        _ => settings.width = bad_width(random),
+    }
+}
+
+// ---- states
+
+/// The highest counter of a width from 5 to 8; the lowest is `!` of it.
+pub fn width_end(width: u64) -> i64 {
+    i64::MAX >> (64 - 8 * width)
+}
+
+/// A sound state that mostly no list reaches; its journal length is at most `longest` behind the head.
+pub fn sound_state(random: &Random, longest: usize) -> State {
+    let settings = settings(random);
+    let end = width_end(settings.width);
+    let counter = match random.below(8) {
+        0 => 0,
+        1 => end,
+        2 => !end,
+        3 => end - random.between(0, 60_000_000_000),
+        4 => !end + random.between(0, 60_000_000_000),
+        5 => random.between(-1_000_000, 1_000_000),
+        _ => random.between(!end, end),
+    };
+    let last_number = match random.below(8) {
+        0 => 0,
+        1 => 1,
+        2 => u32::MAX,
+        3 => u32::MAX - 1,
+        4 => random.pick(&[9, 99, 999_999_999, 0x7fff_ffff, 0x8000_0000]),
+        5 => random.between(0, 1000) as u32,
+        _ => random.next() as u32,
+    };
+    let receipts = match random.below(4) {
+        0 => 0,
+        1 => last_number,
+        2 => last_number.min(1),
+        _ => random.between(0, last_number as i64) as u32,
+    };
+    let behind = random.pick(&[0, 1, random.below(longest + 1)]);
+    let journal_length = (settings.head_length() + behind) as u64;
+    State { settings, counter, last_number, receipts, chain: random.array(), journal_length }
+}
+
+/// Makes a sound state unsound in one way (a counter of width 8 can't be made so). `room` is the buffer's length.
+pub fn spoil_state(random: &Random, state: &mut State, room: usize) {
+    let end = width_end(state.settings.width);
+    match random.below(8) {
+        0..=2 => spoil_settings(random, &mut state.settings),
+        3 if state.settings.width < 8 => {
+            state.counter = random.pick(&[end + 1, !end - 1, i64::MAX, i64::MIN, end * 2 + 1, !end * 2])
+        }
+        4 | 5 if state.last_number < u32::MAX => {
+            state.receipts = random.pick(&[state.last_number + 1, u32::MAX]);
+        }
+        6 => {
+            let head = state.settings.head_length() as u64;
+            state.journal_length = random.pick(&[head - 1, head - 4, 19, 1, 0]).min(head - 1);
+        }
+        _ => {
+            let room = room as u64;
+            state.journal_length =
+                random.pick(&[room + 1, room + 4, (1 << 32) + state.journal_length, 1 << 63, u64::MAX - 1, u64::MAX]);
+        }
+    }
+}
+
+// ---- details
+
+fn days(year: u32, month: u32) -> u32 {
+    match month {
+        2 if year % 4 == 0 => 29,
+        2 => 28,
+        4 | 6 | 9 | 11 => 30,
+        _ => 31,
+    }
+}
+
+/// A good date, often at an edge.
+pub fn date(random: &Random) -> Date {
+    let year = random.pick(&[2000, 2099, 2016, 2017, 2096, 2000 + random.below(100) as u32]);
+    let month = random.pick(&[1, 2, 12, 1 + random.below(12) as u32]);
+    let day = random.pick(&[1, days(year, month), 1 + random.below(28) as u32]);
+    let hour = random.pick(&[0, 23, random.below(24) as u32]);
+    let minute = random.pick(&[0, 59, random.below(60) as u32]);
+    let second = random.pick(&[0, 59, random.below(60) as u32]);
+    Date { year, month, day, hour, minute, second }
+}
+
+/// A date with one part wrong.
+pub fn bad_date(random: &Random) -> Date {
+    let mut date = date(random);
+    // values that are too large, also in few bits
+    let large = random.pick(&[100, 255, 256, 257, 65_536 + 1, 0x8000_0001, u32::MAX]);
+    match random.below(6) {
+        0 => date.year = random.pick(&[0, 16, 1999, 1996, 2100, 2104, 65_536 + 2016, u32::MAX]),
+        1 => date.month = random.pick(&[0, 13, large]),
+        2 => date.day = random.pick(&[0, days(date.year, date.month) + 1, 32, large]),
+        3 => date.hour = random.pick(&[24, large]),
+        4 => date.minute = random.pick(&[60, large]),
+        _ => date.second = random.pick(&[60, large]),
+    }
+    date
+}
+
+/// An amount within the limits.
+pub fn amount(random: &Random) -> i64 {
+    match random.below(8) {
+        0 | 1 => 0,
+        2 => random.pick(&[AMOUNT_LIMIT, -AMOUNT_LIMIT]),
+        3 => random.between(-AMOUNT_LIMIT, AMOUNT_LIMIT),
+        4 => random.pick(&[
+            1,
+            -1,
+            5,
+            -5,
+            9,
+            10,
+            99,
+            100,
+            -99,
+            -100,
+            999,
+            1000,
+            999_999_999,
+            1_000_000_000,
+            -1_000_000_000,
+        ]),
+        _ => random.between(-200_000, 200_000),
+    }
+}
+
+pub fn bad_amount(random: &Random) -> i64 {
+    let limit = AMOUNT_LIMIT;
+    random.pick(&[limit + 1, -limit - 1, i64::MAX, i64::MIN, i64::MIN + 1, 1 << 34, 1 << 62, -(1 << 40)])
+}
+
+/// Five amounts within the limits with this sum, which such have.
+pub fn amounts_with_sum(random: &Random, sum: i64) -> [i64; 5] {
+    let mut amounts = [sum / 5; 5];
+    amounts[random.below(5)] += sum % 5;
+    for _ in 0..6 {
+        let (from, to) = (random.below(5), random.below(5));
+        if from == to {
+            continue;
+        }
+        let most = (amounts[from] + AMOUNT_LIMIT).min(AMOUNT_LIMIT - amounts[to]);
+        let moved = random.pick(&[0, most, random.between(0, most)]);
+        amounts[from] -= moved;
+        amounts[to] += moved;
+    }
+    amounts
+}
+
+/// Details that the state mostly accepts, with the counter at or just past its end now and then.
+pub fn details(random: &Random, state: &State) -> Details {
+    let last = state.last_number;
+    let above = match random.below(8) {
+        0 => u32::MAX,
+        1 => last.saturating_add(1 + random.below(1_000_000) as u32),
+        2 => last.saturating_add(random.pick(&[9, 10, 90, 100])),
+        _ => last.saturating_add(1),
+    };
+    let mut details = Details { number: above, date: date(random), amounts: [0; 5], kind: 0 };
+    if state.receipts == 0 {
+        return details;
+    }
+    details.kind = random.pick(&[0, 0, 0, 1, 2]);
+    details.amounts = std::array::from_fn(|_| amount(random));
+    let width = state.settings.width.clamp(5, 8);
+    let most = 5 * AMOUNT_LIMIT as i128;
+    if random.once_in(3) {
+        let end = width_end(width) as i128;
+        let goal = random.pick(&[end, end + 1, -end - 1, -end - 2, end - 1, -end]);
+        let sum = goal - state.counter as i128;
+        if (-most..=most).contains(&sum) {
+            details.amounts = amounts_with_sum(random, sum as i64);
+        }
+    } else if random.once_in(4) {
+        // towards the nearer end
+        let sign = if state.counter < 0 { -1 } else { 1 };
+        details.amounts = [sign * AMOUNT_LIMIT; 5];
+    }
+    details
+}
+
+/// Makes the details wrong by one of 7 to 11; the state's counter decides whether 11 can be.
+pub fn spoil_details(random: &Random, details: &mut Details, state: &State) {
+    match random.below(7) {
+        0 => details.number = random.pick(&[0, state.last_number, state.last_number / 2, 1.min(state.last_number)]),
+        1 => details.kind = random.pick(&[3, 4, 255, 256, 257, 65_536, 0x8000_0000, u32::MAX]),
+        2 => details.date = bad_date(random),
+        3 | 4 => details.amounts[random.below(5)] = bad_amount(random),
+        5 => {
+            details.kind = random.pick(&[0, 1, 2]);
+            details.amounts = random.pick(&[[0; 5], [1, -1, 0, 0, 0], [0, 0, 0, 0, 1], [-1, 0, 0, 0, 0]]);
+        }
+        _ => details.amounts = [if state.counter < 0 { -AMOUNT_LIMIT } else { AMOUNT_LIMIT }; 5],
+    }
+}
+
+// ---- signatures
+
+/// 64 bytes, or none for a failed device.
+pub fn signature(random: &Random) -> Vec<u8> {
+    match random.below(6) {
+        0 => Vec::new(),
+        1 => vec![random.pick(&[0, 0xff, b'_', b'.']); 64],
+        _ => random.bytes(64),
+    }
+}
+
+pub fn bad_signature(random: &Random) -> Vec<u8> {
+    match random.below(3) {
+        0 => b"Sicherheitseinrichtung ausgefallen".to_vec(),
+        _ => {
+            let length = random.pick(&[1, 33, 34, 35, 63, 65, 86, 128, 256, 320]);
+            random.bytes(length)
+        }
+    }
+}

@@ -1,0 +1,356 @@
+//! The published vectors, asked of either side through the interface.
+
+use peer::calls::Calls;
+use peer::crypto::Aes256;
+use peer::layout::{SETTINGS, STATE, state_bytes, state_of};
+use peer::receipt::{Date, Details, counter_iv};
+use peer::register::State;
+use peer::settings::{Name, Settings};
+
+/// A table of tests/data, or ../tests: one header line that begins with "#", columns parted by a tab. The number of rows
+/// is asked, so that a table that was cut fails.
+pub fn rows(file: &str, count: usize) -> Vec<Vec<String>> {
+    let path = format!("{}/{file}", env!("CARGO_MANIFEST_DIR"));
+    let text = std::fs::read_to_string(&path).unwrap_or_else(|error| panic!("{path}: {error}"));
+    let mut lines = text.lines();
+    let columns = lines.next().expect("a header line").strip_prefix('#').expect("begins with #").split('\t').count();
+    let rows: Vec<Vec<String>> = lines.map(|line| line.split('\t').map(str::to_owned).collect()).collect();
+    assert!(rows.iter().all(|row| row.len() == columns), "{path}: a row with other columns");
+    assert_eq!(rows.len(), count, "{path}: rows");
+    rows
+}
+
+pub fn unhex(text: &str) -> Vec<u8> {
+    assert!(text.len() % 2 == 0);
+    (0..text.len() / 2).map(|i| u8::from_str_radix(&text[2 * i..2 * i + 2], 16).expect("hexadecimal")).collect()
+}
+
+pub fn amounts_of(text: &str) -> [i64; 5] {
+    let amounts: Vec<i64> = text.split(' ').map(|amount| amount.parse().expect("cents")).collect();
+    amounts.try_into().expect("five amounts")
+}
+
+pub fn kind_of(text: &str) -> u32 {
+    ["standard", "cancellation", "training"].iter().position(|kind| *kind == text).expect("a kind") as u32
+}
+
+pub fn date_of(text: &str) -> Date {
+    let part = |range: std::ops::Range<usize>| text[range].parse().expect("digits");
+    Date {
+        year: part(0..4),
+        month: part(5..7),
+        day: part(8..10),
+        hour: part(11..13),
+        minute: part(14..16),
+        second: part(17..19),
+    }
+}
+
+const GOOD_DATE: Date = Date { year: 2016, month: 2, day: 29, hour: 8, minute: 5, second: 0 };
+
+/// A sound state made by hand.
+fn state(id: &str, key: [u8; 32], width: u64, counter: i64, last_number: u32, receipts: u32) -> State {
+    let settings = Settings { csp: *b"AT0", id: Name::of(id.as_bytes()), serial: Name::of(b"2a"), width, key };
+    let journal_length = settings.head_length() as u64;
+    State { settings, counter, last_number, receipts, chain: [7; 8], journal_length }
+}
+
+/// The twelve fields of what Prepare writes.
+fn prepared_fields(side: &dyn Calls, state: &State, details: &Details) -> Result<Vec<String>, u32> {
+    let mut output = [0; 281];
+    let written = side.prepare(&state_bytes(state), details, &mut output);
+    if written.number != 0 {
+        return Err(written.number);
+    }
+    let payload = output[..written.length].strip_prefix(b"eyJhbGciOiJFUzI1NiJ9.").expect("the header element");
+    let mut text = [0; 195];
+    let read = side.unbase64(1, payload, &mut text);
+    assert_eq!(read.number, 0);
+    let text = std::str::from_utf8(&text[..read.length]).expect("a payload of ASCII");
+    let fields: Vec<String> = text.strip_prefix('_').expect("_").split('_').map(str::to_owned).collect();
+    assert_eq!(fields.len(), 12);
+    Ok(fields)
+}
+
+fn encoded(side: &dyn Calls, url: u32, data: &[u8]) -> Vec<u8> {
+    let mut text = vec![0; data.len() * 2 + 4];
+    let written = side.base64(url, data, &mut text);
+    assert_eq!(written.number, 0);
+    text.truncate(written.length);
+    text
+}
+
+pub fn sha256(side: &dyn Calls) {
+    for row in rows("tests/data/sha256.tsv", 212) {
+        let data = match row[1].as_str() {
+            "hex" => unhex(&row[2]),
+            "repeat" => {
+                let (byte, times) = row[2].split_once('*').expect("byte and times");
+                vec![unhex(byte)[0]; times.parse().expect("a number")]
+            }
+            other => panic!("{other}"),
+        };
+        let mut digest = [0; 32];
+        assert_eq!(side.sha256(&data, &mut digest), 0);
+        assert_eq!(digest.to_vec(), unhex(&row[3]), "{}", row[0]);
+    }
+}
+
+pub fn base64(side: &dyn Calls) {
+    for row in rows("tests/data/base64.tsv", 219) {
+        let url = match row[1].as_str() {
+            "std" => 0,
+            "url" => 1,
+            other => panic!("{other}"),
+        };
+        let (text, data) = (unhex(&row[2]), unhex(&row[5]));
+        let mut output = vec![0; text.len()];
+        let read = side.unbase64(url, &text, &mut output);
+        match row[4].as_str() {
+            "ok" => {
+                assert_eq!((read.number, &output[..read.length]), (0, &data[..]), "{} {}", row[0], row[1]);
+                assert_eq!(encoded(side, url, &data), text, "{} {}", row[0], row[1]);
+            }
+            "refused" => {
+                assert_eq!((read.number, read.length), (22, 0), "{} {}", row[0], row[1]);
+                assert!(output.iter().all(|&byte| byte == 0), "{} {}", row[0], row[1]);
+            }
+            other => panic!("{other}"),
+        }
+    }
+}
+
+pub fn chain(side: &dyn Calls) {
+    let mut ids = 0;
+    for row in rows("tests/data/chain.tsv", 24) {
+        let (text, value) = (row[1].as_bytes(), unhex(&row[2]));
+        let mut digest = [0; 32];
+        assert_eq!(side.sha256(text, &mut digest), 0);
+        assert_eq!(digest[..8], value, "{}", row[0]);
+        assert_eq!(encoded(side, 0, &value), row[3].as_bytes(), "{}", row[0]);
+        if row[0].starts_with("id-") {
+            ids += 1;
+            let mut settings = [0; SETTINGS];
+            let (mut journal, mut held) = ([0; 83], [0; STATE]);
+            assert_eq!(side.settings(b"AT0", text, b"2a", 5, &[0; 32], &mut settings), 0);
+            assert_eq!(side.open(&settings, &mut journal, &mut held), 0);
+            assert_eq!(state_of(&held).chain.to_vec(), value, "{}", row[0]);
+        }
+    }
+    assert_eq!(ids, 5);
+}
+
+/// The encrypted counter, by a state made by hand whose counter stays as it is.
+pub fn counter(side: &dyn Calls) {
+    for row in rows("tests/data/counter.tsv", 64) {
+        let number: u32 = row[3].parse().expect("a number");
+        let key = unhex(&row[1]).try_into().expect("32 bytes");
+        let state =
+            state(&row[2], key, row[0].parse().expect("a width"), row[4].parse().expect("cents"), number - 1, 0);
+        let details = Details { number, date: GOOD_DATE, amounts: [0; 5], kind: 0 };
+        let fields = prepared_fields(side, &state, &details).expect("not refused");
+        assert_eq!(fields[9], row[9], "{row:?}");
+    }
+}
+
+/// Which counters fit which width, and their bytes, seen through the encryption.
+pub fn counter_bytes(side: &dyn Calls) {
+    let mut outside = 0;
+    for row in rows("tests/data/counter-bytes.tsv", 102) {
+        let width: u64 = row[0].parse().expect("a width");
+        let cents: i64 = row[1].parse().expect("cents");
+        let state = state("K-1", [9; 32], width, cents, 4, 0);
+        let details = Details { number: 5, date: GOOD_DATE, amounts: [0; 5], kind: 0 };
+        let answer = prepared_fields(side, &state, &details);
+        if row[2] == "no" {
+            assert_eq!(answer, Err(6), "{row:?}");
+            outside += 1;
+            continue;
+        }
+        let stream = Aes256::new(&[9; 32]).encrypt(&counter_iv(b"K-1", b"5"));
+        let mut field = [0; 12];
+        let read = side.unbase64(0, answer.expect("not refused")[9].as_bytes(), &mut field);
+        assert_eq!((read.number, read.length as u64), (0, width), "{row:?}");
+        let plain: Vec<u8> = field[..read.length].iter().zip(stream).map(|(a, b)| a ^ b).collect();
+        assert_eq!(plain, unhex(&row[3]), "{row:?}");
+    }
+    assert_eq!(outside, 6);
+}
+
+/// The counter after a receipt.
+pub fn counter_sum(side: &dyn Calls) {
+    for row in rows("tests/data/counter-sum.tsv", 6) {
+        let state = state("K-1", [9; 32], 5, row[2].parse().expect("cents"), 1, 1);
+        let details = Details { number: 2, date: GOOD_DATE, amounts: amounts_of(&row[3]), kind: kind_of(&row[1]) };
+        let mut bytes = state_bytes(&state);
+        let mut journal = [0; 400];
+        assert_eq!(side.issue(&mut bytes, &details, &[1; 64], &mut journal), 0, "{row:?}");
+        assert_eq!(side.counter(&bytes), row[5].parse::<i64>().expect("cents"), "{row:?}");
+        assert_eq!(details.amounts.iter().sum::<i64>(), row[4].parse::<i64>().expect("cents"), "{row:?}");
+    }
+}
+
+pub fn amount(side: &dyn Calls) {
+    for row in rows("tests/data/amount.tsv", 20) {
+        let cents: i64 = row[0].parse().expect("cents");
+        let state = state("K-1", [9; 32], 5, 0, 1, 1);
+        for place in 0..5 {
+            let mut details = Details { number: 2, date: GOOD_DATE, amounts: [0; 5], kind: 2 };
+            details.amounts[place] = cents;
+            let fields = prepared_fields(side, &state, &details).expect("not refused");
+            for other in 0..5 {
+                assert_eq!(fields[4 + other], if other == place { &row[1] } else { "0,00" }, "{row:?}");
+            }
+            assert_eq!(fields[9], "VFJB");
+        }
+    }
+}
+
+/// Compact forms and their codes.
+pub fn compact(side: &dyn Calls) {
+    for row in rows("tests/data/compact.tsv", 19) {
+        let mut code = [row[1].as_bytes(), b"_"].concat();
+        code.extend(encoded(side, 0, &unhex(&row[2])));
+        let mut output = [0; 400];
+        let written = side.uncode(&code, &mut output);
+        assert_eq!((written.number, &output[..written.length]), (0, row[3].as_bytes()), "{}", row[0]);
+        let written = side.code(row[3].as_bytes(), &mut output);
+        assert_eq!((written.number, &output[..written.length]), (0, &code[..]), "{}", row[0]);
+    }
+}
+
+pub fn code(side: &dyn Calls) {
+    for row in rows("tests/data/code.tsv", 130) {
+        let (input, number, expected) = (unhex(&row[2]), row[3].parse::<u32>().expect("a number"), unhex(&row[4]));
+        let mut output = vec![0; 400];
+        let (answer, bytes) = match row[1].as_str() {
+            "code" => {
+                let written = side.code(&input, &mut output);
+                (written.number, &output[..written.length])
+            }
+            "uncode" => {
+                let written = side.uncode(&input, &mut output);
+                (written.number, &output[..written.length])
+            }
+            "fields" => {
+                let part = side.fields(&input);
+                (part.number, &input[part.start..part.start + part.length])
+            }
+            other => panic!("{other}"),
+        };
+        assert_eq!((answer, bytes), (number, &expected[..]), "{} {}", row[0], row[1]);
+    }
+}
+
+/// Three journals: written call by call, and taken over.
+pub fn journals(side: &dyn Calls) {
+    let receipts = rows("tests/data/receipts.tsv", 13);
+    let mut seen = 0;
+    for row in rows("tests/data/journals.tsv", 3) {
+        let (name, key, journal) = (&row[0], unhex(&row[5]), unhex(&row[6]));
+        let width: usize = row[4].parse().expect("a width");
+        let mut settings = [0; SETTINGS];
+        let (mut buffer, mut held) = (vec![0xaa; journal.len()], [0xaa; STATE]);
+        let (csp, id, serial) = (row[1].as_bytes(), row[2].as_bytes(), row[3].as_bytes());
+        assert_eq!(side.settings(csp, id, serial, width, &key, &mut settings), 0, "{name}");
+        assert_eq!(side.open(&settings, &mut buffer, &mut held), 0, "{name}");
+        for receipt in receipts.iter().filter(|receipt| receipt[0] == *name) {
+            seen += 1;
+            let details = Details {
+                number: receipt[1].parse().expect("a number"),
+                date: date_of(&receipt[2]),
+                amounts: amounts_of(&receipt[3]),
+                kind: kind_of(&receipt[4]),
+            };
+            let compact = &receipt[8];
+            assert_eq!(state_of(&held).chain.to_vec(), unhex(&receipt[9]), "{name}");
+            let mut input = [0; 281];
+            let written = side.prepare(&held, &details, &mut input);
+            let second_dot = compact.rfind('.').expect("two dots");
+            assert_eq!(
+                (written.number, &input[..written.length]),
+                (0, &compact.as_bytes()[..second_dot]),
+                "{name} {}",
+                receipt[1]
+            );
+            let before = side.journal_length(&held);
+            assert_eq!(side.issue(&mut held, &details, &unhex(&receipt[5]), &mut buffer), 0, "{name} {}", receipt[1]);
+            let after = side.journal_length(&held);
+            assert_eq!(&buffer[before + 2..after], compact.as_bytes(), "{name} {}", receipt[1]);
+            assert_eq!(side.counter(&held), receipt[6].parse::<i64>().expect("cents"), "{name} {}", receipt[1]);
+            assert_eq!(state_of(&held).chain.to_vec(), unhex(&receipt[10]), "{name} {}", receipt[1]);
+        }
+        assert_eq!(buffer, journal, "{name}");
+        assert_eq!(side.counter(&held).to_string(), row[8], "{name}");
+        assert_eq!(side.last_number(&held).to_string(), row[9], "{name}");
+        assert_eq!(side.receipts(&held).to_string(), row[10], "{name}");
+        assert_eq!(state_of(&held).chain.to_vec(), unhex(&row[11]), "{name}");
+        assert_eq!(side.journal_length(&held).to_string(), row[12], "{name}");
+        let mut taken = [0xaa; STATE];
+        assert_eq!(side.take_over(&journal, &key, width, &mut taken).number, 0, "{name}");
+        assert_eq!(taken, held, "{name}");
+    }
+    assert_eq!(seen, 13);
+}
+
+/// What the program takeover prints for its standard input.
+fn takeover_line(side: &dyn Calls, input: &[u8]) -> String {
+    if !(33..=65_536).contains(&input.len()) {
+        return "refused 25 0".to_owned();
+    }
+    let mut held = [0; STATE];
+    let answer = side.take_over(&input[33..], &input[1..33], input[0] as usize, &mut held);
+    match answer.number {
+        0 => format!("accepted {} {}", side.receipts(&held), side.counter(&held)),
+        number => {
+            assert_eq!(held, [0; STATE], "the unopened state");
+            format!("refused {number} {}", answer.index)
+        }
+    }
+}
+
+pub fn takeover(side: &dyn Calls) {
+    for row in rows("../tests/takeover.tsv", 273) {
+        let mut input = unhex(&row[1]);
+        input.resize(input.len() + row[2].parse::<usize>().expect("a number of zeros"), 0);
+        assert_eq!(takeover_line(side, &input), row[3], "{}", row[0]);
+    }
+}
+
+/// The cases and edges that the paper names.
+pub fn paper(side: &dyn Calls) {
+    let details = |amounts, kind| Details { number: 5, date: GOOD_DATE, amounts, kind };
+    let register = |counter, receipts| state("K-1", [9; 32], 5, counter, 4, receipts);
+    let issue = |held: &State, details: &Details, signature: &[u8]| {
+        let (mut bytes, mut journal) = (state_bytes(held), [0; 400]);
+        side.issue(&mut bytes, details, signature, &mut journal)
+    };
+    let end = 549_755_813_887;
+    assert_eq!(issue(&register(end - 1, 1), &details([1, 0, 0, 0, 0], 0), &[1; 64]), 0);
+    assert_eq!(issue(&register(end, 1), &details([1, 0, 0, 0, 0], 0), &[1; 64]), 11);
+    assert_eq!(issue(&register(end, 1), &details([1, 0, 0, 0, 0], 1), &[1; 64]), 11);
+    assert_eq!(issue(&register(end, 1), &details([1, 0, 0, 0, 0], 2), &[1; 64]), 0);
+    assert_eq!(issue(&register(-end - 1, 1), &details([-1, 0, 0, 0, 0], 0), &[1; 64]), 11);
+    assert_eq!(issue(&register(0, 1), &details([0, 0, 9_999_999_999, 0, 0], 0), &[1; 64]), 0);
+    assert_eq!(issue(&register(0, 1), &details([0, 0, 10_000_000_000, 0, 0], 0), &[1; 64]), 9);
+    assert_eq!(issue(&register(0, 1), &details([0, 0, i64::MIN, 0, 0], 2), &[1; 64]), 9);
+    assert_eq!(issue(&register(0, 0), &details([1, -1, 0, 0, 0], 0), &[1; 64]), 10);
+    assert_eq!(issue(&register(0, 1), &details([0; 5], 0), &[1; 63]), 12);
+    assert_eq!(issue(&register(0, 1), &details([0; 5], 0), b"Sicherheitseinrichtung ausgefallen"), 12);
+    assert_eq!(issue(&register(0, 1), &details([0; 5], 3), &[1; 64]), 7);
+    for (year, day, number) in
+        [(2016, 29, 0), (2017, 29, 8), (2000, 29, 0), (2100, 28, 8), (1999, 28, 8), (2016, 30, 8)]
+    {
+        let mut dated = details([0; 5], 0);
+        (dated.date.year, dated.date.day) = (year, day);
+        assert_eq!(issue(&register(0, 1), &dated, &[1; 64]), number, "{year}-02-{day}");
+    }
+
+    let mut settings = [0; SETTINGS];
+    assert_eq!(side.settings(b"AT0", &[b'~'; 33], b"2a", 5, &[0; 32], &mut settings), 2);
+    assert_eq!(side.settings(b"AT0", &[b'~'; 32], b"2a", 5, &[0; 32], &mut settings), 0);
+    assert_eq!(encoded(side, 0, b"TRA"), b"VFJB");
+    assert_eq!(encoded(side, 0, b"STO"), b"U1RP");
+    assert_eq!(encoded(side, 1, b"{\"alg\":\"ES256\"}"), b"eyJhbGciOiJFUzI1NiJ9");
+    assert_eq!(encoded(side, 0, &unhex("0e781f8698212aef")), b"DngfhpghKu8=");
+}
