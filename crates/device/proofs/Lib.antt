@@ -1,0 +1,6 @@
+pub mod Answers
+pub mod Reading
+pub mod Spelling
+pub mod TextAnswers
+pub mod Writers
+pub mod Zeros

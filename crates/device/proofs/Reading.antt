@@ -1,0 +1,67 @@
+-- What is read from bytes, over plain variables.
+use Prim.Native.Nat.{ℕ, _+_, _-_, _≤_}
+use mathlib.Core.Path.{_≡_, sym, ap, _∙_}
+use mathlib.Core.List.{List}
+use native.Mathlib.Omega.{arith}
+use lib.IntN.{ℤ}
+use lib.ListN.{length, take, drop, length-drop}
+use lib.Seq.{take-all, length-take-le}
+use mir.Syntax.{w64}
+use mir.Val.{SFits, toZ, ofZ}
+use mir.ValLaws.{toZ-ofZ}
+use Rattle.primitives.specs.Place.{overwrite, placed}
+use Rattle.primitives.specs.Number.{numberAt}
+use Rattle.primitives.specs.Counter.{counterValue}
+use Rattle.primitives.specs.declared.buffer.Number.the-variants.{Is, Missing}
+use Rattle.primitives.proofs.Numbers.{number-there, number-found}
+use Rattle.primitives.proofs.Over.{length-over, read-over, placed-room}
+use Rattle.receipt.specs.declared.settings.Settings.{Settings}
+use Rattle.journal.specs.TakeOver.{countAt}
+use Rattle.journal.specs.declared.state.State.{State}
+use Rattle.device.specs.Layout.{settingsAt, widthAt, keyAt, stateAt}
+
+-- ---- arrays
+
+-- a write over all of a list
+pub over-all : (xs ys : List ℕ) → length ys ≡ length xs → overwrite xs 0 ys ≡ ys
+over-all xs ys e =
+    let r : 0 + length ys ≤ length xs = omega arith in
+    sym (take-all (length ys) (overwrite xs 0 ys) (omega (arith, length-over xs 0 ys r))) ∙ read-over xs 0 ys r
+
+pub placed-all : (xs ys : List ℕ) → length ys ≡ length xs → placed xs 0 ys ≡ ys
+placed-all xs ys e = placed-room xs 0 ys (omega arith) ∙ over-all xs ys e
+
+-- an array that a part of a list was copied to
+pub copied : (n : ℕ) (b zs : List ℕ) (at : ℕ) {r : List ℕ} → length zs ≡ n → at + n ≤ length b → r ≡ placed zs 0 (take (at + n - at) (drop at b))
+    → r ≡ take n (drop at b)
+copied n b zs at z h q =
+    let e : at + n - at ≡ n = omega arith in
+    let l : length (take n (drop at b)) ≡ n = length-take-le n (drop at b) (omega (arith, length-drop at b)) in
+    q ∙ ap (λ (k : ℕ). placed zs 0 (take k (drop at b))) e ∙ placed-all zs (take n (drop at b)) (l ∙ sym z)
+
+-- ---- numbers
+
+module _ (b : List ℕ) (at n : ℕ) where
+  pub long-found : {v : ℕ} → numberAt b at n ≡ Is v → v ≡ countAt b at n
+  unfolding countAt
+  long-found e = number-found b at n e .is
+
+  pub not-missing {ℓ} : {X : Type ℓ} → n ≤ 8 → at + n ≤ length b → numberAt b at n ≡ Missing → X
+  not-missing w h e =
+      let q = number-there b at n w h in
+      let z : _≡_ {A = ℕ} 0 1 = cc in
+      absurd (omega arith)
+
+pub counter-found : (b : List ℕ) (at : ℕ) {r : List ℕ} {v : ℤ} → SFits w64 v → r ≡ take 8 (drop at b) → v ≡ counterValue 8 r
+    → toZ w64 (ofZ w64 v) ≡ counterValue 8 (take 8 (drop at b))
+counter-found b at {v = v} f e q = toZ-ofZ w64 v f ∙ q ∙ ap (counterValue 8) e
+
+-- ---- the state
+
+pub state-found : (b : List ℕ) {s : Settings} {n : ℕ} {key : List ℕ} {z : ℤ} {last issued : ℕ} {chain : List ℕ} {len : ℕ} → s ≡ settingsAt b → n ≡ widthAt b
+    → key ≡ keyAt b → z ≡ counterValue 8 (take 8 (drop 123 b)) → last ≡ countAt b 131 4 → issued ≡ countAt b 135 4 → chain ≡ take 8 (drop 139 b)
+    → len ≡ countAt b 147 8
+    → record { settings = s; width = n; key = key; counter = z; last = last; issued = issued; chain = chain; length = len } ≡ stateAt b
+unfolding stateAt
+state-found b e₁ e₂ e₃ e₄ e₅ e₆ e₇ e₈ =
+    λ i. record { settings = e₁ i; width = e₂ i; key = e₃ i; counter = e₄ i; last = e₅ i; issued = e₆ i; chain = e₇ i; length = e₈ i }

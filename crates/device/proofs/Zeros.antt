@@ -1,0 +1,36 @@
+-- What is all zero, and how the questions answer it.
+use Prim.Native.Nat.{ℕ}
+use mathlib.Core.Path.{_≡_, refl, ap, _∙_}
+use mathlib.Core.Bool.{false}
+use native.Mathlib.Omega.{arith}
+use borrow.Author.Tests.{le-ltb}
+use Rattle.primitives.specs.Number.{bytesOf}
+use Rattle.primitives.specs.Counter.{widthGood, half, fitsIn, counterFits, twos, counterBytes}
+use Rattle.receipt.specs.Settings.{between, cspGood, settingsGood}
+use Rattle.journal.specs.State.{ask, unopened}
+use Rattle.journal.specs.Open.{openNumber}
+use Rattle.journal.specs.Issue.{soundAlone, sound, numberAbove, detailsNumber, issueNumber}
+use Rattle.journal.specs.Prepare.{prepareNumber}
+use Rattle.device.specs.Layout.{settingsBytes, figuresBytes, stateBytes, noSettings}
+use Rattle.device.specs.Calls.{noDetails}
+use Rattle.device.specs.Laws.{UnopenedIsZero, NoSettingsGetOne, UnopenedGetsSix, NoKindGetsSeven}
+
+pub unopened-is-zero : UnopenedIsZero
+unfolding stateBytes settingsBytes figuresBytes unopened bytesOf counterBytes counterFits fitsIn half widthGood twos
+unopened-is-zero = refl
+
+pub no-settings-get-one : NoSettingsGetOne
+unfolding openNumber noSettings cspGood between ask
+no-settings-get-one n room = refl
+
+unopened-unsound : soundAlone unopened ≡ false
+unfolding soundAlone settingsGood unopened cspGood between
+unopened-unsound = refl
+
+pub unopened-gets-six : UnopenedGetsSix
+unfolding issueNumber prepareNumber sound ask
+unopened-gets-six d sig room = (rw unopened-unsound, rw unopened-unsound)
+
+pub no-kind-gets-seven : NoKindGetsSeven
+unfolding detailsNumber numberAbove noDetails ask
+no-kind-gets-seven st rest = rw (le-ltb (st .last) 0 (omega arith))

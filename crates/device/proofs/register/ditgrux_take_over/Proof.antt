@@ -1,0 +1,42 @@
+-- `register::ditgrux_take_over` meets its contract.
+use Rattle.device.proofs.Answers.{take-none, take-some}
+use borrow.Author.Needs.{needs}
+use Rattle.device.proofs.register.ditgrux_take_over.Statement.{statement}
+use Rattle.device.proofs.register.ditgrux_take_over.Tie as tie
+
+returns : tie.Need-returns
+returns c =
+    let s = c .before .before .before .before .args in
+    take-none (s .journal .now) (s .key .now) (s .width) (s .state .now) (c .if1 .taken)
+
+key-from-requires : tie.Need-key-from-requires
+key-from-requires c κs = search needs
+
+width-with-requires : tie.Need-width-with-requires
+width-with-requires c κs = search needs
+
+take-over-requires : tie.Need-take-over-requires
+take-over-requires c κs = search needs
+
+keep-requires : tie.Need-keep-requires
+keep-requires c κs = search needs
+
+same-length : tie.Need-same-length
+same-length c = search needs
+
+returns-2 : tie.Need-returns-2
+returns-2 c =
+    let s = c .before .before .before .before .before .before .before .before .before .before .before .before .args in
+    take-some (s .journal .now) (s .key .now) (s .width) (s .state .now) (c .before .before .before .before .before .before .before .before .if1 .left) (c .before .before .before .before .before .before .before .key-from .ensures) (c .before .before .before .before .before .before .width-with .ensures) (c .before .before .before .before .before .take-over .ensures) (c .before .before .keep .ensures)
+
+pub ditgrux-take-over-spec : {M : Type 1} → statement M
+ditgrux-take-over-spec =
+    tie.close
+    (tie.spec
+    returns
+    key-from-requires
+    width-with-requires
+    take-over-requires
+    keep-requires
+    same-length
+    returns-2)

@@ -1,0 +1,12 @@
+-- `register::no_details` meets its contract.
+use mathlib.Core.Path.{refl}
+use Rattle.device.specs.Calls.{noDetails}
+use Rattle.device.proofs.register.no_details.Statement.{statement}
+use Rattle.device.proofs.register.no_details.Tie as tie
+
+returns : tie.Need-returns
+unfolding noDetails
+returns c = refl
+
+pub no-details-spec : {M : Type 1} → statement M
+no-details-spec = tie.close (tie.spec returns)

@@ -1,0 +1,59 @@
+-- `register::settings_number` meets its contract.
+use borrow.Author.Tests.{eq-eqb, ne-eqb}
+use Rattle.primitives.proofs.Questions.{yes, no}
+use Rattle.journal.specs.State.{ask}
+use Rattle.device.specs.Calls.{settingsNumber}
+use borrow.Author.Needs.{needs}
+use Rattle.device.proofs.register.settings_number.Statement.{statement}
+use Rattle.device.proofs.register.settings_number.Tie as tie
+
+csp-good-requires : tie.Need-csp-good-requires
+csp-good-requires c κs = search needs
+
+returns : tie.Need-returns
+unfolding settingsNumber ask
+returns c = rw (no (c .before .csp-good .ensures) (c .if1 .taken))
+
+id-good-requires : tie.Need-id-good-requires
+id-good-requires c κs = search needs
+
+returns-2 : tie.Need-returns-2
+unfolding settingsNumber ask
+returns-2 c = rw (yes (c .before .before .before .before .csp-good .ensures) (c .before .before .before .if1 .left), no (c .before .id-good .ensures) (c .if2 .taken))
+
+serial-good-requires : tie.Need-serial-good-requires
+serial-good-requires c κs = search needs
+
+returns-3 : tie.Need-returns-3
+unfolding settingsNumber ask
+returns-3 c = rw (yes (c .before .before .before .before .before .before .before .csp-good .ensures) (c .before .before .before .before .before .before .if1 .left), yes (c .before .before .before .before .id-good .ensures) (c .before .before .before .if2 .left), no (c .before .serial-good .ensures) (c .if3 .taken))
+
+width-good-requires : tie.Need-width-good-requires
+width-good-requires c κs = search needs
+
+returns-4 : tie.Need-returns-4
+unfolding settingsNumber ask
+returns-4 c = rw (yes (c .before .before .before .before .before .before .before .before .before .csp-good .ensures) (c .before .before .before .before .before .before .before .before .if1 .left), yes (c .before .before .before .before .before .before .id-good .ensures) (c .before .before .before .before .before .if2 .left), yes (c .before .before .before .serial-good .ensures) (c .before .before .if3 .left), no (c .before .width-good .ensures) (c .if4 .taken))
+
+returns-5 : tie.Need-returns-5
+unfolding settingsNumber ask
+returns-5 c = rw (yes (c .before .before .before .before .before .before .before .before .before .before .csp-good .ensures) (c .before .before .before .before .before .before .before .before .before .if1 .left), yes (c .before .before .before .before .before .before .before .id-good .ensures) (c .before .before .before .before .before .before .if2 .left), yes (c .before .before .before .before .serial-good .ensures) (c .before .before .before .if3 .left), yes (c .before .before .width-good .ensures) (c .before .if4 .left), ne-eqb _ 123 (c .if5 .taken))
+
+returns-6 : tie.Need-returns-6
+unfolding settingsNumber ask
+returns-6 c = rw (yes (c .before .before .before .before .before .before .before .before .before .before .csp-good .ensures) (c .before .before .before .before .before .before .before .before .before .if1 .left), yes (c .before .before .before .before .before .before .before .id-good .ensures) (c .before .before .before .before .before .before .if2 .left), yes (c .before .before .before .before .serial-good .ensures) (c .before .before .before .if3 .left), yes (c .before .before .width-good .ensures) (c .before .if4 .left), eq-eqb _ 123 (c .if5 .left))
+
+pub settings-number-spec : {M : Type 1} → statement M
+settings-number-spec =
+    tie.close
+    (tie.spec
+    csp-good-requires
+    returns
+    id-good-requires
+    returns-2
+    serial-good-requires
+    returns-3
+    width-good-requires
+    returns-4
+    returns-5
+    returns-6)

@@ -1,0 +1,94 @@
+-- What the calls of a register answer and leave, from the bytes that they are given.
+use Prim.Native.Nat.{ℕ, zero, suc}
+use mathlib.Core.Bool.{cond}
+use mathlib.Core.List.{List, [], _∷_}
+use lib.Dec.{eqb}
+use lib.IntN.{ℤ, pos}
+use lib.ListN.{length, replicate}
+use Rattle.primitives.specs.Counter.{widthGood}
+use Rattle.receipt.specs.Settings.{nameOf, cspGood, idGood, serialGood}
+use Rattle.receipt.specs.declared.settings.Settings.{Settings}
+use Rattle.receipt.specs.declared.datetime.DateTime.{DateTime}
+use Rattle.receipt.specs.declared.details.Kind.{Kind}
+use Rattle.receipt.specs.declared.details.Kind.the-variants.{Standard, Cancellation, Training}
+use Rattle.receipt.specs.declared.details.Details.{Details}
+use Rattle.journal.specs.State.{ask, ifZero, unopened}
+use Rattle.journal.specs.Open.{opened, openBuffer}
+use Rattle.journal.specs.TakeOver.{takeOver}
+use Rattle.journal.specs.declared.state.Opened.{Opened}
+use Rattle.journal.specs.declared.state.TakenOver.{TakenOver}
+use Rattle.device.specs.Layout.{settingsBytes, settingsOf, widthOf, keyOf}
+
+-- ---- settings
+
+-- three bytes, and zeros where the slice has another length
+unfoldable pub cspOf : List ℕ → List ℕ
+cspOf csp = cond (eqb (length csp) 3) csp (replicate 3 0)
+
+unfoldable pub settingsFrom : List ℕ → List ℕ → List ℕ → Settings
+settingsFrom csp id serial = record { csp = cspOf csp; id = nameOf id; serial = nameOf serial }
+
+-- a key of 32 bytes, and zeros where the slice has another length
+unfoldable pub keyFrom : List ℕ → List ℕ
+keyFrom key = cond (eqb (length key) 32) key (replicate 32 0)
+
+-- the width that comes with a key: 0, which is no width, where the key has not 32 bytes
+unfoldable pub widthWith : List ℕ → ℕ → ℕ
+widthWith key n = cond (eqb (length key) 32) n 0
+
+-- questions 1 to 4, then 23 for an output of this length
+unfoldable pub settingsNumber : Settings → ℕ → ℕ → ℕ
+settingsNumber s n room =
+    ask (cspGood (s .csp)) 1 (ask (idGood (s .id)) 2 (ask (serialGood (s .serial)) 3 (ask (widthGood n) 4 (ask (eqb room 123) 23 0))))
+
+-- the output behind the call
+unfoldable pub settingsBuffer : Settings → List ℕ → ℕ → List ℕ → List ℕ
+settingsBuffer s key n out = ifZero (settingsNumber s (widthWith key n) (length out)) (settingsBytes s n key) out
+
+-- ---- open
+
+-- the answer for a state's slice of this length: 6, and then questions 1 to 5
+unfoldable pub openAnswer : List ℕ → ℕ → ℕ → Opened
+openAnswer settings room size =
+    cond (eqb size 155) (opened (settingsOf settings) (keyOf settings) (widthOf settings) room) (record { number = 6; state = unopened })
+
+-- the journal behind the call
+unfoldable pub openJournal : List ℕ → ℕ → List ℕ → List ℕ
+openJournal settings size journal = cond (eqb size 155) (openBuffer (settingsOf settings) (widthOf settings) journal) journal
+
+-- ---- the details of a receipt
+
+-- all zero: a number that question 7 always refuses
+unfoldable pub noDetails : Details
+noDetails =
+    record {
+      number = 0;
+      date = record { year = 0; month = 0; day = 0; hour = 0; minute = 0; second = 0 };
+      amounts = replicate 5 (pos 0);
+      kind = Standard;
+    }
+
+unfoldable pub dateOf : ℕ → ℕ → ℕ → ℕ → ℕ → ℕ → DateTime
+dateOf year month day hour minute second =
+    record { year = year; month = month; day = day; hour = hour; minute = minute; second = second }
+
+unfoldable pub detailsWith : ℕ → DateTime → List ℤ → Kind → Details
+detailsWith number date amounts kind = record { number = number; date = date; amounts = amounts; kind = kind }
+
+-- kinds 0, 1 and 2; nothing of a receipt with another kind
+unfoldable pub ofKind : ℕ → DateTime → List ℤ → ℕ → Details
+ofKind number date amounts kind =
+    cond (eqb kind 0) (detailsWith number date amounts Standard)
+    (cond (eqb kind 1) (detailsWith number date amounts Cancellation)
+    (cond (eqb kind 2) (detailsWith number date amounts Training) noDetails))
+
+unfoldable pub detailsOf : ℕ → ℕ → ℕ → ℕ → ℕ → ℕ → ℕ → ℤ → ℤ → ℤ → ℤ → ℤ → ℕ → Details
+detailsOf number year month day hour minute second a b c d e kind =
+    ofKind number (dateOf year month day hour minute second) (a ∷ b ∷ c ∷ d ∷ e ∷ []) kind
+
+-- ---- take over
+
+-- the answer for a state's slice of this length: 6 with index 0, and then questions 4 and 14 to 21
+unfoldable pub takeOverAnswer : List ℕ → List ℕ → ℕ → ℕ → TakenOver
+takeOverAnswer journal key n size =
+    cond (eqb size 155) (takeOver journal (keyFrom key) (widthWith key n)) (record { number = 6; index = 0; state = unopened })

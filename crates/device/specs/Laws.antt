@@ -1,0 +1,75 @@
+-- What holds of the bytes of settings and states. Proved in proofs/.
+use Prim.Native.Nat.{ℕ, _<_}
+use mathlib.Core.Path.{_≡_}
+use mathlib.Core.Bool.{true}
+use mathlib.Core.List.{List}
+use lib.ListN.{length, replicate}
+use Rattle.primitives.specs.Bytes.{AllBytes}
+use Rattle.primitives.specs.Counter.{fitsIn}
+use Rattle.receipt.specs.declared.settings.Settings.{Settings}
+use Rattle.receipt.specs.declared.details.Details.{Details}
+use Rattle.journal.specs.State.{Typed, unopened}
+use Rattle.journal.specs.Open.{openNumber}
+use Rattle.journal.specs.Prepare.{prepareNumber}
+use Rattle.journal.specs.Issue.{detailsNumber, issueNumber, issued}
+use Rattle.journal.specs.declared.state.State.{State}
+use Rattle.device.specs.Layout.{settingsBytes, stateBytes, noSettings, settingsOf, widthOf, keyOf, stateOf, kept}
+use Rattle.device.specs.Calls.{noDetails}
+
+-- ---- what the code's types say
+
+-- settings, width and key: arrays of so many bytes, and numbers of 64 bits
+pub record TypedRegister (s : Settings) (n : ℕ) (key : List ℕ) : Type 0 where
+  pub settings : Typed s
+  pub id : s .id .len < 18446744073709551616
+  pub serial : s .serial .len < 18446744073709551616
+  pub width : n < 18446744073709551616
+  pub keyLength : length key ≡ 32
+  pub keyBytes : AllBytes key
+
+pub record TypedState (st : State) : Type 0 where
+  pub register : TypedRegister (st .settings) (st .width) (st .key)
+  pub counter : fitsIn 8 (st .counter) ≡ true
+  pub last : st .last < 4294967296
+  pub issued : st .issued < 4294967296
+  pub chain : length (st .chain) ≡ 8
+  pub chainBytes : AllBytes (st .chain)
+  pub length : st .length < 18446744073709551616
+
+-- ---- reading and writing undo each other
+
+abbrev pub SettingsAreRead : Type 0
+SettingsAreRead =
+    (s : Settings) (n : ℕ) (key : List ℕ) → TypedRegister s n key
+    → (settingsOf (settingsBytes s n key) ≡ s) × (widthOf (settingsBytes s n key) ≡ n) × (keyOf (settingsBytes s n key) ≡ key)
+
+abbrev pub SettingsBytesAreKept : Type 0
+SettingsBytesAreKept = (b : List ℕ) → AllBytes b → length b ≡ 123 → settingsBytes (settingsOf b) (widthOf b) (keyOf b) ≡ b
+
+abbrev pub StateIsRead : Type 0
+StateIsRead = (st : State) → TypedState st → stateOf (stateBytes st) ≡ st
+
+abbrev pub BytesAreKept : Type 0
+BytesAreKept = (b : List ℕ) → AllBytes b → length b ≡ 155 → stateBytes (stateOf b) ≡ b
+
+-- ---- what is all zero
+
+abbrev pub UnopenedIsZero : Type 0
+UnopenedIsZero = stateBytes unopened ≡ replicate 155 0
+
+-- settings of another length get 1, a state of another length gets 6, and a kind that is none gets 7
+abbrev pub NoSettingsGetOne : Type 0
+NoSettingsGetOne = (n room : ℕ) → openNumber noSettings n room ≡ 1
+
+abbrev pub UnopenedGetsSix : Type 0
+UnopenedGetsSix = (d : Details) (sig : List ℕ) (room : ℕ) → (issueNumber unopened d sig room ≡ 6) × (prepareNumber unopened d room ≡ 6)
+
+abbrev pub NoKindGetsSeven : Type 0
+NoKindGetsSeven = (st : State) (rest : ℕ) → detailsNumber st noDetails rest ≡ 7
+
+-- ---- a refused Issue leaves the bytes of the state as they were, also those of a slice that has not 155
+
+abbrev pub RefusedIssueKeepsState : Type 0
+RefusedIssueKeepsState =
+    (b : List ℕ) → AllBytes b → (d : Details) (sig : List ℕ) (room : ℕ) → (issued (stateOf b) d sig room .number ≡ 0 → ⊥)
+    → kept b (issued (stateOf b) d sig room .state) ≡ b

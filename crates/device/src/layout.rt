@@ -1,0 +1,301 @@
+// Settings and the state of a register, read from bytes and written as bytes. Numbers are big-endian.
+use journal::State;
+use receipt::Name;
+use receipt::Number;
+use receipt::Settings;
+ghost use mathlib.Core.Path.{_≡_};
+ghost use mathlib.Core.List.{_++_};
+ghost use Prim.Native.Nat.{_+_, _≤_};
+ghost use lib.ListN.{length, take, drop};
+ghost use Rattle.primitives.specs.Place.{overwrite};
+ghost use Rattle.primitives.specs.Number.{bytesOf};
+ghost use Rattle.primitives.specs.Counter.{counterBytes, counterValue};
+ghost use Rattle.journal.specs.State.{unopened};
+ghost use Rattle.journal.specs.TakeOver.{countAt};
+ghost use Rattle.device.specs.Layout.{nameBytes, settingsBytes, stateBytes, nameAt, settingsAt, widthAt, keyAt, stateAt, noSettings, settingsOf, widthOf, keyOf, stateOf, kept};
+
+// The bytes of settings, and those of a state.
+pub(crate) const SETTINGS: usize = 123;
+
+pub(crate) const STATE: usize = 155;
+
+// ---- reading
+
+fn array3_at(b: &[u8], at: usize) -> [u8; 3]
+    requires { ⌜ at + 3 ≤ length (now b) ⌝ }
+    ensures { λ r. ⌜ r ≡ take 3 (drop at (now (b .entry))) ⌝ }
+{
+    let mut r = [0u8; 3];
+    let end = at + 3;
+    let _ = receipt::put(&mut r, 0, &b[at..end]);
+    r
+}
+
+fn array8_at(b: &[u8], at: usize) -> [u8; 8]
+    requires { ⌜ at + 8 ≤ length (now b) ⌝ }
+    ensures { λ r. ⌜ r ≡ take 8 (drop at (now (b .entry))) ⌝ }
+{
+    let mut r = [0u8; 8];
+    let end = at + 8;
+    let _ = receipt::put(&mut r, 0, &b[at..end]);
+    r
+}
+
+fn array32_at(b: &[u8], at: usize) -> [u8; 32]
+    requires { ⌜ at + 32 ≤ length (now b) ⌝ }
+    ensures { λ r. ⌜ r ≡ take 32 (drop at (now (b .entry))) ⌝ }
+{
+    let mut r = [0u8; 32];
+    let end = at + 32;
+    let _ = receipt::put(&mut r, 0, &b[at..end]);
+    r
+}
+
+// The number of four bytes.
+fn word_at(b: &[u8], at: usize) -> u32
+    requires { ⌜ at + 4 ≤ length (now b) ⌝ }
+    ensures { λ r. ⌜ r ≡ countAt (now (b .entry)) at 4 ⌝ }
+{
+    match receipt::number_at(b, at, 4) {
+        Number::Is(v) => v as u32,
+        Number::Missing => 0,
+    }
+}
+
+// The number of eight bytes.
+fn long_at(b: &[u8], at: usize) -> usize
+    requires { ⌜ at + 8 ≤ length (now b) ⌝ }
+    ensures { λ r. ⌜ r ≡ countAt (now (b .entry)) at 8 ⌝ }
+{
+    match receipt::number_at(b, at, 8) {
+        Number::Is(v) => v as usize,
+        Number::Missing => 0,
+    }
+}
+
+// The counter of eight bytes.
+fn counter_at(b: &[u8], at: usize) -> i64
+    requires { ⌜ at + 8 ≤ length (now b) ⌝ }
+    ensures { λ r. ⌜ r ≡ counterValue 8 (take 8 (drop at (now (b .entry)))) ⌝ }
+{
+    let bytes = array8_at(b, at);
+    primitives::counter_value(8, bytes)
+}
+
+fn name_at(b: &[u8], at: usize) -> Name
+    requires { ⌜ at + 40 ≤ length (now b) ⌝ }
+    ensures { λ r. ⌜ r ≡ nameAt (now (b .entry)) at ⌝ }
+{
+    let bytes = array32_at(b, at);
+    let len = long_at(b, at + 32);
+    Name { bytes, len }
+}
+
+fn settings_at(b: &[u8]) -> Settings
+    requires { ⌜ 123 ≤ length (now b) ⌝ }
+    ensures { λ r. ⌜ r ≡ settingsAt (now (b .entry)) ⌝ }
+{
+    let csp = array3_at(b, 0);
+    let id = name_at(b, 3);
+    let serial = name_at(b, 43);
+    Settings { csp, id, serial }
+}
+
+fn width_at(b: &[u8]) -> usize
+    requires { ⌜ 123 ≤ length (now b) ⌝ }
+    ensures { λ r. ⌜ r ≡ widthAt (now (b .entry)) ⌝ }
+{
+    long_at(b, 83)
+}
+
+fn key_at(b: &[u8]) -> [u8; 32]
+    requires { ⌜ 123 ≤ length (now b) ⌝ }
+    ensures { λ r. ⌜ r ≡ keyAt (now (b .entry)) ⌝ }
+{
+    array32_at(b, 91)
+}
+
+fn state_at(b: &[u8]) -> State
+    requires { ⌜ 155 ≤ length (now b) ⌝ }
+    ensures { λ r. ⌜ r ≡ stateAt (now (b .entry)) ⌝ }
+{
+    let settings = settings_at(b);
+    let width = width_at(b);
+    let key = key_at(b);
+    let counter = counter_at(b, 123);
+    let last = word_at(b, 131);
+    let issued = word_at(b, 135);
+    let chain = array8_at(b, 139);
+    let length = long_at(b, 147);
+    State {
+        settings,
+        width,
+        key,
+        counter,
+        last,
+        issued,
+        chain,
+        length,
+    }
+}
+
+// ---- slices of any length
+
+fn no_settings() -> Settings
+    ensures { λ r. ⌜ r ≡ noSettings ⌝ }
+{
+    Settings {
+        csp: [0u8; 3],
+        id: Name {
+            bytes: [0u8; 32],
+            len: 0,
+        },
+        serial: Name {
+            bytes: [0u8; 32],
+            len: 0,
+        },
+    }
+}
+
+// The state that is all zero.
+fn unopened() -> State
+    ensures { λ r. ⌜ r ≡ unopened ⌝ }
+{
+    let settings = no_settings();
+    State {
+        settings: settings,
+        width: 0,
+        key: [0u8; 32],
+        counter: 0,
+        last: 0,
+        issued: 0,
+        chain: [0u8; 8],
+        length: 0,
+    }
+}
+
+// The settings in 123 bytes; all zero in a slice of another length.
+pub(crate) fn settings_of(b: &[u8]) -> Settings
+    ensures { λ r. ⌜ r ≡ settingsOf (now (b .entry)) ⌝ }
+{
+    if b.len() != SETTINGS {
+        return no_settings();
+    }
+    settings_at(b)
+}
+
+// The width in 123 bytes.
+pub(crate) fn width_of(b: &[u8]) -> usize
+    ensures { λ r. ⌜ r ≡ widthOf (now (b .entry)) ⌝ }
+{
+    if b.len() != SETTINGS {
+        return 0;
+    }
+    width_at(b)
+}
+
+// The key in 123 bytes.
+pub(crate) fn key_of(b: &[u8]) -> [u8; 32]
+    ensures { λ r. ⌜ r ≡ keyOf (now (b .entry)) ⌝ }
+{
+    if b.len() != SETTINGS {
+        return [0u8; 32];
+    }
+    key_at(b)
+}
+
+// The state in 155 bytes; the unopened one in a slice of another length.
+pub(crate) fn state_of(b: &[u8]) -> State
+    ensures { λ r. ⌜ r ≡ stateOf (now (b .entry)) ⌝ }
+{
+    if b.len() != STATE {
+        return unopened();
+    }
+    state_at(b)
+}
+
+// ---- writing
+
+// A name at a place: 32 bytes, and its length in eight.
+fn put_name(name: Name, out: &mut [u8], at: usize)
+    requires { ⌜ at + 40 ≤ length (now out) ⌝ }
+    ensures { λ _. ⌜ now (out .exit) ≡ overwrite (now (out .entry)) at (nameBytes name) ⌝ }
+{
+    let bytes = name.bytes;
+    let _ = receipt::put(out, at, &bytes);
+    let _ = receipt::put_number(out, at + 32, 8, name.len as u64);
+}
+
+// CSP, ID and serial, at the start.
+fn put_names(s: Settings, out: &mut [u8])
+    requires { ⌜ 83 ≤ length (now out) ⌝ }
+    ensures { λ _. ⌜ now (out .exit) ≡ overwrite (now (out .entry)) 0 (s .csp ++ nameBytes (s .id) ++ nameBytes (s .serial)) ⌝ }
+{
+    let csp = s.csp;
+    let id = s.id;
+    let serial = s.serial;
+    let _ = receipt::put(out, 0, &csp);
+    put_name(id, out, 3);
+    put_name(serial, out, 43);
+}
+
+// Width and key behind them.
+fn put_key(n: usize, key: [u8; 32], out: &mut [u8])
+    requires { ⌜ 123 ≤ length (now out) ⌝ }
+    ensures { λ _. ⌜ now (out .exit) ≡ overwrite (now (out .entry)) 83 (bytesOf 8 n ++ key) ⌝ }
+{
+    let _ = receipt::put_number(out, 83, 8, n as u64);
+    let _ = receipt::put(out, 91, &key);
+}
+
+// Settings, width and key, at the start.
+pub(crate) fn put_settings(s: Settings, n: usize, key: [u8; 32], out: &mut [u8])
+    requires { ⌜ 123 ≤ length (now out) ⌝ }
+    ensures { λ _. ⌜ now (out .exit) ≡ overwrite (now (out .entry)) 0 (settingsBytes s n key) ⌝ }
+{
+    put_names(s, out);
+    put_key(n, key, out);
+}
+
+// Counter, last number and receipts issued, behind the settings.
+fn put_counts(st: State, out: &mut [u8])
+    requires { ⌜ 155 ≤ length (now out) ⌝ }
+    ensures { λ _. ⌜ now (out .exit) ≡ overwrite (now (out .entry)) 123 (counterBytes 8 (st .counter) ++ bytesOf 4 (st .last) ++ bytesOf 4 (st .issued)) ⌝ }
+{
+    let counter = primitives::counter_bytes(8, st.counter);
+    let _ = receipt::put(out, 123, &counter);
+    let _ = receipt::put_number(out, 131, 4, st.last as u64);
+    let _ = receipt::put_number(out, 135, 4, st.issued as u64);
+}
+
+// Chain value and length of the journal behind them.
+fn put_chain(st: State, out: &mut [u8])
+    requires { ⌜ 155 ≤ length (now out) ⌝ }
+    ensures { λ _. ⌜ now (out .exit) ≡ overwrite (now (out .entry)) 139 (st .chain ++ bytesOf 8 (st .length)) ⌝ }
+{
+    let chain = st.chain;
+    let _ = receipt::put(out, 139, &chain);
+    let _ = receipt::put_number(out, 147, 8, st.length as u64);
+}
+
+// A state in its 155 bytes.
+fn put_state(st: State, out: &mut [u8])
+    requires { ⌜ length (now out) ≡ 155 ⌝ }
+    ensures { λ _. ⌜ now (out .exit) ≡ stateBytes st ⌝ }
+{
+    let settings = st.settings;
+    let key = st.key;
+    put_settings(settings, st.width, key, out);
+    put_counts(st, out);
+    put_chain(st, out);
+}
+
+// A state in its slice; nothing is written where that has not 155 bytes.
+pub(crate) fn keep(st: State, out: &mut [u8])
+    ensures { λ _. ⌜ now (out .exit) ≡ kept (now (out .entry)) st ⌝ }
+{
+    if out.len() != STATE {
+        return;
+    }
+    put_state(st, out);
+}

@@ -1,0 +1,372 @@
+// The calls of a register.
+use super::layout::SETTINGS;
+use super::layout::STATE;
+use super::layout::keep;
+use super::layout::key_of;
+use super::layout::put_settings;
+use super::layout::settings_of;
+use super::layout::state_of;
+use super::layout::width_of;
+use receipt::DateTime;
+use receipt::Details;
+use receipt::Kind;
+use receipt::Settings;
+ghost use mathlib.Core.Path.{_≡_};
+ghost use lib.ListN.{length};
+ghost use Rattle.journal.specs.Issue.{issued, issueBuffer};
+ghost use Rattle.journal.specs.Prepare.{prepareAnswer, prepareBuffer};
+ghost use Rattle.device.specs.Layout.{stateOf, kept};
+ghost use Rattle.device.specs.Calls.{cspOf, settingsFrom, keyFrom, widthWith, settingsNumber, settingsBuffer, openAnswer, openJournal, noDetails, detailsWith, ofKind, dateOf, detailsOf, takeOverAnswer};
+
+// ---- settings
+
+// Three bytes; zeros where the slice has another length.
+fn csp_of(csp: &[u8]) -> [u8; 3]
+    ensures { λ r. ⌜ r ≡ cspOf (now (csp .entry)) ⌝ }
+{
+    let mut r = [0u8; 3];
+    if csp.len() != 3 {
+        return r;
+    }
+    let _ = receipt::put(&mut r, 0, csp);
+    r
+}
+
+fn settings_from(csp: &[u8], id: &[u8], serial: &[u8]) -> Settings
+    ensures { λ r. ⌜ r ≡ settingsFrom (now (csp .entry)) (now (id .entry)) (now (serial .entry)) ⌝ }
+{
+    let c = csp_of(csp);
+    let i = receipt::name_at(id);
+    let s = receipt::name_at(serial);
+    Settings {
+        csp: c,
+        id: i,
+        serial: s,
+    }
+}
+
+// A key of 32 bytes; zeros where the slice has another length.
+fn key_from(key: &[u8]) -> [u8; 32]
+    ensures { λ r. ⌜ r ≡ keyFrom (now (key .entry)) ⌝ }
+{
+    let mut r = [0u8; 32];
+    if key.len() != 32 {
+        return r;
+    }
+    let _ = receipt::put(&mut r, 0, key);
+    r
+}
+
+// The width that comes with a key: 0, which is no width, where the key has not 32 bytes.
+fn width_with(key: &[u8], n: usize) -> usize
+    ensures { λ r. ⌜ r ≡ widthWith (now (key .entry)) n ⌝ }
+{
+    if key.len() != 32 {
+        return 0;
+    }
+    n
+}
+
+// Questions 1 to 4, then 23 for an output of this length.
+fn settings_number(s: Settings, n: usize, room: usize) -> u32
+    ensures { λ r. ⌜ r ≡ settingsNumber s n room ⌝ }
+{
+    let csp = s.csp;
+    if !receipt::csp_good(csp) {
+        return 1;
+    }
+    let id = s.id;
+    if !receipt::id_good(id) {
+        return 2;
+    }
+    let serial = s.serial;
+    if !receipt::serial_good(serial) {
+        return 3;
+    }
+    if !receipt::width_good(n) {
+        return 4;
+    }
+    if room != SETTINGS {
+        return 23;
+    }
+    0
+}
+
+// Writes the settings.
+#[no_mangle]
+pub extern "C" fn ditgrux_settings(
+    csp: &[u8],
+    id: &[u8],
+    serial: &[u8],
+    width: usize,
+    key: &[u8],
+    settings: &mut [u8],
+) -> u32
+    ensures { λ r. ⌜ (r ≡ settingsNumber (settingsFrom (now (csp .entry)) (now (id .entry)) (now (serial .entry))) (widthWith (now (key .entry)) width) (length (now (settings .entry)))) × (now (settings .exit) ≡ settingsBuffer (settingsFrom (now (csp .entry)) (now (id .entry)) (now (serial .entry))) (now (key .entry)) width (now (settings .entry))) ⌝ }
+{
+    let s = settings_from(csp, id, serial);
+    let n = width_with(key, width);
+    let number = settings_number(s, n, settings.len());
+    if number != 0 {
+        return number;
+    }
+    let k = key_from(key);
+    put_settings(s, n, k, settings);
+    0
+}
+
+// ---- what a state says
+
+// The turnover counter in cents.
+#[no_mangle]
+pub extern "C" fn ditgrux_counter(state: &[u8]) -> i64
+    ensures { λ r. ⌜ r ≡ stateOf (now (state .entry)) .counter ⌝ }
+{
+    let st = state_of(state);
+    st.counter
+}
+
+// The last receipt number.
+#[no_mangle]
+pub extern "C" fn ditgrux_last_number(state: &[u8]) -> u32
+    ensures { λ r. ⌜ r ≡ stateOf (now (state .entry)) .last ⌝ }
+{
+    let st = state_of(state);
+    st.last
+}
+
+// The receipts issued.
+#[no_mangle]
+pub extern "C" fn ditgrux_receipts(state: &[u8]) -> u32
+    ensures { λ r. ⌜ r ≡ stateOf (now (state .entry)) .issued ⌝ }
+{
+    let st = state_of(state);
+    st.issued
+}
+
+// The length of the journal.
+#[no_mangle]
+pub extern "C" fn ditgrux_journal_length(state: &[u8]) -> usize
+    ensures { λ r. ⌜ r ≡ stateOf (now (state .entry)) .length ⌝ }
+{
+    let st = state_of(state);
+    st.length
+}
+
+// ---- open
+
+// Writes the head of a journal, and the state behind it. 6 where the state has not 155 bytes, then questions 1 to 5.
+#[no_mangle]
+pub extern "C" fn ditgrux_open(settings: &[u8], journal: &mut [u8], state: &mut [u8]) -> u32
+    ensures { λ r. ⌜ (r ≡ openAnswer (now (settings .entry)) (length (now (journal .entry))) (length (now (state .entry))) .number) × (now (journal .exit) ≡ openJournal (now (settings .entry)) (length (now (state .entry))) (now (journal .entry))) × (now (state .exit) ≡ kept (now (state .entry)) (openAnswer (now (settings .entry)) (length (now (journal .entry))) (length (now (state .entry))) .state)) ⌝ }
+{
+    if state.len() != STATE {
+        return 6;
+    }
+    let s = settings_of(settings);
+    let n = width_of(settings);
+    let key = key_of(settings);
+    let opened = journal::open(s, key, n, journal);
+    let st = opened.state;
+    keep(st, state);
+    opened.number
+}
+
+// ---- the details of a receipt
+
+fn no_details() -> Details
+    ensures { λ r. ⌜ r ≡ noDetails ⌝ }
+{
+    Details {
+        number: 0,
+        date: DateTime {
+            year: 0,
+            month: 0,
+            day: 0,
+            hour: 0,
+            minute: 0,
+            second: 0,
+        },
+        amounts: [0i64; 5],
+        kind: Kind::Standard,
+    }
+}
+
+fn details_with(number: u32, date: DateTime, amounts: [i64; 5], kind: Kind) -> Details
+    ensures { λ r. ⌜ r ≡ detailsWith number date amounts kind ⌝ }
+{
+    Details {
+        number,
+        date,
+        amounts,
+        kind,
+    }
+}
+
+// Kinds 0, 1 and 2; details that are all zero where the kind is another.
+fn of_kind(number: u32, date: DateTime, amounts: [i64; 5], kind: u32) -> Details
+    ensures { λ r. ⌜ r ≡ ofKind number date amounts kind ⌝ }
+{
+    if kind == 0 {
+        return details_with(number, date, amounts, Kind::Standard);
+    }
+    if kind == 1 {
+        return details_with(number, date, amounts, Kind::Cancellation);
+    }
+    if kind == 2 {
+        return details_with(number, date, amounts, Kind::Training);
+    }
+    no_details()
+}
+
+fn date_of(year: u32, month: u32, day: u32, hour: u32, minute: u32, second: u32) -> DateTime
+    ensures { λ r. ⌜ r ≡ dateOf year month day hour minute second ⌝ }
+{
+    DateTime {
+        year,
+        month,
+        day,
+        hour,
+        minute,
+        second,
+    }
+}
+
+fn details_of(
+    number: u32,
+    year: u32,
+    month: u32,
+    day: u32,
+    hour: u32,
+    minute: u32,
+    second: u32,
+    a: i64,
+    b: i64,
+    c: i64,
+    d: i64,
+    e: i64,
+    kind: u32,
+) -> Details
+    ensures { λ r. ⌜ r ≡ detailsOf number year month day hour minute second a b c d e kind ⌝ }
+{
+    let date = date_of(year, month, day, hour, minute, second);
+    let amounts = [a, b, c, d, e];
+    of_kind(number, date, amounts, kind)
+}
+
+// ---- prepare
+
+// Writes what the device signs. Questions 6 to 11, then 13 for the output.
+#[no_mangle]
+pub extern "C" fn ditgrux_prepare(
+    state: &[u8],
+    number: u32,
+    year: u32,
+    month: u32,
+    day: u32,
+    hour: u32,
+    minute: u32,
+    second: u32,
+    standard: i64,
+    reduced_1: i64,
+    reduced_2: i64,
+    zero: i64,
+    special: i64,
+    kind: u32,
+    output: &mut [u8],
+    length: &mut usize,
+) -> u32
+    ensures { λ r. ⌜ (r ≡ prepareAnswer (stateOf (now (state .entry))) (detailsOf number year month day hour minute second standard «reduced_1» «reduced_2» zero special kind) (lib.ListN.length (now (output .entry))) .number) × (now (output .exit) ≡ prepareBuffer (stateOf (now (state .entry))) (detailsOf number year month day hour minute second standard «reduced_1» «reduced_2» zero special kind) (now (output .entry))) × (now (length .exit) ≡ prepareAnswer (stateOf (now (state .entry))) (detailsOf number year month day hour minute second standard «reduced_1» «reduced_2» zero special kind) (lib.ListN.length (now (output .entry))) .length) ⌝ }
+{
+    let st = state_of(state);
+    let d = details_of(
+        number,
+        year,
+        month,
+        day,
+        hour,
+        minute,
+        second,
+        standard,
+        reduced_1,
+        reduced_2,
+        zero,
+        special,
+        kind,
+    );
+    let answer = journal::prepare(st, d, output);
+    *length = answer.length;
+    answer.number
+}
+
+// ---- issue
+
+// Appends a receipt to the journal, and writes the state behind it. Questions 6 to 13.
+#[no_mangle]
+pub extern "C" fn ditgrux_issue(
+    state: &mut [u8],
+    number: u32,
+    year: u32,
+    month: u32,
+    day: u32,
+    hour: u32,
+    minute: u32,
+    second: u32,
+    standard: i64,
+    reduced_1: i64,
+    reduced_2: i64,
+    zero: i64,
+    special: i64,
+    kind: u32,
+    signature: &[u8],
+    journal: &mut [u8],
+) -> u32
+    ensures { λ r. ⌜ (r ≡ issued (stateOf (now (state .entry))) (detailsOf number year month day hour minute second standard «reduced_1» «reduced_2» zero special kind) (now (signature .entry)) (length (now (journal .entry))) .number) × (now (state .exit) ≡ kept (now (state .entry)) (issued (stateOf (now (state .entry))) (detailsOf number year month day hour minute second standard «reduced_1» «reduced_2» zero special kind) (now (signature .entry)) (length (now (journal .entry))) .state)) × (now (journal .exit) ≡ issueBuffer (stateOf (now (state .entry))) (detailsOf number year month day hour minute second standard «reduced_1» «reduced_2» zero special kind) (now (signature .entry)) (now (journal .entry))) ⌝ }
+{
+    let st = state_of(state);
+    let d = details_of(
+        number,
+        year,
+        month,
+        day,
+        hour,
+        minute,
+        second,
+        standard,
+        reduced_1,
+        reduced_2,
+        zero,
+        special,
+        kind,
+    );
+    let answer = journal::issue(st, d, signature, journal);
+    let after = answer.state;
+    keep(after, state);
+    answer.number
+}
+
+// ---- take over
+
+// Checks a whole journal, and writes the state behind it. 6 where the state has not 155 bytes, then questions 4 and 14 to 21.
+#[no_mangle]
+pub extern "C" fn ditgrux_take_over(
+    journal: &[u8],
+    key: &[u8],
+    width: usize,
+    state: &mut [u8],
+    index: &mut u32,
+) -> u32
+    ensures { λ r. ⌜ (r ≡ takeOverAnswer (now (journal .entry)) (now (key .entry)) width (length (now (state .entry))) .number) × (now (state .exit) ≡ kept (now (state .entry)) (takeOverAnswer (now (journal .entry)) (now (key .entry)) width (length (now (state .entry))) .state)) × (now (index .exit) ≡ takeOverAnswer (now (journal .entry)) (now (key .entry)) width (length (now (state .entry))) .index) ⌝ }
+{
+    if state.len() != STATE {
+        *index = 0;
+        return 6;
+    }
+    let k = key_from(key);
+    let n = width_with(key, width);
+    let answer = journal::take_over(journal, k, n);
+    let st = answer.state;
+    keep(st, state);
+    *index = answer.index;
+    answer.number
+}

@@ -1,0 +1,134 @@
+// The machine-readable code, and calls for tests: SHA-256 and BASE64.
+use primitives::Alphabet;
+use primitives::Decoded;
+ghost use mathlib.Core.Path.{_≡_};
+ghost use Rattle.receipt.specs.Code.{codeAnswer, codeBuffer, uncodeAnswer, uncodeBuffer, idPlace};
+ghost use Rattle.device.specs.Texts.{writtenNumber, decodedLength, decodedNumber, fieldsNumber, fieldsLength, hashNumber, hashBuffer, alphabetOf, encodeAnswer, encodeBuffer, decodeAnswer, decodeBuffer};
+
+// ---- the machine-readable code
+
+// The code of a compact form. Questions 22 and 23.
+#[no_mangle]
+pub extern "C" fn ditgrux_code(form: &[u8], output: &mut [u8], length: &mut usize) -> u32
+    ensures { λ r. ⌜ (r ≡ codeAnswer (now (form .entry)) (now (output .entry)) .number) × (now (output .exit) ≡ codeBuffer (now (form .entry)) (now (output .entry))) × (now (length .exit) ≡ codeAnswer (now (form .entry)) (now (output .entry)) .length) ⌝ }
+{
+    let answer = receipt::code(form, output);
+    *length = answer.length;
+    answer.number
+}
+
+// The compact form of a code. Questions 24 and 23.
+#[no_mangle]
+pub extern "C" fn ditgrux_uncode(code: &[u8], output: &mut [u8], length: &mut usize) -> u32
+    ensures { λ r. ⌜ (r ≡ uncodeAnswer (now (code .entry)) (now (output .entry)) .number) × (now (output .exit) ≡ uncodeBuffer (now (code .entry)) (now (output .entry))) × (now (length .exit) ≡ uncodeAnswer (now (code .entry)) (now (output .entry)) .length) ⌝ }
+{
+    let answer = receipt::uncode(code, output);
+    *length = answer.length;
+    answer.number
+}
+
+// Where in a code the register ID stands, and its length. Question 24.
+#[no_mangle]
+pub extern "C" fn ditgrux_fields(code: &[u8], start: &mut usize, length: &mut usize) -> u32
+    ensures { λ r. ⌜ (r ≡ fieldsNumber (now (code .entry))) × (now (start .exit) ≡ idPlace (now (code .entry)) .start) × (now (length .exit) ≡ fieldsLength (now (code .entry))) ⌝ }
+{
+    let place = receipt::id_place(code);
+    let a = place.start;
+    let e = place.end;
+    *start = a;
+    *length = e - a;
+    if a == e {
+        return 24;
+    }
+    0
+}
+
+// ---- for tests
+
+// The SHA-256 value. 23 where the output has not 32 bytes.
+#[no_mangle]
+pub extern "C" fn ditgrux_sha256(data: &[u8], output: &mut [u8]) -> u32
+    ensures { λ r. ⌜ (r ≡ hashNumber (now (output .entry))) × (now (output .exit) ≡ hashBuffer (now («data» .entry)) (now (output .entry))) ⌝ }
+{
+    if output.len() < 32 {
+        return 23;
+    }
+    let hash = primitives::sha256(data);
+    let _ = receipt::put(output, 0, &hash);
+    0
+}
+
+// 0 is padded BASE64, any other number BASE64-URL.
+fn alphabet_of(url: u32) -> Alphabet
+    ensures { λ r. ⌜ r ≡ alphabetOf url ⌝ }
+{
+    if url == 0 {
+        return Alphabet::Standard;
+    }
+    Alphabet::UrlSafe
+}
+
+// 23 where some bytes have no text: it did not fit.
+fn written_number(n: usize, end: usize) -> u32
+    ensures { λ r. ⌜ r ≡ writtenNumber n end ⌝ }
+{
+    if n == 0 {
+        return 0;
+    }
+    if end == 0 {
+        return 23;
+    }
+    0
+}
+
+// The text of bytes. 23 where it does not fit.
+#[no_mangle]
+pub extern "C" fn ditgrux_base64(
+    url: u32,
+    data: &[u8],
+    output: &mut [u8],
+    length: &mut usize,
+) -> u32
+    ensures { λ r. ⌜ (r ≡ encodeAnswer url (now («data» .entry)) (now (output .entry)) .number) × (now (output .exit) ≡ encodeBuffer url (now («data» .entry)) (now (output .entry))) × (now (length .exit) ≡ encodeAnswer url (now («data» .entry)) (now (output .entry)) .length) ⌝ }
+{
+    let alphabet = alphabet_of(url);
+    let end = primitives::base64_encode(alphabet, data, output, 0);
+    *length = end;
+    written_number(data.len(), end)
+}
+
+fn decoded_length(d: Decoded) -> usize
+    ensures { λ r. ⌜ r ≡ decodedLength d ⌝ }
+{
+    match d {
+        Decoded::Upto(end) => end,
+        Decoded::Refused => 0,
+        Decoded::NoRoom => 0,
+    }
+}
+
+fn decoded_number(d: Decoded) -> u32
+    ensures { λ r. ⌜ r ≡ decodedNumber d ⌝ }
+{
+    match d {
+        Decoded::Upto(_) => 0,
+        Decoded::Refused => 22,
+        Decoded::NoRoom => 23,
+    }
+}
+
+// The bytes of a text. 22 where it is not canonical, 23 where they do not fit.
+#[no_mangle]
+pub extern "C" fn ditgrux_unbase64(
+    url: u32,
+    text: &[u8],
+    output: &mut [u8],
+    length: &mut usize,
+) -> u32
+    ensures { λ r. ⌜ (r ≡ decodeAnswer url (now (text .entry)) (now (output .entry)) .number) × (now (output .exit) ≡ decodeBuffer url (now (text .entry)) (now (output .entry))) × (now (length .exit) ≡ decodeAnswer url (now (text .entry)) (now (output .entry)) .length) ⌝ }
+{
+    let alphabet = alphabet_of(url);
+    let decoded = primitives::base64_decode(alphabet, text, output, 0);
+    *length = decoded_length(decoded);
+    decoded_number(decoded)
+}
