@@ -2,7 +2,7 @@
  * Ditgrux: the receipt journal of a cash register under the Austrian ordinance (RKSV).
  *
  * The functions of libdevice.a. Each is proved, on every input, to return what is said here and to write nothing else. They
- * allocate nothing, keep nothing between calls, call nothing outside the library, and may be called from several threads on
+ * allocate nothing, keep nothing between calls, need nothing from outside but memcpy, and may be called from several threads on
  * different buffers.
  *
  * A slice is a pointer and a length in bytes. The pointer is not NULL and the bytes are there; with length 0 any pointer other
@@ -131,7 +131,8 @@ uint32_t ditgrux_issue(uint8_t *state, size_t state_length, uint32_t number, uin
                        size_t journal_length);
 
 /* Checks a whole journal and writes the state behind it (155 bytes). 6 where the state has another length; questions 4 and 14 to 21,
- * and the index of the entry that is refused. Refused by those, the state is the unopened one, all zero. */
+ * and the index of the entry that is refused, from 0; 0 where nothing is refused. Refused by those, the state is the unopened one,
+ * all zero. */
 uint32_t ditgrux_take_over(const uint8_t *journal, size_t journal_length, const uint8_t *key, size_t key_length, size_t width,
                            uint8_t *state, size_t state_length, uint32_t *index);
 

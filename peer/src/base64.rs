@@ -61,13 +61,15 @@ fn read(values: &[u8; 256], text: &[u8], data: &mut [u8]) -> Option<usize> {
     let length = quads.len() * 3 + rest.len() * 3 / 4;
     let data = data.get_mut(..length)?;
     let (groups, rest_data) = data.as_chunks_mut::<3>();
+    let mut foreign = 0;
     for (quad, group) in quads.iter().zip(groups) {
-        let [a, b, c, d] = quad.map(value);
-        if a | b | c | d > 63 {
-            return None;
-        }
+        let [a, b, c, d] = [value(quad[0]), value(quad[1]), value(quad[2]), value(quad[3])];
+        foreign |= a | b | c | d;
         let bits = (a as u32) << 18 | (b as u32) << 12 | (c as u32) << 6 | d as u32;
         *group = [(bits >> 16) as u8, (bits >> 8) as u8, bits as u8];
+    }
+    if foreign > 63 {
+        return None;
     }
     match (rest, rest_data) {
         ([], []) => (),

@@ -1,4 +1,245 @@
-pub fn run() {}
-pub fn work(_call: &str, _who: &str, _receipts: usize, _repeats: usize) -> bool {
-    false
+//! Times of both sides in one run, and work of one side alone to count its instructions.
+
+use std::time::{Duration, Instant};
+
+use crate::calls::{Calls, Peer};
+use crate::code::LONGEST_CODE;
+use crate::device::Library;
+use crate::layout::{SETTINGS, STATE};
+use crate::receipt::{Date, Details, LONGEST_COMPACT, LONGEST_INPUT};
+
+const CSP: &[u8] = b"AT1";
+const ID: &[u8] = b"Filiale-Linz-K07";
+const SERIAL: &[u8] = b"4c9a01d2e7b35f68";
+const WIDTH: usize = 8;
+const KEY: [u8; 32] = *b"the key of the turnover counter.";
+
+/// The details of receipt `i` from 0: the start receipt, then sales, with a cancellation and a training receipt in
+/// every twenty.
+fn details(i: usize) -> Details {
+    let n = i as i64;
+    let date = Date {
+        year: 2024 + (i / 40_000 % 70) as u32,
+        month: 1 + (i / 3_000 % 12) as u32,
+        day: 1 + (i / 100 % 28) as u32,
+        hour: (8 + i % 100 / 10) as u32,
+        minute: (i % 60) as u32,
+        second: (i * 7 % 60) as u32,
+    };
+    let (amounts, kind) = match i {
+        0 => ([0; 5], 0),
+        _ => match i % 20 {
+            7 => ([-(n % 5_000), 0, 0, 0, 0], 1),
+            13 => ([n % 900, 0, n % 300, 0, 0], 2),
+            _ => ([1_000 + n % 9_000, n % 700, 0, n % 150, 0], 0),
+        },
+    };
+    Details { number: i as u32 + 1, date, amounts, kind }
+}
+
+fn signature(i: usize) -> [u8; 64] {
+    std::array::from_fn(|k| (i * 37 + k * 11 + i / 256 + 5) as u8)
+}
+
+/// All that the calls are given, made before any clock starts.
+struct Work {
+    settings: [u8; SETTINGS],
+    details: Vec<Details>,
+    signatures: Vec<[u8; 64]>,
+    /// The journal of these receipts and the state behind it, both made by the peer.
+    journal: Vec<u8>,
+    state: [u8; STATE],
+    /// Where in the journal each compact form stands.
+    forms: Vec<std::ops::Range<usize>>,
+    /// The state behind the start receipt.
+    started: [u8; STATE],
+    /// A buffer with room for all receipts.
+    buffer: Vec<u8>,
+}
+
+impl Work {
+    fn of(receipts: usize) -> Work {
+        let mut settings = [0; SETTINGS];
+        assert_eq!(Peer.settings(CSP, ID, SERIAL, WIDTH, &KEY, &mut settings), 0);
+        let mut work = Work {
+            settings,
+            details: (0..receipts).map(details).collect(),
+            signatures: (0..receipts).map(signature).collect(),
+            journal: Vec::new(),
+            state: [0; STATE],
+            forms: Vec::new(),
+            started: [0; STATE],
+            buffer: vec![0; 83 + receipts * (2 + LONGEST_COMPACT)],
+        };
+        let mut state = [0; STATE];
+        assert_eq!(Peer.open(&work.settings, &mut work.buffer, &mut state), 0);
+        for i in 0..receipts {
+            let before = Peer.journal_length(&state);
+            assert_eq!(Peer.issue(&mut state, &work.details[i], &work.signatures[i], &mut work.buffer), 0);
+            work.forms.push(before + 2..Peer.journal_length(&state));
+            if i == 0 {
+                work.started = state;
+            }
+        }
+        work.journal = work.buffer[..Peer.journal_length(&state)].to_vec();
+        work.state = state;
+        work
+    }
+
+    fn form(&self, i: usize) -> &[u8] {
+        &self.journal[self.forms[i].clone()]
+    }
+
+    /// Open and one Issue for each receipt; the journal's bytes.
+    fn issue(&mut self, side: &dyn Calls) -> usize {
+        let mut state = [0; STATE];
+        assert_eq!(side.open(&self.settings, &mut self.buffer, &mut state), 0);
+        for (details, signature) in self.details.iter().zip(&self.signatures) {
+            assert_eq!(side.issue(&mut state, details, signature, &mut self.buffer), 0);
+        }
+        assert_eq!(state, self.state);
+        self.journal.len()
+    }
+
+    /// One Prepare for each receipt, all behind the start receipt; the bytes written.
+    fn prepare(&mut self, side: &dyn Calls) -> usize {
+        let mut output = [0; LONGEST_INPUT];
+        let mut bytes = 0;
+        for details in &self.details {
+            let state = if details.number == 1 { &self.before_the_start() } else { &self.started };
+            let written = side.prepare(state, details, &mut output);
+            assert_eq!(written.number, 0);
+            bytes += written.length;
+        }
+        bytes
+    }
+
+    /// The state of an opened register: that behind the start receipt without its number and count.
+    fn before_the_start(&self) -> [u8; STATE] {
+        let mut state = self.started;
+        state[131..139].fill(0);
+        state
+    }
+
+    /// One Take over of the whole journal; its bytes.
+    fn take_over(&mut self, side: &dyn Calls) -> usize {
+        let mut state = [0; STATE];
+        assert_eq!(side.take_over(&self.journal, &KEY, WIDTH, &mut state).number, 0);
+        assert_eq!(state, self.state);
+        self.journal.len()
+    }
+
+    /// One Code for each receipt; the bytes written.
+    fn code(&mut self, side: &dyn Calls) -> usize {
+        let mut output = [0; LONGEST_CODE];
+        let mut bytes = 0;
+        for i in 0..self.forms.len() {
+            let written = side.code(self.form(i), &mut output);
+            assert_eq!(written.number, 0);
+            bytes += written.length;
+        }
+        bytes
+    }
+
+    fn call(&mut self, call: &str, side: &dyn Calls) -> Option<usize> {
+        match call {
+            "issue" => Some(self.issue(side)),
+            "prepare" => Some(self.prepare(side)),
+            "take-over" => Some(self.take_over(side)),
+            "code" => Some(self.code(side)),
+            _ => None,
+        }
+    }
+}
+
+/// Both sides write the same bytes and give the same answers on this work.
+fn same_answers(work: &mut Work) {
+    for side in [&Library as &dyn Calls, &Peer] {
+        work.buffer.fill(0);
+        work.issue(side);
+        assert!(work.buffer.starts_with(&work.journal));
+    }
+    for i in 0..work.forms.len() {
+        let mut outputs = [[0; LONGEST_CODE]; 2];
+        assert_eq!(Library.code(work.form(i), &mut outputs[0]), Peer.code(work.form(i), &mut outputs[1]));
+        assert_eq!(outputs[0], outputs[1]);
+        let mut outputs = [[0; LONGEST_INPUT]; 2];
+        let state = if i == 0 { work.before_the_start() } else { work.started };
+        let details = &work.details[i];
+        assert_eq!(Library.prepare(&state, details, &mut outputs[0]), Peer.prepare(&state, details, &mut outputs[1]));
+        assert_eq!(outputs[0], outputs[1]);
+    }
+}
+
+/// The time of one pass of each side, and its bytes: a turn is as many passes as take 25 milliseconds, the best of twenty
+/// turns counts (seven where a pass is long), both sides in turn.
+fn times(work: &mut Work, call: &str) -> ([Duration; 2], usize) {
+    let sides: [&dyn Calls; 2] = [&Library, &Peer];
+    let mut best = [Duration::MAX; 2];
+    let mut passes = [1; 2];
+    let mut turns = 20;
+    let mut bytes = 0;
+    for (i, side) in sides.iter().enumerate() {
+        let start = Instant::now();
+        bytes = work.call(call, *side).expect("a call");
+        let once = start.elapsed().as_secs_f64();
+        passes[i] = (0.025 / once).clamp(1.0, 1e6) as u32;
+        if once > 0.1 {
+            turns = 7;
+        }
+    }
+    for _ in 0..turns {
+        for (i, side) in sides.iter().enumerate() {
+            let start = Instant::now();
+            for _ in 0..passes[i] {
+                work.call(call, *side);
+            }
+            best[i] = best[i].min(start.elapsed() / passes[i]);
+        }
+    }
+    (best, bytes)
+}
+
+/// Prints one line for each call and number of receipts.
+pub fn run() {
+    println!("| call | receipts | bytes | library: receipts/s | MB/s | peer: receipts/s | MB/s | time, library/peer |");
+    println!("|---|---|---|---|---|---|---|---|");
+    for receipts in [100, 1_000, 10_000, 100_000] {
+        let mut work = Work::of(receipts);
+        same_answers(&mut work);
+        let calls: &[&str] =
+            if receipts == 10_000 { &["issue", "prepare", "code", "take-over"] } else { &["take-over"] };
+        for call in calls {
+            let ([library, peer], bytes) = times(&mut work, call);
+            let rate = |time: Duration, amount: usize| amount as f64 / time.as_secs_f64();
+            println!(
+                "| {call} | {receipts} | {bytes} | {:.0} | {:.1} | {:.0} | {:.1} | {:.2} |",
+                rate(library, receipts),
+                rate(library, bytes) / 1e6,
+                rate(peer, receipts),
+                rate(peer, bytes) / 1e6,
+                library.as_secs_f64() / peer.as_secs_f64()
+            );
+        }
+    }
+}
+
+/// Does `repeats` passes of one call on so many receipts by one side and prints the bytes of a pass. What is made before
+/// is the same for both sides and for 0 repeats, whose cost is to be taken off.
+pub fn work(call: &str, who: &str, receipts: usize, repeats: usize) -> bool {
+    let side: &dyn Calls = match who {
+        "library" => &Library,
+        "peer" => &Peer,
+        _ => return false,
+    };
+    let mut work = Work::of(receipts);
+    let mut bytes = 0;
+    for _ in 0..repeats {
+        match work.call(call, side) {
+            Some(once) => bytes += once,
+            None => return false,
+        }
+    }
+    println!("{call} {receipts} receipts {repeats} times: {bytes} bytes");
+    true
 }

@@ -56,3 +56,6 @@ pub fn fields(code: &[u8]) -> Option<Range<usize>> {
     let id = second + 1..third;
     (!id.is_empty()).then_some(id)
 }
+
+/// A payload of 195 bytes, "_", and 88 letters of a signature of 64 bytes.
+pub const LONGEST_CODE: usize = LONGEST_PAYLOAD + 1 + 88;

@@ -28,28 +28,30 @@ const NUMBERS: usize = 25;
 
 const CANARY: usize = 48;
 
-/// Bytes between two canaries.
+/// Bytes between two canaries. The one before them varies in length, so that they start at odd addresses, too.
 #[derive(Clone, PartialEq, Eq)]
 pub struct Guarded {
     bytes: Vec<u8>,
+    start: usize,
 }
 
 impl Guarded {
     pub fn of(content: &[u8]) -> Self {
-        let mut bytes = Vec::with_capacity(content.len() + 2 * CANARY);
-        bytes.extend((0..CANARY).map(|i| 0xc0 ^ i as u8));
+        let start = CANARY + content.len() % 8;
+        let mut bytes = Vec::with_capacity(start + content.len() + CANARY);
+        bytes.extend((0..start).map(|i| 0xc0 ^ i as u8));
         bytes.extend_from_slice(content);
         bytes.extend((0..CANARY).map(|i| 0x3f ^ i as u8));
-        Guarded { bytes }
+        Guarded { bytes, start }
     }
 
     pub fn get(&self) -> &[u8] {
-        &self.bytes[CANARY..self.bytes.len() - CANARY]
+        &self.bytes[self.start..self.bytes.len() - CANARY]
     }
 
     pub fn get_mut(&mut self) -> &mut [u8] {
         let end = self.bytes.len() - CANARY;
-        &mut self.bytes[CANARY..end]
+        &mut self.bytes[self.start..end]
     }
 }
 

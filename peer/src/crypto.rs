@@ -2,9 +2,9 @@
 //!
 //! Its low-level functions are used: they cost neither a look-up of the algorithm nor heap at each call. On x86-64
 //! SHA256_Update chooses its code by the processor (SHA extensions, AVX2, SSSE3); the environment variable
-//! OPENSSL_ia32cap=0x0:0x0 switches all of that off and leaves the portable code, and
-//! OPENSSL_ia32cap=~0x200000200000000:0 only AES-NI, AVX2 and the SHA extensions. AES_encrypt is the portable table code
-//! in either case.
+//! OPENSSL_ia32cap=0x0:0x0 switches all of that off and leaves the portable code,
+//! OPENSSL_ia32cap=~0x200000200000000:0 switches AES-NI, PCLMULQDQ, AVX2 and the SHA extensions off. AES_encrypt has no
+//! AES-NI in any case.
 
 use std::ffi::{c_int, c_uchar, c_void};
 use std::mem::MaybeUninit;

@@ -11,6 +11,8 @@ pub mod compare;
 pub mod crypto;
 #[cfg(feature = "device")]
 pub mod device;
+#[cfg(feature = "device")]
+pub mod fuzz;
 pub mod layout;
 pub mod model;
 pub mod random;

@@ -95,7 +95,7 @@ impl Round<'_> {
 
     fn primitives(&mut self) -> Compared<()> {
         for _ in 0..3 {
-            let length = self.random.pick(&[0, 1, 55, 56, 57, 63, 64, 65, 119, 120, 128, self.random.below(600)]);
+            let length = self.random.pick(&[0, 1, 55, 56, 57, 63, 64, 65, 119, 120, 128, 5000, self.random.below(600)]);
             let data = self.garbage(length);
             let room = self.random.pick(&[0, 31, 32, 32, 32, 33, 64]);
             let mut output = self.garbage(room);
@@ -103,7 +103,7 @@ impl Round<'_> {
         }
         for _ in 0..3 {
             let url = self.random.pick(&[0, 1, 0, 1, 2, 256, u32::MAX]);
-            let length = self.random.pick(&[0, 1, 2, 3, 8, 34, 64, self.random.below(400)]);
+            let length = self.random.pick(&[0, 1, 2, 3, 8, 34, 64, self.random.below(400), self.random.below(5000)]);
             let data = self.garbage(length);
             let mut text = if url == 0 { padded_text(&data) } else { url_text(&data) };
             let room = self.room(text.len());
@@ -200,17 +200,15 @@ impl Round<'_> {
         for _ in 0..6 {
             let mut settings = sample::settings(&self.random);
             let head = settings.head_length();
-            for _ in 0..self.random.pick(&[0, 1, 1, 2]) {
-                settings = {
-                    let mut spoiled = settings;
-                    // spoiling starts from a good name
-                    if settings.good().is_ok() {
-                        sample::spoil_settings(&self.random, &mut spoiled);
-                    } else {
-                        spoiled.width = sample::bad_width(&self.random);
-                    }
-                    spoiled
-                };
+            let wrong = self.random.pick(&[0, 1, 1, 2]);
+            if wrong > 0 {
+                sample::spoil_settings(&self.random, &mut settings);
+            }
+            if wrong > 1 {
+                match self.random.below(2) {
+                    0 => settings.csp = sample::bad_csp(&self.random),
+                    _ => settings.width = sample::bad_width(&self.random),
+                }
             }
             let mut bytes = settings_bytes(&settings).to_vec();
             if self.random.once_in(8) {
@@ -810,7 +808,15 @@ impl Round<'_> {
         let elements = [entry.header.clone(), url_text(&entry.payload()), url_text(&entry.signature)];
         let [mut header, mut payload, mut signature] = elements;
         let mut raw = None;
-        match self.random.below(10) {
+        match self.random.below(11) {
+            // longer than any payload or signature, up to what a length can say
+            10 => {
+                let length = self.random.pick(&[196, 1_000, 48_000]);
+                payload = url_text(&self.garbage(length));
+                if self.random.once_in(2) {
+                    signature = url_text(&self.garbage(1_000));
+                }
+            }
             0 => {
                 let other: [&[u8]; 6] = [
                     b"eyJhbGciOiJFUzM4NCJ9",

@@ -21,7 +21,6 @@ use Rattle.receipt.specs.declared.details.Details.{Details}
 use Rattle.receipt.specs.declared.machine_code.Answer.{Answer}
 use Rattle.receipt.proofs.Entries.{length-array}
 use Rattle.receipt.proofs.Lists.{true-is-not-false}
-use Rattle.journal.specs.State.{ifZero, unopened}
 use Rattle.journal.specs.Open.{opened, openBuffer}
 use Rattle.journal.specs.Prepare.{prepareAnswer, prepareBuffer}
 use Rattle.journal.specs.Issue.{issued, issueBuffer}

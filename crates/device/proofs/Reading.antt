@@ -17,7 +17,6 @@ use Rattle.primitives.proofs.Numbers.{number-there, number-found}
 use Rattle.primitives.proofs.Over.{length-over, read-over, placed-room}
 use Rattle.receipt.specs.declared.settings.Settings.{Settings}
 use Rattle.journal.specs.TakeOver.{countAt}
-use Rattle.journal.specs.declared.state.State.{State}
 use Rattle.device.specs.Layout.{settingsAt, widthAt, keyAt, stateAt}
 
 -- ---- arrays

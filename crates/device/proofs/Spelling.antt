@@ -6,18 +6,17 @@ use mathlib.Core.List.{List, [], _++_, append-assoc, append-nil}
 use native.Mathlib.Omega.{arith}
 use borrow.Author.Tests.{eq-eqb, eqb-true}
 use lib.Dec.{eqb}
-use lib.ListN.{length, take, drop, replicate, length-append, drop-of-length-le}
+use lib.ListN.{length, take, drop, length-append, drop-of-length-le}
 use lib.Seq.{take-add, take-all}
 use Rattle.primitives.specs.Bytes.{AllBytes}
 use Rattle.primitives.specs.Number.{bytesOf}
-use Rattle.primitives.specs.Counter.{widthGood, fitsIn, counterFits, counterBytes, counterValue}
+use Rattle.primitives.specs.Counter.{widthGood, counterFits, counterBytes, counterValue}
 use Rattle.primitives.proofs.ByteLists.{bytes-take, bytes-drop}
 use Rattle.primitives.proofs.Numbers.{length-bytesOf}
 use Rattle.primitives.proofs.Twos.{fits-wide, counter-back, counter-whole, length-counterBytes}
 use Rattle.receipt.specs.declared.settings.Name.{Name}
 use Rattle.receipt.specs.declared.settings.Settings.{Settings}
 use Rattle.receipt.specs.declared.details.Details.{Details}
-use Rattle.journal.specs.State.{unopened}
 use Rattle.journal.specs.Issue.{issueNumber, next, textOf, issued}
 use Rattle.journal.specs.TakeOver.{countAt}
 use Rattle.journal.specs.declared.state.State.{State}
@@ -25,7 +24,7 @@ use Rattle.journal.proofs.Asking.{ifZero-no}
 use Rattle.journal.proofs.Places.{part-at, count-in, part-length, count-bytes}
 use Rattle.device.specs.Layout.{nameBytes, settingsBytes, figuresBytes, stateBytes, nameAt, settingsAt, widthAt, keyAt, stateAt, settingsOf, widthOf, keyOf, stateOf, kept}
 use Rattle.device.specs.Laws.{TypedRegister, TypedState, SettingsAreRead, SettingsBytesAreKept, StateIsRead, BytesAreKept, RefusedIssueKeepsState}
-use Rattle.device.proofs.Writers.{length-name, front-long, names-long, length-settings, length-state}
+use Rattle.device.proofs.Writers.{front-long, names-long, length-settings, length-state}
 
 -- ---- what was written is read
 

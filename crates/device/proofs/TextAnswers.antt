@@ -8,14 +8,14 @@ use native.Mathlib.Omega.{arith}
 use borrow.Author.Tests.{le-leb, lt-leb, leb-true, leb-false, eq-eqb, ne-eqb}
 use lib.Dec.{leb, eqb}
 use lib.ListN.{length}
-use Rattle.primitives.specs.Place.{overwrite, room, placed, behind}
+use Rattle.primitives.specs.Place.{room, placed, behind}
 use Rattle.primitives.specs.Sha256.{sha256}
 use Rattle.primitives.specs.Base64 as B
 use Rattle.primitives.specs.Base64.{encoding, decoding, encodedLength, answerOf, bufferOf}
 use Rattle.primitives.specs.declared.base64.Alphabet.{Alphabet}
 use Rattle.primitives.specs.declared.base64.Alphabet.the-variants.{Standard, UrlSafe}
 use Rattle.primitives.specs.declared.base64.Decoded.{Decoded}
-use Rattle.primitives.specs.declared.base64.Decoded.the-variants.{Upto, Refused, NoRoom}
+use Rattle.primitives.specs.declared.base64.Decoded.the-variants.{Upto, NoRoom}
 use Rattle.primitives.proofs.Base64Lengths.{length-encoding}
 use Rattle.primitives.proofs.Digest.{length-sha256}
 use Rattle.primitives.proofs.Over.{placed-room, behind-room, behind-full}

@@ -10,13 +10,11 @@ use lib.IntN.{ℤ}
 use lib.ListN.{length, take, drop, replicate, length-append, length-take}
 use lib.Seq.{take-all, take-add, drop-drop, drop-at, length-take-le}
 use Rattle.primitives.specs.Place.{overwrite, placed, behind}
-use Rattle.primitives.specs.Bytes.{AllBytes}
 use Rattle.primitives.specs.Number.{bytesOf}
 use Rattle.primitives.specs.Aes.{keySchedule}
 use Rattle.primitives.specs.Base64.{encoding}
 use Rattle.primitives.specs.declared.base64.Alphabet.the-variants.{UrlSafe}
 use Rattle.primitives.proofs.Numbers.{length-bytesOf}
-use Rattle.primitives.proofs.ByteLists.{bytes-nil}
 use Rattle.primitives.proofs.Over.{length-over, read-over, over-over, placed-room, placed-full, behind-room, behind-full}
 use Rattle.primitives.proofs.Rewrites.{over-comm}
 use Rattle.receipt.specs.Settings.{settingsGood}
@@ -31,8 +29,7 @@ use Rattle.receipt.specs.declared.details.After.{After}
 use Rattle.receipt.specs.declared.payload.Fields.{Fields}
 use Rattle.receipt.specs.declared.entry.Entry.{Entry}
 use Rattle.receipt.proofs.Lists.{both}
-use Rattle.receipt.proofs.Names.{good-sized}
-use Rattle.receipt.proofs.Entries.{input-some, spellable-yes}
+use Rattle.receipt.proofs.Entries.{input-some}
 use Rattle.receipt.proofs.EntryCalls.{spellable-true, preparable-made, spelled-is, prepared-is}
 use Rattle.receipt.proofs.ExactEntry.{compact-signed}
 use Rattle.journal.specs.Head.{headLength, countPlace, entryText}

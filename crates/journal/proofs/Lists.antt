@@ -24,7 +24,7 @@ use Rattle.receipt.specs.Payload.{counterGood}
 use Rattle.receipt.specs.DateTime.{dateGood}
 use Rattle.receipt.specs.Details.{standard, amountsGood, counted}
 use Rattle.receipt.specs.Chain.{chainValue, encryptedCounter, decryptedCounter}
-use Rattle.receipt.specs.Compact.{compact, signatureZero, preparable, spellable}
+use Rattle.receipt.specs.Compact.{compact, signatureZero, spellable}
 use Rattle.receipt.specs.declared.details.Kind.{Kind}
 use Rattle.receipt.specs.declared.details.Kind.the-variants.{Standard, Cancellation, Training}
 use Rattle.receipt.specs.declared.settings.Settings.{Settings}
@@ -43,7 +43,6 @@ use Rattle.journal.specs.Valid.{texts}
 use Rattle.journal.specs.Calls.{Call, TypedCall, none, more}
 use Rattle.journal.specs.declared.state.State.{State}
 use Rattle.journal.proofs.Asking.{ask-zero}
-use Rattle.receipt.proofs.EntryCalls.{preparable-made, spellable-true}
 use Rattle.receipt.specs.Exact.{TypedEntry}
 use Rattle.receipt.proofs.Entries.{spellable-yes, behind-counter, none-counter, failed-zero, signed-zero}
 use Rattle.journal.proofs.Heads.{front, head-front}
@@ -325,12 +324,6 @@ module _ (st : State) (d : Details) (sig : List ℕ) (s : Sound st) (a : Detaile
         signature = p .long;
         signatureBytes = p .bytes;
       }
-
--- so can the text for the device: its fields are those of a call with no signature
-pub call-preparable : (st : State) (d : Details) → Sound st → Detailed st d → preparable (st .settings) (st .width) (fieldsOf st d) ≡ true
-unfolding entryOf
-call-preparable st d s a =
-    preparable-made (st .settings) (st .width) (fieldsOf st d) (spellable-true (st .settings) (st .width) (entryOf st d []) (call-spellable st d [] s a (none-sized)) .fields)
 
 pub right-call : (st : State) (c : Call) (room : ℕ) → AllBytes (st .key) → Eight (st .chain) → TypedCall c → Answered st (c .details) (c .signature) room
     → RightAt st (entryOf st (c .details) (c .signature))

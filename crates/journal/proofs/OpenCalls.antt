@@ -10,7 +10,6 @@ use Rattle.primitives.specs.Number.{bytesOf}
 use Rattle.primitives.proofs.Numbers.{length-bytesOf}
 use Rattle.primitives.proofs.Over.{length-over, placed-room, then}
 use Rattle.receipt.specs.Settings.{nameText, settingsGood, TypedSettings}
-use Rattle.receipt.specs.declared.settings.Name.{Name}
 use Rattle.receipt.specs.declared.settings.Settings.{Settings}
 use Rattle.receipt.proofs.Names.{good-settings, length-text}
 use Rattle.receipt.proofs.Entries.{lent-name}

@@ -3,20 +3,18 @@ use Prim.Native.Nat.{ℕ, suc, _+_, _-_, _≤_, _<_}
 use mathlib.Core.Path.{_≡_, refl, sym, ap, _∙_, subst}
 use mathlib.Core.Bool.{Bool, true, false, not}
 use mathlib.Core.List.{List}
-use native.Mathlib.Nat.{sub-zero}
 use native.Mathlib.Omega.{arith}
-use borrow.Author.Tests.{leb-true, le-leb, lt-leb, eqb-true, eq-eqb, ne-eqb}
+use borrow.Author.Tests.{leb-true, le-leb, lt-leb, eqb-true, eq-eqb}
 use lib.Dec.{leb, eqb}
-use lib.IntN.{ℤ, pos}
+use lib.IntN.{ℤ}
 use mir.Syntax.{w64}
 use mir.Val.{SFits, toZ, ofZ}
 use mir.Facts.{toZ-ofZ}
 use lib.ListN.{length, take, drop, length-take}
 use Rattle.primitives.specs.Counter.{widthGood}
 use Rattle.primitives.specs.Aes.{keySchedule}
-use Rattle.receipt.specs.Settings.{nameText}
-use Rattle.receipt.specs.Details.{standard, startGood, counterAfter}
-use Rattle.receipt.specs.Chain.{chainValue, decryptedCounter}
+use Rattle.receipt.specs.Details.{standard, counterAfter}
+use Rattle.receipt.specs.Chain.{decryptedCounter}
 use Rattle.receipt.specs.Compact.{readEntry}
 use Rattle.receipt.specs.declared.details.Details.{Details}
 use Rattle.receipt.specs.declared.details.After.{After}
@@ -25,14 +23,12 @@ use Rattle.receipt.specs.declared.entry.Found.{Found}
 use Rattle.receipt.specs.declared.settings.Settings.{Settings}
 use Rattle.primitives.proofs.Zlaws.{same-bits}
 use Rattle.receipt.proofs.Lists.{both, true-is-not-false, and-no, and-yes, not-yes}
-use Rattle.journal.specs.Head.{entryText, headLength}
 use Rattle.journal.specs.State.{ask, ifZero, fresh}
-use Rattle.journal.specs.Issue.{firstGood, newCounter, next}
+use Rattle.journal.specs.Issue.{newCounter, next}
 use Rattle.journal.specs.TakeOver.{countAt, countOf, settingsOf, headGood, headNumber, lengthAt, there, textAt, found, equal, counterRight, fieldsNumber, entryNumber, after, stepNumber, refused, accepted, checkFrom, takeOver}
 use Rattle.journal.specs.declared.state.State.{State}
 use Rattle.journal.specs.declared.state.TakenOver.{TakenOver}
 use Rattle.journal.proofs.Asking.{ask-zero, ask-yes, ask-no, ifZero-yes, ifZero-no, equal-true, equal-refl}
-use Rattle.journal.proofs.Places.{length-entry}
 use Rattle.journal.proofs.Check.{above-true}
 
 -- ---- the bytes of an entry
@@ -69,14 +65,6 @@ module _ (j : List ℕ) (at : ℕ) where
       }
 
 -- ---- the questions of an entry
-
-pub first-later : (st : State) (d : Details) → (st .issued ≡ 0 → ⊥) → true ≡ firstGood st d
-unfolding firstGood
-first-later st d h = sym (rw (ne-eqb (st .issued) 0 h))
-
-pub first-now : (st : State) (d : Details) → st .issued ≡ 0 → startGood d ≡ firstGood st d
-unfolding firstGood
-first-now st d h = sym (rw (eq-eqb (st .issued) 0 h))
 
 pub equal-no : (a b : ℤ) → (a ≡ b → ⊥) → equal a b ≡ false
 equal-no a b h = go (equal a b) refl
@@ -156,15 +144,6 @@ module _ (st : State) (text : List ℕ) {r : Found} (e : r ≡ readEntry (st .se
   pub after-is : {x : State} → x ≡ next st (r .entry .fields .details) text → x ≡ after st text
   unfolding after found
   after-is q = q ∙ ap (λ (x : Found). next st (x .entry .fields .details) text) e
-
-pub next-is : (st : State) (d : Details) (text : List ℕ) {a : After} {chain : List ℕ} → SFits w64 (a .counter)
-    → a ≡ counterAfter (st .width) (st .counter) d → chain ≡ chainValue text
-    → _≡_ {A = State} (record { settings = st .settings; width = st .width; key = st .key; counter = toZ w64 (ofZ w64 (a .counter)); last = d .number; issued = st .issued + 1; chain = chain; length = st .length + 2 + length text })
-    (next st d text)
-unfolding next newCounter
-next-is st d text {a} {chain} f e q =
-    let l : st .length + 2 + length text ≡ st .length + length (entryText text) = omega (arith, length-entry text) in
-    λ i. record { settings = st .settings; width = st .width; key = st .key; counter = (toZ-ofZ f ∙ ap (λ (x : After). x .counter) e) i; last = d .number; issued = st .issued + 1; chain = q i; length = l i }
 
 module _ (st : State) (j : List ℕ) where
   pub step-no : there j (st .length) ≡ false → 15 ≡ stepNumber st j
@@ -250,11 +229,6 @@ module _ (j key : List ℕ) (n : ℕ) where
     over-yes : headGood j ≡ true → takeOver j key n ≡ checkFrom (countOf j) (fresh (settingsOf j) n key) j
     unfolding takeOver headNumber ask ifZero
     over-yes h = rw (w, h)
-
-pub fresh-is : (s : Settings) (n : ℕ) (key : List ℕ) {chain : List ℕ} → chain ≡ chainValue (take (s .id .len - 0) (s .id .bytes))
-    → _≡_ {A = State} (record { settings = s; width = n; key = key; counter = pos 0; last = 0; issued = 0; chain = chain; length = 19 + s .id .len + s .serial .len }) (fresh s n key)
-unfolding fresh headLength nameText
-fresh-is s n key e = λ i. record { settings = s; width = n; key = key; counter = pos 0; last = 0; issued = 0; chain = (e ∙ ap (λ (m : ℕ). chainValue (take m (s .id .bytes))) (sub-zero (s .id .len))) i; length = 19 + s .id .len + s .serial .len }
 
 -- what is called, one behind the other
 module _ (j key : List ℕ) (n : ℕ) (s : Settings) {st : State} (e : st ≡ fresh s n key) where

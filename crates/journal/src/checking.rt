@@ -19,7 +19,7 @@ ghost use Rattle.primitives.specs.Bytes.{same};
 ghost use Rattle.primitives.specs.Aes.{keySchedule};
 ghost use Rattle.receipt.specs.Chain.{decryptedCounter};
 ghost use Rattle.journal.specs.State.{ifZero};
-ghost use Rattle.journal.specs.TakeOver.{there, textAt, equal, counterRight, fieldsNumber, entryNumber, after, stepNumber, refused, accepted, checkFrom, takeOver};
+ghost use Rattle.journal.specs.TakeOver.{there, textAt, equal, counterRight, fieldsNumber, entryNumber, after, stepNumber, refused, checkFrom, takeOver};
 
 // ---- one entry
 

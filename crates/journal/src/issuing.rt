@@ -15,7 +15,7 @@ use receipt::Kind;
 use receipt::Signature;
 ghost use mathlib.Core.Path.{_≡_};
 ghost use mathlib.Core.Bool.{true};
-ghost use Prim.Native.Nat.{_+_, _≤_, _<_};
+ghost use Prim.Native.Nat.{_+_, _<_};
 ghost use lib.ListN.{length};
 ghost use Rattle.primitives.specs.Place.{placed, behind};
 ghost use Rattle.primitives.specs.Aes.{keySchedule};

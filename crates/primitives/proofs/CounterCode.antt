@@ -7,15 +7,15 @@ use native.Mathlib.Nat.{sub-zero, zero-sub, suc-sub-suc}
 use native.Mathlib.Omega.{arith}
 use lib.Dec.{ltb}
 use lib.IntN.{ℤ, pos, negsuc}
-use lib.ListN.{length, take, drop, replicate}
+use lib.ListN.{length, drop, replicate}
 use lib.Signed.{mag}
 use mir.Syntax.{w64}
 use mir.Val.{SFits, ofZ, toZ}
 use mir.Facts.{toZ-pos}
 use Rattle.primitives.specs.Place.{overwrite, placed}
-use Rattle.primitives.specs.Number.{bytesOf, valueOf, numberAt}
+use Rattle.primitives.specs.Number.{bytesOf, numberAt}
 use Rattle.primitives.specs.Counter.{widthGood, half, counterFits, ofTwos, counterBytes}
-use Rattle.primitives.specs.declared.buffer.Number.the-variants.{Is, Missing}
+use Rattle.primitives.specs.declared.buffer.Number.the-variants.{Missing}
 use Rattle.primitives.proofs.Over.{placed-room}
 use Rattle.primitives.proofs.Numbers.{length-bytesOf, number-there}
 use Rattle.primitives.proofs.Zlaws.{not-is}

@@ -1,17 +1,16 @@
 -- Laws of the bytes of words and of digests: a digest of SHA-256 is 32 bytes.
 use mathlib.Core.Path.{_≡_, refl, sym, ap, _∙_}
 use mathlib.Core.List.{List, [], _∷_, _++_, append-assoc, append-nil}
-use Prim.Native.Nat.{ℕ, zero, suc, _+_, _-_, _*_, _/_, _%_, _<_, _≤_}
-use native.Mathlib.Nat.{add-zero}
+use Prim.Native.Nat.{ℕ, _+_, _-_, _*_, _<_, _≤_}
 use native.Mathlib.Numerals.{add-one}
 use native.Mathlib.Omega.{arith}
-use lib.ListN.{length, getD, take, drop, set, length-append, length-set}
-use lib.Seq.{append-snoc, take-at, take-suc, length-take-le}
+use lib.ListN.{length, getD, take, drop, length-append}
+use lib.Seq.{take-at, take-suc, length-take-le}
 use Rattle.primitives.specs.Bytes.{AllBytes}
 use Rattle.primitives.specs.Place.{overwrite}
 use Rattle.primitives.specs.Number.{bytesOf}
 use Rattle.primitives.specs.Sha256.{wordBytes, digest, sha256}
-use Rattle.primitives.proofs.ByteLists.{bytes-nil, bytes-cons, bytes-append}
+use Rattle.primitives.proofs.ByteLists.{bytes-nil, bytes-append}
 use Rattle.primitives.proofs.Numbers.{length-bytesOf, bytes-bytesOf}
 
 -- ---- the bytes of words

@@ -1,15 +1,15 @@
 -- Laws of writing at a place: `overwrite`, and the writers' answers `placed` and `behind`.
-use Prim.Native.Nat.{ℕ, zero, suc, _+_, _-_, _≤_, _<_}
-use mathlib.Core.Path.{_≡_, refl, sym, ap, _∙_, subst}
+use Prim.Native.Nat.{ℕ, suc, _+_, _-_, _≤_, _<_}
+use mathlib.Core.Path.{_≡_, refl, sym, ap, _∙_}
 use mathlib.Core.Bool.{Bool, true, false, cond}
 use mathlib.Core.List.{List, [], _∷_, _++_, append-assoc}
-use native.Mathlib.Nat.{add-zero, add-assoc}
+use native.Mathlib.Nat.{add-zero}
 use native.Mathlib.Numerals.{add-one, add-two, add-three}
 use native.Mathlib.Omega.{arith}
 use borrow.Author.Tests.{le-leb, lt-leb, leb-true}
 use lib.Dec.{leb}
-use lib.ListN.{length, getD, take, drop, set, length-append, length-take, length-drop, take-append-drop}
-use lib.Seq.{take-suc, drop-cons, set-at, take-at, drop-at, length-take-le, drop-drop, append-snoc, drop-append-add, drop-append-le, take-append-le, sets, sets-eq}
+use lib.ListN.{length, getD, take, drop, set, length-append, length-drop, take-append-drop}
+use lib.Seq.{take-suc, drop-cons, set-at, take-at, drop-at, length-take-le, drop-drop, sets, sets-eq}
 use Rattle.primitives.specs.Place.{overwrite, room, placed, behind}
 
 pub over-nil : (xs : List ℕ) (at : ℕ) → overwrite xs at [] ≡ xs

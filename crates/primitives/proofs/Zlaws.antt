@@ -3,13 +3,12 @@ use Prim.Native.Nat.{ℕ, zero, suc, _+_, _-_, _*_, _/_, _^_, _<_, _≤_}
 use mathlib.Core.Path.{_≡_, refl, sym, ap, _∙_, subst}
 use mathlib.Core.Bool.{Bool, true, false, cond}
 use mathlib.Core.Logic.{_⊎_, inl, inr, ⊎-elim}
-use native.Mathlib.Nat.{div-le-self, lt-of-le-of-lt}
-use native.Mathlib.Numerals.{add-one}
+use native.Mathlib.Nat.{div-le-self}
 use native.Mathlib.Omega.{arith}
 use borrow.Author.Tests.{ltb-true, ltb-false}
 use lib.Dec.{T, ltb, le→leb}
 use lib.IntN.{ℤ, pos, negsuc, subℕ, _+ℤ_, _-ℤ_, negℤ, natAbs}
-use lib.Signed.{mag, ltZ, leZ, nonNeg, quotZ, remZ, mag-rem, _≤ℤ_}
+use lib.Signed.{mag, ltZ, leZ, nonNeg, quotZ}
 use mir.Syntax.{w64}
 use mir.Val.{SFits, Fits, toZ, ofZ}
 use mir.Facts.{toZ-ofZ, toZ-pos, toZ-neg}
@@ -61,12 +60,6 @@ module _ {x y : ℤ} (fx : SFits w64 x) (fy : SFits w64 y) where
   pub tested : {t : Bool} → ltZ (toZ w64 (ofZ w64 x)) (toZ w64 (ofZ w64 y)) ≡ t → ltZ x y ≡ t
   tested e = sym (λ i. ltZ (toZ-ofZ fx i) (toZ-ofZ fy i)) ∙ e
 
-  pub taken-le : ltZ (toZ w64 (ofZ w64 x)) (toZ w64 (ofZ w64 y)) ≡ true → x ≤ℤ y
-  taken-le e = record { le = lt-le x y (tested e) }
-
-  pub left-le : ltZ (toZ w64 (ofZ w64 x)) (toZ w64 (ofZ w64 y)) ≡ false → y ≤ℤ x
-  left-le e = record { le = ge-le x y (tested e) }
-
 -- the test  x < 0
 pub tested-neg : {x : ℤ} {t : Bool} → SFits w64 x → ltZ (toZ w64 (ofZ w64 x)) (pos 0) ≡ t → ltZ x (pos 0) ≡ t
 tested-neg f e = sym (λ i. ltZ (toZ-ofZ f i) (pos 0)) ∙ e
@@ -103,11 +96,6 @@ neg-natAbs (negsuc n) e = refl
 pos-castable : (z : ℤ) → SFits w64 z → ltZ z (pos 0) ≡ false → Cast z
 pos-castable (pos n) f e = let h : n < 2 ^ 63 = f .sfits in (tt, record { fits = omega arith })
 pos-castable (negsuc n) f e = absurd (subst T e tt)
-
--- the absolute value, from the magnitude and the sign
-pub abs-neg : (z : ℤ) → ltZ z (pos 0) ≡ true → mag z + 1 ≡ natAbs z
-abs-neg (pos n) e = absurd (omega (arith, ltb-true n 0 e))
-abs-neg (negsuc n) e = add-one n
 
 pub abs-pos : (z : ℤ) → ltZ z (pos 0) ≡ false → mag z ≡ natAbs z
 abs-pos (pos n) e = refl
@@ -173,18 +161,6 @@ up-ge (negsuc a) (negsuc b) f g e = omega (arith, ltb-false b a e, f .sfits, g .
 either : (t : Bool) → (t ≡ true) ⊎ (t ≡ false)
 either true = inl refl
 either false = inr refl
-
--- and back: the order of the natural numbers is that of the signed ones
-pub lt-up : (a b : ℤ) → SFits w64 a → SFits w64 b → up a < up b → ltZ a b ≡ true
-lt-up a b f g h = ⊎-elim (λ e. e) (λ e. absurd (omega (arith, up-ge a b f g e))) (either (ltZ a b))
-
-pub ge-up : (a b : ℤ) → SFits w64 a → SFits w64 b → up b ≤ up a → ltZ a b ≡ false
-ge-up a b f g h = ⊎-elim (λ e. absurd (omega (arith, up-lt a b f g e))) (λ e. e) (either (ltZ a b))
-
-pub up-neg : (a : ℤ) → SFits w64 a → up (negℤ a) + up a ≡ 2 ^ 64
-up-neg (pos zero) f = refl
-up-neg (pos (suc n)) f = omega (arith, f .sfits)
-up-neg (negsuc n) f = omega (arith, f .sfits)
 
 -- ---- sums and differences
 
@@ -263,9 +239,3 @@ mag-neg (suc r) a h = omega arith
 mag-quot : (x : ℤ) (d : ℕ) → mag (quotZ x (pos d)) ≤ mag x
 mag-quot (pos a) d = div-le-self a d
 mag-quot (negsuc a) d = mag-neg (suc a / d) a (div-le-self (suc a) d)
-
-pub quot-fits : {x : ℤ} (d : ℕ) → SFits w64 x → SFits w64 (quotZ x (pos d))
-quot-fits {x} d f = record { sfits = lt-of-le-of-lt (mag-quot x d) (f .sfits) }
-
-pub rem-fits : {x : ℤ} (d : ℕ) → SFits w64 x → SFits w64 (remZ x (pos d))
-rem-fits {x} d f = record { sfits = lt-of-le-of-lt (mag-rem x (pos d)) (f .sfits) }

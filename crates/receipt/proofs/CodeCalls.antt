@@ -20,7 +20,7 @@ use Rattle.receipt.specs.declared.form.Reading.{Reading}
 use Rattle.receipt.specs.Form.{nextAt, part, parts, payloadGood, signatureGood, partsGood, signedForm, partsOfForm}
 use Rattle.receipt.specs.Code.{lastAt, codeText, partsOfCode, written, codeAnswer, codeBuffer, uncodeAnswer, uncodeBuffer, idStart, idEnd, idThere, nowhere, idPlace, idField}
 use Rattle.receipt.specs.FormReading.{short, found}
-use Rattle.receipt.proofs.Finding.{next-from, next-most}
+use Rattle.receipt.proofs.Finding.{next-most}
 use Rattle.receipt.proofs.CodeTexts.{good-payload, good-signature, read-signed}
 use Rattle.receipt.proofs.Forms.{length-form}
 use Rattle.receipt.proofs.Codes.{code-good}

@@ -135,10 +135,6 @@ pub counted-of : (d : Details) {k : Kind} → d .kind ≡ k → countedOf k (d .
 unfolding counted
 counted-of d e = ap (λ (k : Kind). countedOf k (d .amounts)) (sym e)
 
--- training adds nothing, and neither does a start
-pub counted-training : (d : Details) → d .kind ≡ Training → counted d ≡ pos 0
-counted-training d e = sym (counted-of d e)
-
 zero-abs : (z : ℤ) → natAbs z ≡ 0 → z ≡ pos 0
 zero-abs (pos n) e = ap pos e
 zero-abs (negsuc n) e = absurd (omega arith)
@@ -158,9 +154,6 @@ start-both d e = go (d .kind) refl e
     go Standard p q = (p, q)
     go Cancellation p q = true-is-not-false q
     go Training p q = true-is-not-false q
-
-pub counted-start : (d : Details) → startGood d ≡ true → counted d ≡ pos 0
-counted-start d e = let p = start-both d e in sym (counted-of d (p .0)) ∙ total-zero (d .amounts) (p .1)
 
 -- what a refused receipt leaves
 abbrev asBefore : ℤ → After

@@ -69,9 +69,6 @@ spellable-true s n e g =
     let q = both (preparable s n (e .fields)) (signatureZero (e .signature)) (sym (spellable-is s n e) ∙ g) in
     record { fields = preparable-true s n (e .fields) (q .0); signature = q .1 }
 
-pub spellable-made : (s : Settings) (n : ℕ) (e : Entry) → Spellable s n e → spellable s n e ≡ true
-spellable-made s n e p = spellable-is s n e ∙ rw (preparable-made s n (e .fields) (p .fields), p .signature)
-
 -- what the writers write then
 pub spelled-is : (s : Settings) (n : ℕ) (e : Entry) → spellable s n e ≡ true → spelled s n e ≡ compact s n e
 unfolding spelled

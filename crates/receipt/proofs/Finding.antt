@@ -128,10 +128,6 @@ module _ (b : ℕ) (s : List ℕ) where
       go k true = omega arith
       go k false = k
 
-  pub last-most : lastAt b s ≤ length s
-  unfolding lastAt
-  last-most = before-most (length s) (omega arith)
-
 -- behind the last b stands a list without it
 module _ (b : ℕ) (xs ys : List ℕ) (w : Without b ys) where
   text : List ℕ

@@ -237,15 +237,3 @@ good-sized s e =
 
 csp-byte : (low high b : ℕ) → high < 256 → between low high b ≡ true → b < 256
 csp-byte low high b h e = omega (arith, between-true low high b e .1)
-
-pub csp-bytes : (csp : List ℕ) → length csp ≡ 3 → cspGood csp ≡ true → AllBytes csp
-unfolding cspGood
-csp-bytes [] l e = absurd (omega arith)
-csp-bytes (x ∷ []) l e = absurd (omega arith)
-csp-bytes (x ∷ y ∷ []) l e = absurd (omega arith)
-csp-bytes (x ∷ y ∷ z ∷ []) l e =
-    let a = both (between 65 90 x) (between 65 90 y && between 48 57 z) e in
-    let b = both (between 65 90 y) (between 48 57 z) (a .1) in
-    bytes-cons (csp-byte 65 90 x (omega arith) (a .0))
-    (bytes-cons (csp-byte 65 90 y (omega arith) (b .0)) (bytes-cons (csp-byte 48 57 z (omega arith) (b .1)) bytes-nil))
-csp-bytes (x ∷ y ∷ z ∷ w ∷ csp) l e = absurd (omega arith)

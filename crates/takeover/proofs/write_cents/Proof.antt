@@ -1,10 +1,10 @@
 -- `write_cents` is safe: the magnitude of a number of 64 bits is below 2^63.
-use Prim.Native.Nat.{_+_, _^_, _<_}
+use Prim.Native.Nat.{_^_, _<_}
 use native.Mathlib.Omega.{arith}
 use borrow.Author.Needs.{needs}
 use lib.Signed.{mag}
 use mir.Syntax.{w64}
-use mir.Val.{SFits, toZ, ofZ}
+use mir.Val.{SFits}
 use mir.Facts.{toZ-ofZ}
 use Rattle.takeover.proofs.write_cents.Statement.{statement}
 use Rattle.takeover.proofs.write_cents.Tie as tie

@@ -2,7 +2,6 @@
 use mathlib.Core.Path.{sym, ap, _∙_}
 use Rattle.receipt.specs.Settings.{settingsGood}
 use Rattle.receipt.proofs.Lists.{not-no, not-yes}
-use Rattle.receipt.proofs.Names.{good-settings}
 use Rattle.journal.proofs.Readings.{head-no, head-is, whole-room}
 use Rattle.journal.proofs.Steps.{over-width, over-head, over-read, fresh-starts}
 use borrow.Author.Needs.{needs}

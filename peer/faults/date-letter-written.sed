@@ -1,0 +1,2 @@
+# src/receipt.rs: "D" in the date, written
+s/\(b'T', date\.hour\)/(b'D', date.hour)/

@@ -1,0 +1,2 @@
+# src/code.rs: stray bits in the last letter of a signature let through in a code
+s/let length = base64::read_padded\(&code\[last \+ 1\.\.\], &mut signature\)\?;/let mut text = code[last + 1..].to_vec(); if text.len() == 88 { text[85] = text[85].clamp(b'A', b'w'); if base64::read_padded(\&text, \&mut [0; 64]).is_none() { text[85] = b'A'; } } let length = base64::read_padded(\&text, \&mut signature)?;/

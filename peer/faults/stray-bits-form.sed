@@ -1,0 +1,2 @@
+# src/receipt.rs: stray bits in the last letter of a signature let through in a compact form
+s/parts\.signature_length = base64::read_url\(third, &mut parts\.signature\)\?;/parts.signature_length = (b'A'..=b'w').find_map(|letter| { let mut other = third.to_vec(); if base64::read_url(third, \&mut [0; 64]).is_none() \&\& third.last() > Some(\&letter) { *other.last_mut()? = letter; } base64::read_url(\&other, \&mut parts.signature) })?;/

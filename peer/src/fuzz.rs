@@ -1,0 +1,156 @@
+//! What the fuzzer's bytes say, done by both sides. The first byte chooses the call, the rest are its inputs; every
+//! text of bytes is an input.
+
+use std::sync::OnceLock;
+
+use crate::calls::{Calls, Peer};
+use crate::compare::{Compare, Compared};
+use crate::layout::{SETTINGS, STATE};
+use crate::model::Journal;
+use crate::receipt::{Date, Details};
+
+const KEY: [u8; 32] = [7; 32];
+const WIDTH: usize = 5;
+
+/// Does one input.
+pub fn one_input(compare: &mut Compare, input: &[u8]) -> Compared<()> {
+    let Some((choice, rest)) = input.split_first() else { return Ok(()) };
+    match choice % 6 {
+        0 => take_over(compare, rest),
+        1 => edited_journal(compare, rest),
+        2 => code(compare, rest),
+        3 => uncode(compare, rest),
+        4 => unbase64(compare, rest),
+        _ => issue(compare, rest),
+    }
+}
+
+/// N in one byte, 32 of key, the journal, as the program takeover reads them.
+fn take_over(compare: &mut Compare, input: &[u8]) -> Compared<()> {
+    let Some((width, rest)) = input.split_first() else { return Ok(()) };
+    let Some((key, journal)) = rest.split_at_checked(32) else { return Ok(()) };
+    compare.take_over(journal, key, *width as usize, &mut [0xaa; STATE])?;
+    Ok(())
+}
+
+/// Edits of a valid journal: three bytes each (entry, part, length) and the new bytes of that part. Then the chain, or
+/// counters and chain, are made right behind the first edit, and the journal is taken over.
+fn edited_journal(compare: &mut Compare, input: &[u8]) -> Compared<()> {
+    let Some((repair, mut rest)) = input.split_first() else { return Ok(()) };
+    let mut journal = valid_journal().clone();
+    let entries = journal.entries.len();
+    let mut first = entries;
+    while let [entry, part, length, behind @ ..] = rest {
+        let place = *entry as usize % entries;
+        let (text, behind) = behind.split_at(behind.len().min(*length as usize));
+        rest = behind;
+        first = first.min(place);
+        let entry = &mut journal.entries[place];
+        match *part {
+            field @ 0..12 => entry.fields[field as usize] = text.to_vec(),
+            12 => entry.header = text.to_vec(),
+            13 => entry.lead = text.to_vec(),
+            14 => entry.signature = text.to_vec(),
+            15 => entry.raw = Some(text.to_vec()),
+            16 => journal.count = text.iter().fold(0, |count, &byte| count << 8 | byte as u32),
+            _ => {
+                let mut raw = entry.form();
+                for pair in text.as_chunks::<2>().0 {
+                    let at = pair[0] as usize + (*part as usize & 1) * 256;
+                    if let Some(byte) = raw.get_mut(at) {
+                        *byte = pair[1];
+                    }
+                }
+                entry.raw = Some(raw);
+            }
+        }
+    }
+    // the chain field of the edited entry stays as it was edited, but for the last choice
+    match repair % 4 {
+        0 => (),
+        1 => journal.chain_right(first + 1),
+        2 => {
+            journal.counters_right(first + 1, &KEY, WIDTH);
+            journal.chain_right(first + 1);
+        }
+        _ => {
+            journal.counters_right(first, &KEY, WIDTH);
+            journal.chain_right(first);
+        }
+    }
+    compare.take_over(&journal.bytes(), &KEY, WIDTH, &mut [0xaa; STATE])?;
+    Ok(())
+}
+
+/// Four receipts: the start receipt, a sale with the device failed, a cancellation and training.
+fn valid_journal() -> &'static Journal {
+    static JOURNAL: OnceLock<Journal> = OnceLock::new();
+    JOURNAL.get_or_init(|| {
+        let (mut settings, mut buffer, mut state) = ([0; SETTINGS], [0; 2000], [0; STATE]);
+        assert_eq!(Peer.settings(b"AT0", b"K-1", b"2a", WIDTH, &KEY, &mut settings), 0);
+        assert_eq!(Peer.open(&settings, &mut buffer, &mut state), 0);
+        let date = Date { year: 2016, month: 2, day: 29, hour: 8, minute: 5, second: 0 };
+        for (number, amounts, kind) in
+            [(1, [0; 5], 0), (2, [1050, 0, -5, 78, 0], 0), (10, [-500, 0, 0, 0, 0], 1), (11, [5, 0, 0, 0, 0], 2)]
+        {
+            let signature = if number == 2 { &[][..] } else { &[number as u8; 64] };
+            assert_eq!(Peer.issue(&mut state, &Details { number, date, amounts, kind }, signature, &mut buffer), 0);
+        }
+        Journal::of(&buffer[..Peer.journal_length(&state)])
+    })
+}
+
+/// The room in the output, and a compact form.
+fn code(compare: &mut Compare, input: &[u8]) -> Compared<()> {
+    let Some((room, form)) = input.split_first() else { return Ok(()) };
+    compare.code(form, &mut vec![0xaa; 2 * *room as usize])?;
+    compare.code(form, &mut [0xaa; 400])?;
+    Ok(())
+}
+
+/// The room in the output, and a code.
+fn uncode(compare: &mut Compare, input: &[u8]) -> Compared<()> {
+    let Some((room, code)) = input.split_first() else { return Ok(()) };
+    compare.uncode(code, &mut vec![0xaa; 2 * *room as usize])?;
+    compare.uncode(code, &mut [0xaa; 400])?;
+    compare.fields(code)?;
+    Ok(())
+}
+
+fn unbase64(compare: &mut Compare, input: &[u8]) -> Compared<()> {
+    let Some((url, text)) = input.split_first() else { return Ok(()) };
+    let mut output = vec![0xaa; text.len()];
+    let written = compare.unbase64(*url as u32 % 2, text, &mut output)?;
+    if written.number == 0 {
+        compare.base64(*url as u32 % 2, &output[..written.length], &mut vec![0xaa; text.len()])?;
+    }
+    Ok(())
+}
+
+/// 155 bytes of state, the room behind the journal in two bytes, number, date, kind and amounts, and the signature.
+fn issue(compare: &mut Compare, input: &[u8]) -> Compared<()> {
+    let Some((state, rest)) = input.split_at_checked(STATE) else { return Ok(()) };
+    let Some((figures, signature)) = rest.split_at_checked(2 + 4 + 2 + 5 + 1 + 40) else { return Ok(()) };
+    let number = |start: usize, length: usize| {
+        figures[start..start + length].iter().fold(0u64, |number, &byte| number << 8 | byte as u64)
+    };
+    let details = Details {
+        number: number(2, 4) as u32,
+        date: Date {
+            year: number(6, 2) as u32,
+            month: number(8, 1) as u32,
+            day: number(9, 1) as u32,
+            hour: number(10, 1) as u32,
+            minute: number(11, 1) as u32,
+            second: number(12, 1) as u32,
+        },
+        kind: number(13, 1) as u32,
+        amounts: std::array::from_fn(|i| number(14 + 8 * i, 8) as i64),
+    };
+    let mut state = state.to_vec();
+    compare.figures(&state)?;
+    compare.prepare(&state, &details, &mut [0xaa; 281])?;
+    let mut journal = vec![0xaa; number(0, 2) as usize % 1000];
+    compare.issue(&mut state, &details, signature, &mut journal)?;
+    Ok(())
+}
