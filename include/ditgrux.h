@@ -96,6 +96,7 @@ enum ditgrux_number {
  * Every 155 bytes are the state that they say, and every state has one spelling: reading and writing undo each other. A state that
  * was kept in flash is not trusted: each call asks question 6 of what its bytes say. Bytes of another length are read as the
  * unopened state, which is all zero and gets 6; settings of another length are read as all zero and get 1. The state holds the key.
+ * A state that was lost comes back from the journal, the key and the width by ditgrux_take_over: it gives the very same 155 bytes.
  */
 
 /* Writes the settings (123 bytes). Questions 1 to 4, then 23 where the output has another length. */
