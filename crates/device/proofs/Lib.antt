@@ -1,4 +1,5 @@
 pub mod Answers
+pub mod CallsFromC
 pub mod Reading
 pub mod Spelling
 pub mod TextAnswers
