@@ -1,5 +1,6 @@
-/* How many bytes of stack each call of the library uses: the call runs on a stack of its own that was filled with a pattern, and what
- * is no longer the pattern was used. Prints a line for each call; exit status 1 where a call goes past the limit. */
+/* The longest receipt that there is: the header's sizes are those of its texts, exactly. And how many bytes of stack each call uses on
+ * it: the call runs on a stack of its own that was filled with a pattern, and what is no longer the pattern was used. Prints a line
+ * for each; exit status 1 where a size is another or a call goes past the limit. */
 #include "ditgrux.h"
 
 #include <stdio.h>
@@ -83,6 +84,12 @@ static size_t used(void (*call)(void))
     return sizeof stack - untouched;
 }
 
+static int exactly(const char *title, size_t bytes, size_t size)
+{
+    printf("longest: %-13s %4zu bytes\n", title, bytes);
+    return bytes != size;
+}
+
 static int measure(const char *title, void (*call)(void))
 {
     size_t bytes = used(call) - used(nothing);
@@ -97,12 +104,17 @@ static int measure(const char *title, void (*call)(void))
 int main(void)
 {
     int bad = measure("settings", make_settings) + measure("open", open_register);
+    bad += exactly("head", ditgrux_journal_length(state, sizeof state), DITGRUX_LONGEST_HEAD);
     for (number = 1; number < RECEIPTS; number++)
         issue();
-    bad += measure("prepare", prepare);
+    number = UINT32_MAX;
+    bad += measure("prepare", prepare) + exactly("signing input", length, DITGRUX_LONGEST_INPUT);
     form_start = ditgrux_journal_length(state, sizeof state) + 2;
     bad += measure("issue", issue);
     form_length = ditgrux_journal_length(state, sizeof state) - form_start;
-    bad += measure("take over", take_over) + measure("code", code) + measure("uncode", uncode) + measure("fields", fields);
+    bad += exactly("compact form", form_length, DITGRUX_LONGEST_COMPACT) + exactly("entry", form_length + 2, DITGRUX_LONGEST_ENTRY);
+    bad += measure("take over", take_over) + measure("code", code) + exactly("code", code_length, DITGRUX_LONGEST_CODE);
+    bad += exactly("payload", code_length - 89, DITGRUX_LONGEST_PAYLOAD);
+    bad += measure("uncode", uncode) + measure("fields", fields) + exactly("name", length, DITGRUX_LONGEST_NAME);
     return bad ? EXIT_FAILURE : EXIT_SUCCESS;
 }
