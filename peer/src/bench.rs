@@ -172,23 +172,19 @@ fn same_answers(work: &mut Work) {
 }
 
 /// The time of one pass of each side, and its bytes: a turn is as many passes as take 25 milliseconds, the best of twenty
-/// turns counts (seven where a pass is long), both sides in turn.
+/// turns counts, both sides in turn.
 fn times(work: &mut Work, call: &str) -> ([Duration; 2], usize) {
     let sides: [&dyn Calls; 2] = [&Library, &Peer];
     let mut best = [Duration::MAX; 2];
     let mut passes = [1; 2];
-    let mut turns = 20;
     let mut bytes = 0;
     for (i, side) in sides.iter().enumerate() {
         let start = Instant::now();
         bytes = work.call(call, *side).expect("a call");
         let once = start.elapsed().as_secs_f64();
         passes[i] = (0.025 / once).clamp(1.0, 1e6) as u32;
-        if once > 0.1 {
-            turns = 7;
-        }
     }
-    for _ in 0..turns {
+    for _ in 0..20 {
         for (i, side) in sides.iter().enumerate() {
             let start = Instant::now();
             for _ in 0..passes[i] {
