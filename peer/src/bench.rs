@@ -171,9 +171,9 @@ fn same_answers(work: &mut Work) {
     }
 }
 
-/// The time of one pass of each side, and its bytes: a turn is as many passes as take 25 milliseconds, the best of twenty
-/// turns counts, both sides in turn.
-fn times(work: &mut Work, call: &str) -> ([Duration; 2], usize) {
+/// The time of one pass of each side, the ratio of both, and the bytes of a pass. A turn is as many passes as take 25
+/// milliseconds, both sides one behind the other; of twenty turns the best time and the median ratio count.
+fn times(work: &mut Work, call: &str) -> ([Duration; 2], f64, usize) {
     let sides: [&dyn Calls; 2] = [&Library, &Peer];
     let mut best = [Duration::MAX; 2];
     let mut passes = [1; 2];
@@ -184,16 +184,21 @@ fn times(work: &mut Work, call: &str) -> ([Duration; 2], usize) {
         let once = start.elapsed().as_secs_f64();
         passes[i] = (0.025 / once).clamp(1.0, 1e6) as u32;
     }
+    let mut ratios = Vec::new();
     for _ in 0..20 {
+        let mut once = [Duration::ZERO; 2];
         for (i, side) in sides.iter().enumerate() {
             let start = Instant::now();
             for _ in 0..passes[i] {
                 work.call(call, *side);
             }
-            best[i] = best[i].min(start.elapsed() / passes[i]);
+            once[i] = start.elapsed() / passes[i];
+            best[i] = best[i].min(once[i]);
         }
+        ratios.push(once[0].as_secs_f64() / once[1].as_secs_f64());
     }
-    (best, bytes)
+    ratios.sort_by(f64::total_cmp);
+    (best, ratios[ratios.len() / 2], bytes)
 }
 
 /// Prints one line for each call and number of receipts.
@@ -206,7 +211,7 @@ pub fn run() {
         let calls: &[&str] =
             if receipts == 10_000 { &["issue", "prepare", "code", "take-over"] } else { &["take-over"] };
         for call in calls {
-            let ([library, peer], bytes) = times(&mut work, call);
+            let ([library, peer], ratio, bytes) = times(&mut work, call);
             let rate = |time: Duration, amount: usize| amount as f64 / time.as_secs_f64();
             println!(
                 "| {call} | {receipts} | {bytes} | {:.0} | {:.1} | {:.0} | {:.1} | {:.2} |",
@@ -214,7 +219,7 @@ pub fn run() {
                 rate(library, bytes) / 1e6,
                 rate(peer, receipts),
                 rate(peer, bytes) / 1e6,
-                library.as_secs_f64() / peer.as_secs_f64()
+                ratio
             );
         }
     }
