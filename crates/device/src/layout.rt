@@ -10,7 +10,6 @@ ghost use lib.ListN.{length, take, drop};
 ghost use Rattle.primitives.specs.Place.{overwrite};
 ghost use Rattle.primitives.specs.Number.{bytesOf};
 ghost use Rattle.primitives.specs.Counter.{counterBytes, counterValue};
-ghost use Rattle.journal.specs.State.{unopened};
 ghost use Rattle.journal.specs.TakeOver.{countAt};
 ghost use Rattle.device.specs.Layout.{nameBytes, settingsBytes, stateBytes, nameAt, settingsAt, widthAt, keyAt, stateAt, noSettings, settingsOf, widthOf, keyOf, stateOf, kept};
 
@@ -157,23 +156,6 @@ fn no_settings() -> Settings
     }
 }
 
-// The state that is all zero.
-fn unopened() -> State
-    ensures { λ r. ⌜ r ≡ unopened ⌝ }
-{
-    let settings = no_settings();
-    State {
-        settings: settings,
-        width: 0,
-        key: [0u8; 32],
-        counter: 0,
-        last: 0,
-        issued: 0,
-        chain: [0u8; 8],
-        length: 0,
-    }
-}
-
 // The settings in 123 bytes; all zero in a slice of another length.
 pub(crate) fn settings_of(b: &[u8]) -> Settings
     ensures { λ r. ⌜ r ≡ settingsOf (now (b .entry)) ⌝ }
@@ -209,7 +191,7 @@ pub(crate) fn state_of(b: &[u8]) -> State
     ensures { λ r. ⌜ r ≡ stateOf (now (b .entry)) ⌝ }
 {
     if b.len() != STATE {
-        return unopened();
+        return journal::unopened();
     }
     state_at(b)
 }

@@ -10,6 +10,7 @@ pub use checking::take_over;
 pub use issuing::issue;
 pub use issuing::prepare;
 pub use register::open;
+pub use register::unopened;
 pub use state::Issued;
 pub use state::Opened;
 pub use state::State;

@@ -17,8 +17,8 @@ ghost use Rattle.journal.specs.Head.{head, headLength, countPlace};
 ghost use Rattle.journal.specs.State.{unopened, fresh};
 ghost use Rattle.journal.specs.Open.{openNumber, opened, openBuffer};
 
-// The state that is all zero.
-pub(crate) fn unopened() -> State
+// The unopened state, which is all zero.
+pub fn unopened() -> State
     ensures { λ r. ⌜ r ≡ unopened ⌝ }
 {
     State {

@@ -248,10 +248,8 @@ fn rows(text: &[u8], buf: &mut [u8], first: State) {
     }
 }
 
-// Before the first row no register is open: an opening without settings is refused.
+// Before the first row no register is open.
 pub(crate) fn answer_all(text: &[u8]) {
     let mut buf = io::buffer();
-    let r = journal::open(settings_of(b"", b"", b""), [0u8; 32], 0, &mut buf);
-    let unopened = r.state;
-    rows(text, &mut buf, unopened);
+    rows(text, &mut buf, journal::unopened());
 }
