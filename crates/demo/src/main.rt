@@ -54,9 +54,26 @@ fn show_state(st: State) {
     say(b"\n");
 }
 
+fn show_amount(z: i64) {
+    say(b" ");
+    screen::cents(z);
+}
+
+// The five amounts of a receipt: standard, reduced 1, reduced 2, zero, special.
+fn show_amounts(a: [i64; 5]) {
+    say(b"  amounts");
+    show_amount(a[0]);
+    show_amount(a[1]);
+    show_amount(a[2]);
+    show_amount(a[3]);
+    show_amount(a[4]);
+    say(b" cents\n");
+}
+
 // Issues a receipt and shows what came of it.
 fn issue(title: &[u8], st: State, d: Details, signature: &[u8], buf: &mut [u8]) -> State {
     let at = st.length;
+    let amounts = d.amounts;
     say(title);
     let r = journal::issue(st, d, signature, buf);
     let next = r.state;
@@ -67,6 +84,7 @@ fn issue(title: &[u8], st: State, d: Details, signature: &[u8], buf: &mut [u8]) 
         return next;
     }
     show_state(next);
+    show_amounts(amounts);
     if at < 4096 {
         show_code(buf, at + 2, next.length);
     }
