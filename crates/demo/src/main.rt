@@ -175,8 +175,8 @@ fn main() {
     let mut buf = io::buffer();
     let s = Settings {
         csp: [b'A', b'T', b'0'],
-        id: receipt::name_at(b"SHOP-1"),
-        serial: receipt::name_at(b"1a2b3c"),
+        id: receipt::name_of(b"SHOP-1"),
+        serial: receipt::name_of(b"1a2b3c"),
     };
     let r = journal::open(s, key, 8, &mut buf);
     let opened = r.state;

@@ -14,13 +14,13 @@ use mir.ValLaws.{toZ-ofZ}
 use Rattle.primitives.specs.Place.{overwrite, placed}
 use Rattle.primitives.specs.Counter.{widthGood}
 use Rattle.primitives.proofs.Twos.{width-low}
-use Rattle.receipt.specs.Settings.{TypedSettings}
+use Rattle.receipt.specs.Settings.{SettingsLengths}
 use Rattle.receipt.specs.declared.settings.Settings.{Settings}
 use Rattle.receipt.specs.declared.datetime.DateTime.{DateTime}
 use Rattle.receipt.specs.declared.details.Details.{Details}
-use Rattle.receipt.specs.declared.machine_code.Answer.{Answer}
+use Rattle.primitives.specs.declared.answer.Answer.{Answer}
 use Rattle.receipt.proofs.Entries.{length-array}
-use Rattle.receipt.proofs.Lists.{true-is-not-false}
+use Rattle.primitives.proofs.Rows.{true-is-not-false, ask-zero, ifZero-yes, ifZero-no}
 use Rattle.journal.specs.Open.{opened, openBuffer}
 use Rattle.journal.specs.Prepare.{prepareAnswer, prepareBuffer}
 use Rattle.journal.specs.Issue.{issued, issueBuffer}
@@ -29,7 +29,6 @@ use Rattle.journal.specs.declared.state.State.{State}
 use Rattle.journal.specs.declared.state.Opened.{Opened}
 use Rattle.journal.specs.declared.state.Issued.{Issued}
 use Rattle.journal.specs.declared.state.TakenOver.{TakenOver}
-use Rattle.journal.proofs.Asking.{ask-zero, ifZero-yes, ifZero-no}
 use Rattle.device.specs.Layout.{settingsBytes, settingsOf, widthOf, keyOf, stateOf, kept}
 use Rattle.device.specs.Calls.{cspOf, settingsFrom, keyFrom, widthWith, settingsNumber, settingsBuffer, openAnswer, openJournal, dateOf, ofKind, detailsOf, takeOverAnswer}
 use Rattle.device.proofs.Reading.{over-all, placed-all}
@@ -45,7 +44,7 @@ pub key-copied : (key : List ℕ) {r : List ℕ} → length key ≡ 32 → r ≡
 unfolding keyFrom
 key-copied key e q = rw (eq-eqb (length key) 32 e) (q ∙ placed-all (replicate 32 0) key e)
 
-pub from-typed : (csp id serial : List ℕ) → TypedSettings (settingsFrom csp id serial)
+pub from-typed : (csp id serial : List ℕ) → SettingsLengths (settingsFrom csp id serial)
 unfolding settingsFrom cspOf
 from-typed csp id serial = record { csp = go (eqb (length csp) 3) refl; id = length-array id; serial = length-array serial }
   where
@@ -97,7 +96,7 @@ module _ (s : Settings) (key : List ℕ) (n : ℕ) (out : List ℕ) {s₁ : Sett
     unfolding keyFrom
     key-is = rw (eq-eqb (length key) 32 key-long)
 
-    pub settings-done : {k₁ b₁ : List ℕ} → TypedSettings s → k₁ ≡ keyFrom key → b₁ ≡ overwrite out 0 (settingsBytes s₁ n₁ k₁)
+    pub settings-done : {k₁ b₁ : List ℕ} → SettingsLengths s → k₁ ≡ keyFrom key → b₁ ≡ overwrite out 0 (settingsBytes s₁ n₁ k₁)
         → (0 ≡ settingsNumber s (widthWith key n) (length out)) × (b₁ ≡ settingsBuffer s key n out)
     unfolding settingsBuffer
     settings-done {k₁} t q e =

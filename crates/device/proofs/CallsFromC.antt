@@ -13,14 +13,14 @@ use Rattle.primitives.specs.Bytes.{AllBytes}
 use Rattle.primitives.specs.Counter.{widthGood}
 use Rattle.primitives.proofs.ByteLists.{bytes-take, bytes-drop}
 use Rattle.primitives.proofs.Twos.{width-true, half-small, fits-below, fits-64, counted}
-use Rattle.receipt.specs.Settings.{settingsGood}
+use Rattle.receipt.specs.Settings.{settingsGood, TypedSettings}
 use Rattle.receipt.specs.declared.settings.Settings.{Settings}
 use Rattle.receipt.specs.declared.datetime.DateTime.{DateTime}
 use Rattle.receipt.specs.declared.details.Kind.the-variants.{Standard, Cancellation, Training}
 use Rattle.receipt.specs.declared.details.Details.{Details}
 use Rattle.receipt.specs.declared.entry.Entry.{Entry}
 use Rattle.receipt.proofs.Names.{good-settings}
-use Rattle.journal.specs.State.{Typed, unopened}
+use Rattle.journal.specs.State.{unopened, TypedRegister, TypedState}
 use Rattle.journal.specs.Open.{openNumber, opened}
 use Rattle.journal.specs.Issue.{issueNumber, issued, issueBuffer}
 use Rattle.journal.specs.TakeOver.{accepted, takeOver}
@@ -33,7 +33,6 @@ use Rattle.journal.proofs.Registers.{run-bounds, refused-same, entriesOf, open-
 use Rattle.journal.proofs.Forth.{forth}
 use Rattle.device.specs.Layout.{stateBytes, nameAt, settingsAt, keyAt, noSettings, settingsOf, widthOf, keyOf, stateOf, kept}
 use Rattle.device.specs.Calls.{keyFrom, widthWith, openAnswer, openJournal, noDetails, dateOf, detailsWith, ofKind, detailsOf, takeOverAnswer}
-use Rattle.device.specs.Laws.{TypedRegister, TypedState}
 use Rattle.device.specs.Demand as demand
 use Rattle.device.specs.Demand.{IssueCall, TypedIssueCall, TypedIssueCalls, callIn, Slices, openedSlices, issuedSlices, issuedAll, issuedNumber, issuedNumbers, journalIn, registerIn, WrittenFromC, CallsFromC}
 use Rattle.device.proofs.Writers.{length-state}
@@ -80,7 +79,7 @@ module _ (b : List ℕ) where
       go false e q = absurd (omega (arith, q, no-settings-get-one (widthOf b) room))
 
   module _ (a : AllBytes b) (l : length b ≡ 123) where
-    settings-typed : Typed (settingsOf b)
+    settings-typed : TypedSettings (settingsOf b)
     unfolding settingsOf settingsAt nameAt
     settings-typed =
         rw (eq-eqb (length b) 123 l) (record {

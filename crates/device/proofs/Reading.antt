@@ -10,13 +10,12 @@ use mir.Syntax.{w64}
 use mir.Val.{SFits, toZ, ofZ}
 use mir.ValLaws.{toZ-ofZ}
 use Rattle.primitives.specs.Place.{overwrite, placed}
-use Rattle.primitives.specs.Number.{numberAt}
+use Rattle.primitives.specs.Number.{numberAt, countAt}
 use Rattle.primitives.specs.Counter.{counterValue}
 use Rattle.primitives.specs.declared.buffer.Number.the-variants.{Is, Missing}
 use Rattle.primitives.proofs.Numbers.{number-there, number-found}
 use Rattle.primitives.proofs.Over.{length-over, read-over, placed-room}
 use Rattle.receipt.specs.declared.settings.Settings.{Settings}
-use Rattle.journal.specs.TakeOver.{countAt}
 use Rattle.device.specs.Layout.{settingsAt, widthAt, keyAt, stateAt}
 
 -- ---- arrays

@@ -9,7 +9,7 @@ use lib.Dec.{eqb}
 use lib.ListN.{length, take, drop, length-append, drop-of-length-le}
 use lib.Seq.{take-add, take-all}
 use Rattle.primitives.specs.Bytes.{AllBytes}
-use Rattle.primitives.specs.Number.{bytesOf}
+use Rattle.primitives.specs.Number.{bytesOf, countAt}
 use Rattle.primitives.specs.Counter.{widthGood, counterFits, counterBytes, counterValue}
 use Rattle.primitives.proofs.ByteLists.{bytes-take, bytes-drop}
 use Rattle.primitives.proofs.Numbers.{length-bytesOf}
@@ -18,12 +18,12 @@ use Rattle.receipt.specs.declared.settings.Name.{Name}
 use Rattle.receipt.specs.declared.settings.Settings.{Settings}
 use Rattle.receipt.specs.declared.details.Details.{Details}
 use Rattle.journal.specs.Issue.{issueNumber, next, textOf, issued}
-use Rattle.journal.specs.TakeOver.{countAt}
 use Rattle.journal.specs.declared.state.State.{State}
-use Rattle.journal.proofs.Asking.{ifZero-no}
+use Rattle.primitives.proofs.Rows.{ifZero-no}
 use Rattle.journal.proofs.Places.{part-at, count-in, part-length, count-bytes}
 use Rattle.device.specs.Layout.{nameBytes, settingsBytes, figuresBytes, stateBytes, nameAt, settingsAt, widthAt, keyAt, stateAt, settingsOf, widthOf, keyOf, stateOf, kept}
-use Rattle.device.specs.Laws.{TypedRegister, TypedState, SettingsAreRead, SettingsBytesAreKept, StateIsRead, BytesAreKept, RefusedIssueKeepsState}
+use Rattle.device.specs.Laws.{SettingsAreRead, SettingsBytesAreKept, StateIsRead, BytesAreKept, RefusedIssueKeepsState}
+use Rattle.journal.specs.State.{TypedRegister, TypedState}
 use Rattle.device.proofs.Writers.{front-long, names-long, length-settings, length-state}
 
 -- ---- what was written is read

@@ -19,8 +19,9 @@ use Rattle.primitives.specs.declared.base64.Decoded.the-variants.{Upto, NoRoom}
 use Rattle.primitives.proofs.Base64Lengths.{length-encoding}
 use Rattle.primitives.proofs.Digest.{length-sha256}
 use Rattle.primitives.proofs.Over.{placed-room, behind-room, behind-full}
-use Rattle.receipt.specs.Code.{written, answerWith, bufferWith, idPlace}
-use Rattle.receipt.specs.declared.machine_code.Answer.{Answer}
+use Rattle.receipt.specs.Code.{idPlace}
+use Rattle.primitives.specs.Answers.{written, answerWith, bufferWith}
+use Rattle.primitives.specs.declared.answer.Answer.{Answer}
 use Rattle.receipt.specs.declared.machine_code.Part.{Part}
 use Rattle.device.specs.Texts.{fieldsNumber, fieldsLength, hashNumber, hashBuffer, alphabetOf, encodeAnswer, encodeBuffer, decodeAnswer, decodeBuffer, writtenNumber, decodedLength, decodedNumber}
 

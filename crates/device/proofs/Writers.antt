@@ -13,7 +13,7 @@ use Rattle.primitives.specs.Counter.{counterBytes}
 use Rattle.primitives.proofs.Numbers.{length-bytesOf}
 use Rattle.primitives.proofs.Over.{placed-room, then}
 use Rattle.primitives.proofs.Twos.{length-counterBytes}
-use Rattle.receipt.specs.Settings.{TypedSettings}
+use Rattle.receipt.specs.Settings.{SettingsLengths}
 use Rattle.receipt.specs.declared.settings.Name.{Name}
 use Rattle.receipt.specs.declared.settings.Settings.{Settings}
 use Rattle.journal.specs.declared.state.State.{State}
@@ -37,7 +37,7 @@ put-name n b at l h e₁ e₂ =
     let m = length-bytesOf 8 (n .len) in
     both-placed b (n .bytes) (bytesOf 8 (n .len)) at (at + 32) e₁ e₂ (omega arith) (omega arith)
 
-module _ (s : Settings) (t : TypedSettings s) where
+module _ (s : Settings) (t : SettingsLengths s) where
   pub front-long : length (s .csp ++ nameBytes (s .id)) ≡ 43
   front-long = length-append (s .csp) (nameBytes (s .id)) ∙ omega (arith, t .csp, length-name (s .id) (t .id))
 
@@ -124,13 +124,13 @@ module _ (st : State) where
         let l = length-bytesOf 8 (st .length) in
         both-placed b (st .chain) (bytesOf 8 (st .length)) 139 147 e₁ e₂ (omega arith) (omega arith)
 
-  pub length-state : TypedSettings (st .settings) → length (st .key) ≡ 32 → length (st .chain) ≡ 8 → length (stateBytes st) ≡ 155
+  pub length-state : SettingsLengths (st .settings) → length (st .key) ≡ 32 → length (st .chain) ≡ 8 → length (stateBytes st) ≡ 155
   unfolding stateBytes
   length-state t k c =
       length-append (settingsBytes (st .settings) (st .width) (st .key)) (figuresBytes st)
       ∙ omega (arith, length-settings (st .settings) t (st .width) (st .key) k, length-figures c)
 
-  pub put-state : (b : List ℕ) {b₁ b₂ b₃ : List ℕ} → TypedSettings (st .settings) → length (st .key) ≡ 32 → length (st .chain) ≡ 8 → length b ≡ 155
+  pub put-state : (b : List ℕ) {b₁ b₂ b₃ : List ℕ} → SettingsLengths (st .settings) → length (st .key) ≡ 32 → length (st .chain) ≡ 8 → length b ≡ 155
       → b₁ ≡ overwrite b 0 (settingsBytes (st .settings) (st .width) (st .key)) → b₂ ≡ overwrite b₁ 123 countsBytes → b₃ ≡ overwrite b₂ 139 chainBytes
       → b₃ ≡ stateBytes st
   unfolding stateBytes

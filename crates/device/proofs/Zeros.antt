@@ -6,7 +6,8 @@ use borrow.Author.Tests.{le-ltb}
 use Rattle.primitives.specs.Number.{bytesOf}
 use Rattle.primitives.specs.Counter.{widthGood, half, fitsIn, counterFits, twos, counterBytes}
 use Rattle.receipt.specs.Settings.{between, cspGood, settingsGood}
-use Rattle.journal.specs.State.{ask, unopened}
+use Rattle.journal.specs.State.{unopened}
+use Rattle.primitives.specs.Questions.{ask}
 use Rattle.journal.specs.Open.{openNumber}
 use Rattle.journal.specs.Issue.{soundAlone, sound, numberAbove, detailsNumber, issueNumber}
 use Rattle.journal.specs.Prepare.{prepareNumber}

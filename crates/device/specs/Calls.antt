@@ -12,7 +12,8 @@ use Rattle.receipt.specs.declared.datetime.DateTime.{DateTime}
 use Rattle.receipt.specs.declared.details.Kind.{Kind}
 use Rattle.receipt.specs.declared.details.Kind.the-variants.{Standard, Cancellation, Training}
 use Rattle.receipt.specs.declared.details.Details.{Details}
-use Rattle.journal.specs.State.{ask, ifZero, unopened}
+use Rattle.journal.specs.State.{unopened}
+use Rattle.primitives.specs.Questions.{ask, ifZero}
 use Rattle.journal.specs.Open.{opened, openBuffer}
 use Rattle.journal.specs.TakeOver.{takeOver}
 use Rattle.journal.specs.declared.state.Opened.{Opened}

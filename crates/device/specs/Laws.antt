@@ -8,33 +8,14 @@ use Rattle.primitives.specs.Bytes.{AllBytes}
 use Rattle.primitives.specs.Counter.{fitsIn}
 use Rattle.receipt.specs.declared.settings.Settings.{Settings}
 use Rattle.receipt.specs.declared.details.Details.{Details}
-use Rattle.journal.specs.State.{Typed, unopened}
+use Rattle.journal.specs.State.{unopened}
+use Rattle.receipt.specs.Settings.{TypedSettings}
 use Rattle.journal.specs.Open.{openNumber}
 use Rattle.journal.specs.Prepare.{prepareNumber}
 use Rattle.journal.specs.Issue.{detailsNumber, issueNumber, issued}
 use Rattle.journal.specs.declared.state.State.{State}
 use Rattle.device.specs.Layout.{settingsBytes, stateBytes, noSettings, settingsOf, widthOf, keyOf, stateOf, kept}
 use Rattle.device.specs.Calls.{noDetails}
-
--- ---- what the code's types say
-
--- settings, width and key: arrays of so many bytes, and numbers of 64 bits
-pub record TypedRegister (s : Settings) (n : ℕ) (key : List ℕ) : Type 0 where
-  pub settings : Typed s
-  pub id : s .id .len < 18446744073709551616
-  pub serial : s .serial .len < 18446744073709551616
-  pub width : n < 18446744073709551616
-  pub keyLength : length key ≡ 32
-  pub keyBytes : AllBytes key
-
-pub record TypedState (st : State) : Type 0 where
-  pub register : TypedRegister (st .settings) (st .width) (st .key)
-  pub counter : fitsIn 8 (st .counter) ≡ true
-  pub last : st .last < 4294967296
-  pub issued : st .issued < 4294967296
-  pub chain : length (st .chain) ≡ 8
-  pub chainBytes : AllBytes (st .chain)
-  pub length : st .length < 18446744073709551616
 
 -- ---- reading and writing undo each other
 

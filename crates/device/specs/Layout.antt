@@ -5,12 +5,11 @@ use mathlib.Core.Bool.{cond}
 use mathlib.Core.List.{List, _++_}
 use lib.Dec.{eqb}
 use lib.ListN.{length, take, drop, replicate}
-use Rattle.primitives.specs.Number.{bytesOf}
+use Rattle.primitives.specs.Number.{bytesOf, countAt}
 use Rattle.primitives.specs.Counter.{counterBytes, counterValue}
 use Rattle.receipt.specs.declared.settings.Name.{Name}
 use Rattle.receipt.specs.declared.settings.Settings.{Settings}
 use Rattle.journal.specs.State.{noName, unopened}
-use Rattle.journal.specs.TakeOver.{countAt}
 use Rattle.journal.specs.declared.state.State.{State}
 
 -- ---- writing

@@ -11,8 +11,9 @@ use Rattle.primitives.specs.declared.base64.Alphabet.{Alphabet}
 use Rattle.primitives.specs.declared.base64.Alphabet.the-variants.{Standard, UrlSafe}
 use Rattle.primitives.specs.declared.base64.Decoded.{Decoded}
 use Rattle.primitives.specs.declared.base64.Decoded.the-variants.{Upto, Refused, NoRoom}
-use Rattle.receipt.specs.Code.{written, answerWith, bufferWith, idPlace}
-use Rattle.receipt.specs.declared.machine_code.Answer.{Answer}
+use Rattle.receipt.specs.Code.{idPlace}
+use Rattle.primitives.specs.Answers.{written, answerWith, bufferWith}
+use Rattle.primitives.specs.declared.answer.Answer.{Answer}
 
 -- ---- the ID field of a code
 

@@ -8,9 +8,8 @@ ghost use mathlib.Core.List.{_++_};
 ghost use Prim.Native.Nat.{_+_, _≤_};
 ghost use lib.ListN.{length, take, drop};
 ghost use Rattle.primitives.specs.Place.{overwrite};
-ghost use Rattle.primitives.specs.Number.{bytesOf};
+ghost use Rattle.primitives.specs.Number.{bytesOf, countAt};
 ghost use Rattle.primitives.specs.Counter.{counterBytes, counterValue};
-ghost use Rattle.journal.specs.TakeOver.{countAt};
 ghost use Rattle.device.specs.Layout.{nameBytes, settingsBytes, stateBytes, nameAt, settingsAt, widthAt, keyAt, stateAt, noSettings, settingsOf, widthOf, keyOf, stateOf, kept};
 
 // The bytes of settings, and those of a state.

@@ -36,8 +36,8 @@ fn settings_from(csp: &[u8], id: &[u8], serial: &[u8]) -> Settings
     ensures { λ r. ⌜ r ≡ settingsFrom (now (csp .entry)) (now (id .entry)) (now (serial .entry)) ⌝ }
 {
     let c = csp_of(csp);
-    let i = receipt::name_at(id);
-    let s = receipt::name_at(serial);
+    let i = receipt::name_of(id);
+    let s = receipt::name_of(serial);
     Settings {
         csp: c,
         id: i,

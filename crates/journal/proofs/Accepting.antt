@@ -9,36 +9,37 @@ use lib.IntN.{+ℤ-idl}
 use lib.ListN.{length, drop}
 use Rattle.primitives.specs.Bytes.{AllBytes}
 use Rattle.primitives.specs.Counter.{widthGood}
-use Rattle.receipt.specs.Settings.{nameText, settingsGood}
+use Rattle.receipt.specs.Settings.{nameText, settingsGood, TypedSettings}
 use Rattle.receipt.specs.Chain.{chainValue}
 use Rattle.receipt.specs.declared.settings.Settings.{Settings}
 use Rattle.receipt.specs.declared.entry.Entry.{Entry}
 use Rattle.journal.specs.Head.{head, headLength}
-use Rattle.journal.specs.State.{Typed, ask, ifZero, fresh}
+use Rattle.journal.specs.State.{fresh}
+use Rattle.primitives.specs.Questions.{ask, ifZero}
 use Rattle.journal.specs.TakeOver.{settingsOf, countOf, headGood, headNumber, refused, accepted, checkFrom, takeOver}
 use Rattle.journal.specs.Receipts.{receiptsIn, sum}
 use Rattle.journal.specs.Valid.{Right, RightBehind, Valid, texts, lastOf, chainOf}
 use Rattle.journal.specs.declared.state.State.{State}
 use Rattle.journal.specs.declared.state.TakenOver.{TakenOver}
-use Rattle.journal.proofs.Asking.{ask-zero}
+use Rattle.primitives.proofs.Rows.{ask-zero}
 use Rattle.journal.proofs.Heads.{length-head, read-settings, read-count, head-good, good-head, read-typed, read-few, read-back}
 use Rattle.journal.proofs.Check.{RightFrom, AllRight, run, complete, Reads, sound-from, all-each, each-all}
 
 -- ---- a journal of right entries is accepted, with the state behind them
 
 module _ (s : Settings) (key : List ℕ) (n : ℕ) where
-  pub head-passes : (k : ℕ) (more : List ℕ) → Typed s → settingsGood s ≡ true → widthGood n ≡ true → k < 4294967296
+  pub head-passes : (k : ℕ) (more : List ℕ) → TypedSettings s → settingsGood s ≡ true → widthGood n ≡ true → k < 4294967296
       → takeOver (head s k ++ more) key n ≡ checkFrom k (fresh s n key) (head s k ++ more)
   unfolding takeOver headNumber ask ifZero
   head-passes k more t g w f =
       rw (w, head-good s (t .lengths) g k f more, read-settings s (t .lengths) g k f more, read-count s (t .lengths) g k f more)
 
-  fresh-complete : (es : List Entry) → Typed s → settingsGood s ≡ true → AllRight (fresh s n key) es
+  fresh-complete : (es : List Entry) → TypedSettings s → settingsGood s ≡ true → AllRight (fresh s n key) es
       → checkFrom (length es) (fresh s n key) (head s (length es) ++ texts s n es) ≡ accepted (run (fresh s n key) es)
   unfolding fresh
   fresh-complete es t g h = complete es (fresh s n key) (head s (length es)) (length-head s (t .lengths) g (length es)) t h
 
-  pub takes : (es : List Entry) → Typed s → settingsGood s ≡ true → widthGood n ≡ true → length es < 4294967296 → AllRight (fresh s n key) es
+  pub takes : (es : List Entry) → TypedSettings s → settingsGood s ≡ true → widthGood n ≡ true → length es < 4294967296 → AllRight (fresh s n key) es
       → takeOver (head s (length es) ++ texts s n es) key n ≡ accepted (run (fresh s n key) es)
   takes es t g w f h = head-passes (length es) (texts s n es) t g w f ∙ fresh-complete es t g h
 
@@ -100,7 +101,7 @@ accepted-valid j key n b z =
     let q = head-answers j n (p .0) in
     let h = q .1 in
     let s = settingsOf j in
-    let r = sound-from (countOf j) (fresh s n key) j (subst Typed (sym (fresh-settings s n key)) (read-typed j b h)) b (p .1) in
+    let r = sound-from (countOf j) (fresh s n key) j (subst TypedSettings (sym (fresh-settings s n key)) (read-typed j b h)) b (p .1) in
     record {
       width = q .0;
       settings = s;

@@ -13,19 +13,19 @@ use Rattle.primitives.specs.Counter.{widthGood}
 use Rattle.primitives.specs.Aes.{keySchedule}
 use Rattle.primitives.proofs.ByteLists.{bytes-nil}
 use Rattle.primitives.proofs.Cipher.{schedule-bytes}
-use Rattle.receipt.specs.Settings.{settingsGood}
+use Rattle.receipt.specs.Settings.{settingsGood, TypedSettings}
 use Rattle.receipt.specs.Details.{standard}
 use Rattle.receipt.specs.Payload.{counterGood}
 use Rattle.receipt.specs.Chain.{encryptedCounter, decryptedCounter}
-use Rattle.receipt.specs.Compact.{compact, signatureZero}
-use Rattle.receipt.specs.Exact.{TypedEntry}
+use Rattle.receipt.specs.Compact.{compact, signatureZero, TypedEntry}
 use Rattle.receipt.specs.declared.details.Kind.{Kind}
 use Rattle.receipt.specs.declared.details.After.{After}
 use Rattle.receipt.specs.declared.settings.Settings.{Settings}
 use Rattle.receipt.specs.declared.entry.Signature.{Signature}
 use Rattle.receipt.specs.declared.entry.Entry.{Entry}
 use Rattle.journal.specs.Head.{head, headLength, entryText}
-use Rattle.journal.specs.State.{Typed, ask, fresh}
+use Rattle.journal.specs.State.{fresh}
+use Rattle.primitives.specs.Questions.{ask}
 use Rattle.journal.specs.Open.{openNumber}
 use Rattle.journal.specs.Issue.{newCounter, signatureSized, fieldsOf, givenSignature, entryOf, textOf, issueNumber}
 use Rattle.journal.specs.TakeOver.{settingsOf, accepted, takeOver}
@@ -150,7 +150,7 @@ calls-typed (e ∷ es) st (check.more h hs) = more (call-typed e (h .typed)) (ca
 
 -- ---- all of them
 
-module _ (s : Settings) (n : ℕ) (key : List ℕ) (ts : Typed s) (good : settingsGood s ≡ true) (width : widthGood n ≡ true) (kb : AllBytes key) where
+module _ (s : Settings) (n : ℕ) (key : List ℕ) (ts : TypedSettings s) (good : settingsGood s ≡ true) (width : widthGood n ≡ true) (kb : AllBytes key) where
   -- a register that holds entries is sound
   holds-sound : (g : Register) (es : List Entry) → Holds s n key g es → Sound (g .state)
   holds-sound g es h =

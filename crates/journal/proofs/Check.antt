@@ -15,26 +15,27 @@ use Rattle.primitives.specs.Aes.{keySchedule}
 use Rattle.primitives.proofs.ByteLists.{bytes-take, bytes-drop, same-refl, same-true}
 use Rattle.receipt.specs.Details.{standard, amountsGood, startGood, counted}
 use Rattle.receipt.specs.Chain.{chainValue, decryptedCounter}
-use Rattle.receipt.specs.Compact.{compact, spellable, readEntry}
-use Rattle.receipt.specs.Exact.{TypedEntry, Spelled}
+use Rattle.receipt.specs.Compact.{compact, spellable, readEntry, TypedEntry}
+use Rattle.receipt.specs.Exact.{Spelled}
 use Rattle.receipt.specs.declared.details.Kind.{Kind}
 use Rattle.receipt.specs.declared.details.Kind.the-variants.{Standard}
 use Rattle.receipt.specs.declared.details.Details.{Details}
 use Rattle.receipt.specs.declared.details.After.{After}
-use Rattle.receipt.specs.declared.payload.Fields.{Fields}
+use Rattle.receipt.specs.declared.payload.PayloadFields.{PayloadFields}
 use Rattle.receipt.specs.declared.entry.Entry.{Entry}
 use Rattle.receipt.specs.declared.entry.Found.{Found}
-use Rattle.receipt.proofs.Lists.{both}
+use Rattle.primitives.proofs.Rows.{both, ask-zero, ifZero-yes}
 use Rattle.receipt.proofs.Counting.{Added, after-yes, after-fits}
 use Rattle.receipt.proofs.ExactEntry.{back, compact-short, exact}
 use Rattle.journal.specs.Head.{entryText}
-use Rattle.journal.specs.State.{Typed, ask, ifZero}
+use Rattle.receipt.specs.Settings.{TypedSettings}
+use Rattle.primitives.specs.Questions.{ask, ifZero}
 use Rattle.journal.specs.Issue.{numberAbove, firstGood, newCounter, next}
 use Rattle.journal.specs.TakeOver.{lengthAt, textAt, found, equal, counterRight, fieldsNumber, entryNumber, after, stepNumber, refused, accepted, checkFrom}
 use Rattle.journal.specs.Receipts.{receiptOf, receiptsIn, sum}
 use Rattle.journal.specs.Valid.{Right, texts, lastOf, chainOf}
 use Rattle.journal.specs.declared.state.State.{State}
-use Rattle.journal.proofs.Asking.{ask-zero, ifZero-yes, equal-true, equal-refl}
+use Rattle.journal.proofs.Equal.{equal-true, equal-refl}
 use Rattle.receipt.proofs.Entries.{admitted, standard-is}
 use Rattle.journal.proofs.Places.{text-at, there-at, there-entry}
 
@@ -96,10 +97,10 @@ module _ (st : State) (d : Details) where
   new-is e = after-fits (st .width) (st .counter) d e .is
 
 -- the decrypted counter of a standard receipt
-abbrev pub decryptedIn : State → Fields → ℤ
+abbrev pub decryptedIn : State → PayloadFields → ℤ
 decryptedIn st f = decryptedCounter (keySchedule (st .key)) (st .settings .id) (f .details .number) (st .width) (f .counter)
 
-module _ (st : State) (f : Fields) where
+module _ (st : State) (f : PayloadFields) where
   pub right-yes : newCounter st (f .details) ≡ record { fits = true; counter = st .counter +ℤ counted (f .details) }
       → (f .details .kind ≡ Standard → decryptedIn st f ≡ st .counter +ℤ counted (f .details)) → counterRight st f ≡ true
   unfolding counterRight
@@ -126,12 +127,12 @@ pub right-new : (st : State) (e : Entry) → RightAt st e
     → newCounter st (e .fields .details) ≡ record { fits = true; counter = st .counter +ℤ counted (e .fields .details) }
 right-new st e h = new-yes st (e .fields .details) (admitted (st .settings) (st .width) e (h .spelled) .amounts) (h .counter .fits)
 
-pub found-is : (st : State) (e : Entry) → Typed (st .settings) → RightAt st e → found st (textIn st e) ≡ record { ok = true; entry = e }
+pub found-is : (st : State) (e : Entry) → TypedSettings (st .settings) → RightAt st e → found st (textIn st e) ≡ record { ok = true; entry = e }
 unfolding found
 found-is st e ts h = back (st .settings) (st .width) e (ts .lengths) (ts .bytes) (h .typed) (h .spelled)
 
 -- the text of a right entry passes
-pub right-passes : (st : State) (e : Entry) → Typed (st .settings) → RightAt st e → entryNumber st (textIn st e) ≡ 0
+pub right-passes : (st : State) (e : Entry) → TypedSettings (st .settings) → RightAt st e → entryNumber st (textIn st e) ≡ 0
 unfolding entryNumber fieldsNumber ask
 right-passes st e ts h =
     rw (found-is st e ts h, above-yes st (e .fields .details) (h .above), right-yes st (e .fields) (right-new st e h) (h .counter .decrypted), first-yes st (e .fields .details) (h .first), h .chained, same-refl (st .chain))
@@ -159,7 +160,7 @@ right-from st e te g z =
       counter = record { fits = new-fits st (e .fields .details) (right-fits st (e .fields) (p₄ .0)) .fits; decrypted = right-true st (e .fields) (p₄ .0) };
     }
 
-pub passes-right : (st : State) (text : List ℕ) → Typed (st .settings) → AllBytes text → entryNumber st text ≡ 0 → Passed st text
+pub passes-right : (st : State) (text : List ℕ) → TypedSettings (st .settings) → AllBytes text → entryNumber st text ≡ 0 → Passed st text
 unfolding entryNumber found
 passes-right st text ts b z =
     let p = ask-zero _ _ _ z in
@@ -172,10 +173,10 @@ passes-right st text ts b z =
 -- ---- one step
 
 -- the length of a text fits two bytes
-pub text-small : (st : State) (e : Entry) → Typed (st .settings) → RightAt st e → length (textIn st e) < 65536
+pub text-small : (st : State) (e : Entry) → TypedSettings (st .settings) → RightAt st e → length (textIn st e) < 65536
 text-small st e ts h = omega (arith, compact-short (st .settings) (st .width) e (ts .lengths) (h .typed) (h .spelled))
 
-module _ (st : State) (e : Entry) (p rest : List ℕ) (at : length p ≡ st .length) (ts : Typed (st .settings)) (h : RightAt st e) where
+module _ (st : State) (e : Entry) (p rest : List ℕ) (at : length p ≡ st .length) (ts : TypedSettings (st .settings)) (h : RightAt st e) where
   pub step-zero : stepNumber st (p ++ (entryText (textIn st e) ++ rest)) ≡ 0
   unfolding stepNumber ask
   step-zero =
@@ -217,7 +218,7 @@ run-length (e ∷ es) st =
     run-length es (step st e) ∙ omega (arith, step-length st e, ap length (step-texts st e es))
 
 -- right entries at the state's place are passed, whatever stands behind them
-pub passed : (es : List Entry) (m : ℕ) (st : State) (p rest j : List ℕ) → length p ≡ st .length → Typed (st .settings) → AllRight st es
+pub passed : (es : List Entry) (m : ℕ) (st : State) (p rest j : List ℕ) → length p ≡ st .length → TypedSettings (st .settings) → AllRight st es
     → j ≡ p ++ (texts (st .settings) (st .width) es ++ rest) → checkFrom (length es + m) st j ≡ checkFrom m (run st es) j
 unfolding texts run
 passed [] m st p rest j at ts none q = ap (λ (k : ℕ). checkFrom k st j) (zero-add m)
@@ -232,9 +233,9 @@ passed (e ∷ es) m st p rest j at ts (more h hs) q =
     let z : stepNumber st j ≡ 0 = ap (stepNumber st) q₁ ∙ step-zero st e p (u ++ rest) at ts h in
     let a : after st (textAt j (st .length)) ≡ step st e = ap (λ (l : List ℕ). after st (textAt l (st .length))) q₁ ∙ after-is st e p (u ++ rest) at ts h in
     ap (λ (k : ℕ). checkFrom k st j) k ∙ (turn (length es + m) st j z ∙ (ap (λ (x : State). checkFrom (length es + m) x j) a
-    ∙ passed es m (step st e) (p ++ entryText t) rest j at′ (subst Typed (sym (step-settings st e)) ts) hs q₂))
+    ∙ passed es m (step st e) (p ++ entryText t) rest j at′ (subst TypedSettings (sym (step-settings st e)) ts) hs q₂))
 
-pub complete : (es : List Entry) (st : State) (p : List ℕ) → length p ≡ st .length → Typed (st .settings) → AllRight st es
+pub complete : (es : List Entry) (st : State) (p : List ℕ) → length p ≡ st .length → TypedSettings (st .settings) → AllRight st es
     → checkFrom (length es) st (p ++ texts (st .settings) (st .width) es) ≡ accepted (run st es)
 complete es st p at ts h =
     let u = texts (st .settings) (st .width) es in
@@ -258,7 +259,7 @@ pub after-passed : (st : State) (text : List ℕ) (w : Passed st text) → after
 unfolding after
 after-passed st text w = rw (w .found) (ap (next st (w .entry .fields .details)) (w .is))
 
-first-of : (n : ℕ) (st : State) (j : List ℕ) → Typed (st .settings) → AllBytes j → Reads n (after st (textAt j (st .length))) j → stepNumber st j ≡ 0 → Reads (suc n) st j
+first-of : (n : ℕ) (st : State) (j : List ℕ) → TypedSettings (st .settings) → AllBytes j → Reads n (after st (textAt j (st .length))) j → stepNumber st j ≡ 0 → Reads (suc n) st j
 unfolding stepNumber texts
 first-of n st j ts b r z =
     let q = ask-zero _ _ _ z in
@@ -277,7 +278,7 @@ first-of n st j ts b r z =
       right = more (w .right) (r′ .right);
     }
 
-sound-step : (n : ℕ) (st : State) (j : List ℕ) → Typed (st .settings) → AllBytes j
+sound-step : (n : ℕ) (st : State) (j : List ℕ) → TypedSettings (st .settings) → AllBytes j
     → (checkFrom n (after st (textAt j (st .length))) j .number ≡ 0 → Reads n (after st (textAt j (st .length))) j)
     → checkFrom (suc n) st j .number ≡ 0 → Reads (suc n) st j
 unfolding checkFrom ifZero refused
@@ -292,7 +293,7 @@ after-settings : (st : State) (text : List ℕ) → after st text .settings ≡ 
 unfolding after next
 after-settings st text = refl
 
-pub sound-from : (n : ℕ) (st : State) (j : List ℕ) → Typed (st .settings) → AllBytes j → checkFrom n st j .number ≡ 0 → Reads n st j
+pub sound-from : (n : ℕ) (st : State) (j : List ℕ) → TypedSettings (st .settings) → AllBytes j → checkFrom n st j .number ≡ 0 → Reads n st j
 unfolding checkFrom refused texts
 sound-from zero st j ts b z = go (leb (length j) (st .length)) refl z
   where
@@ -301,7 +302,7 @@ sound-from zero st j ts b z = go (leb (length j) (st .length)) refl z
     go false e z′ = absurd (omega arith)
 sound-from (suc n) st j ts b z =
     let st′ = after st (textAt j (st .length)) in
-    sound-step n st j ts b (sound-from n st′ j (subst Typed (sym (after-settings st (textAt j (st .length)))) ts) b) z
+    sound-step n st j ts b (sound-from n st′ j (subst TypedSettings (sym (after-settings st (textAt j (st .length)))) ts) b) z
 
 -- ---- right at each place, and all right
 

@@ -16,7 +16,8 @@ use Rattle.receipt.specs.declared.entry.Entry.{Entry}
 use Rattle.receipt.specs.declared.entry.Found.{Found}
 use Rattle.receipt.proofs.ExactEntry.{back, exact}
 use Rattle.journal.specs.Head.{head, headLength, entryText}
-use Rattle.journal.specs.State.{ask, ifZero, fresh}
+use Rattle.journal.specs.State.{fresh}
+use Rattle.primitives.specs.Questions.{ask, ifZero}
 use Rattle.journal.specs.Issue.{numberAbove, firstGood}
 use Rattle.journal.specs.TakeOver.{settingsOf, countOf, headGood, headNumber, there, textAt, found, counterRight, fieldsNumber, entryNumber, stepNumber, refused, accepted, checkFrom, takeOver}
 use Rattle.journal.specs.Receipts.{receiptsIn, sum}
@@ -24,7 +25,7 @@ use Rattle.journal.specs.Valid.{Counted, texts}
 use Rattle.journal.specs.FirstNo.{Headed, SoFar, EntryThere, Spells, Above, StartFirst, Chained, Next, NoAt, no-width, no-head, not-there, not-spelled, not-above, not-start, not-chained, not-counted, bytes-left}
 use Rattle.journal.specs.Demands.{FirstNo}
 use Rattle.journal.specs.declared.state.State.{State}
-use Rattle.journal.proofs.Asking.{ifZero-no}
+use Rattle.primitives.proofs.Rows.{ifZero-no}
 use Rattle.journal.proofs.Places.{text-at, there-entry, text-short}
 use Rattle.journal.proofs.Heads.{length-head, good-head, read-typed, read-few, read-back}
 use Rattle.journal.proofs.Check.{AllRight, run, passed, bytes-text}

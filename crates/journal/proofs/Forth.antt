@@ -7,14 +7,13 @@ use native.Mathlib.Omega.{arith}
 use lib.ListN.{length, drop}
 use lib.Seq.{drop-at}
 use Rattle.primitives.specs.Counter.{widthGood}
-use Rattle.receipt.specs.Settings.{settingsGood}
-use Rattle.receipt.specs.Compact.{compact, spellable, readEntry}
-use Rattle.receipt.specs.Exact.{TypedEntry}
+use Rattle.receipt.specs.Settings.{settingsGood, TypedSettings}
+use Rattle.receipt.specs.Compact.{compact, spellable, readEntry, TypedEntry}
 use Rattle.receipt.specs.declared.settings.Settings.{Settings}
 use Rattle.receipt.specs.declared.entry.Entry.{Entry}
 use Rattle.receipt.specs.declared.entry.Found.{Found}
 use Rattle.journal.specs.Head.{headLength, entryText}
-use Rattle.journal.specs.State.{Typed, fresh}
+use Rattle.journal.specs.State.{fresh}
 use Rattle.journal.specs.Issue.{next}
 use Rattle.journal.specs.TakeOver.{settingsOf, countOf, textAt, accepted, takeOver}
 use Rattle.journal.specs.Receipts.{receiptsIn, sum}
@@ -62,7 +61,7 @@ unfolding fresh
 fresh-spelled s n key es h = all-spelled es (fresh s n key) h
 
 -- entries of one text are one list
-same-texts : (s : Settings) (n : ℕ) → Typed s → (es fs : List Entry) → AllSpelled s n es → AllSpelled s n fs → length es ≡ length fs → texts s n es ≡ texts s n fs → es ≡ fs
+same-texts : (s : Settings) (n : ℕ) → TypedSettings s → (es fs : List Entry) → AllSpelled s n es → AllSpelled s n fs → length es ≡ length fs → texts s n es ≡ texts s n fs → es ≡ fs
 unfolding texts
 same-texts s n ts [] [] nothing nothing l t = refl
 same-texts s n ts [] (f ∷ fs) nothing (one a b c) l t = absurd (omega arith)
@@ -93,7 +92,7 @@ one-reading j key n v w =
 
 -- ---- forth
 
-holds-valid : (s : Settings) (key : List ℕ) (n : ℕ) (g : Register) (es : List Entry) → Typed s → settingsGood s ≡ true → widthGood n ≡ true → Holds s n key g es
+holds-valid : (s : Settings) (key : List ℕ) (n : ℕ) (g : Register) (es : List Entry) → TypedSettings s → settingsGood s ≡ true → widthGood n ≡ true → Holds s n key g es
     → Valid (journalOf g) key n
 unfolding journalOf
 holds-valid s key n g es ts good width h =
@@ -108,7 +107,7 @@ holds-valid s key n g es ts good width h =
       each = fresh-each s key n es (h .right);
     }
 
-holds-taken : (s : Settings) (key : List ℕ) (n : ℕ) (g : Register) (es : List Entry) → Typed s → settingsGood s ≡ true → widthGood n ≡ true → Holds s n key g es
+holds-taken : (s : Settings) (key : List ℕ) (n : ℕ) (g : Register) (es : List Entry) → TypedSettings s → settingsGood s ≡ true → widthGood n ≡ true → Holds s n key g es
     → takeOver (journalOf g) key n ≡ accepted (g .state)
 unfolding journalOf
 holds-taken s key n g es ts good width h =

@@ -8,18 +8,17 @@ use borrow.Author.Tests.{leb-true, le-leb, eqb-true}
 use lib.ListN.{length, take, drop, length-append}
 use lib.Seq.{drop-at}
 use Rattle.primitives.specs.Bytes.{AllBytes}
-use Rattle.primitives.specs.Number.{bytesOf}
+use Rattle.primitives.specs.Number.{bytesOf, countAt}
 use Rattle.primitives.proofs.ByteLists.{bytes-take, bytes-drop}
 use Rattle.primitives.proofs.Numbers.{length-bytesOf}
-use Rattle.receipt.specs.Settings.{nameText, nameOf, settingsGood, TypedSettings}
-use Rattle.journal.specs.State.{Typed}
+use Rattle.receipt.specs.Settings.{nameText, nameOf, settingsGood, SettingsLengths, TypedSettings}
 use Rattle.receipt.specs.declared.settings.Name.{Name}
 use Rattle.receipt.specs.declared.settings.Settings.{Settings}
 use Rattle.receipt.specs.declared.settings.Letters.the-variants.{Id, Serial}
-use Rattle.receipt.proofs.Lists.{both}
+use Rattle.primitives.proofs.Rows.{both}
 use Rattle.receipt.proofs.Names.{GoodSettings, good-settings, length-text, text-of, name-of}
 use Rattle.journal.specs.Head.{head, headLength, countPlace}
-use Rattle.journal.specs.TakeOver.{countAt, idLength, serialLength, settingsOf, countOf, headGood}
+use Rattle.journal.specs.TakeOver.{idLength, serialLength, settingsOf, countOf, headGood}
 use Rattle.receipt.proofs.Entries.{len-of, length-array, bytes-array, settings-all}
 use Rattle.journal.proofs.Places.{part-at, count-in, cut, part-length, count-bytes, count-lt}
 
@@ -31,7 +30,7 @@ pub head-front : (s : Settings) (k : ℕ) → head s k ≡ front s ++ bytesOf 4 
 unfolding head front
 head-front s k = refl
 
-module _ (s : Settings) (t : TypedSettings s) (g : settingsGood s ≡ true) where
+module _ (s : Settings) (t : SettingsLengths s) (g : settingsGood s ≡ true) where
   names : GoodSettings s
   names = good-settings s g
 
@@ -215,7 +214,7 @@ module _ (j : List ℕ) (b : AllBytes j) (h : headGood j ≡ true) where
   serial-len : settingsOf j .serial .len ≡ serialLength j
   serial-len = ap (λ (n : Name). n .len) serial-is ∙ len-of serial-text ∙ length-serial
 
-  pub read-typed : Typed (settingsOf j)
+  pub read-typed : TypedSettings (settingsOf j)
   unfolding settingsOf
   read-typed =
       record {

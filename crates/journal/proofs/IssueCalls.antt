@@ -26,18 +26,17 @@ use Rattle.receipt.specs.declared.details.Kind.{Kind}
 use Rattle.receipt.specs.declared.details.Kind.the-variants.{Standard}
 use Rattle.receipt.specs.declared.details.Details.{Details}
 use Rattle.receipt.specs.declared.details.After.{After}
-use Rattle.receipt.specs.declared.payload.Fields.{Fields}
+use Rattle.receipt.specs.declared.payload.PayloadFields.{PayloadFields}
 use Rattle.receipt.specs.declared.entry.Entry.{Entry}
-use Rattle.receipt.proofs.Lists.{both}
+use Rattle.primitives.proofs.Rows.{both, ask-zero, ask-yes, ask-no, ifZero-yes, ifZero-no}
 use Rattle.receipt.proofs.Entries.{input-some}
 use Rattle.receipt.proofs.EntryCalls.{spellable-true, preparable-made, spelled-is, prepared-is}
 use Rattle.receipt.proofs.ExactEntry.{compact-signed}
 use Rattle.journal.specs.Head.{headLength, countPlace, entryText}
-use Rattle.journal.specs.State.{ask, ifZero}
+use Rattle.primitives.specs.Questions.{ask, ifZero}
 use Rattle.journal.specs.Issue.{soundAlone, sound, newCounter, signatureSized, detailsNumber, fieldsOf, givenSignature, entryOf, textOf, entryFits, issueNumber, next, issued, written, issueBuffer}
 use Rattle.journal.specs.Prepare.{preparedText, prepareNumber, prepareAnswer, prepareBuffer}
 use Rattle.journal.specs.declared.state.State.{State}
-use Rattle.journal.proofs.Asking.{ask-zero, ask-yes, ask-no, ifZero-yes, ifZero-no}
 use Rattle.journal.proofs.Places.{length-entry}
 use Rattle.journal.proofs.Lists.{sound-true, details-zero, details-yes, details-then, sized-cases, call-spellable}
 
@@ -320,7 +319,7 @@ module _ (st : State) (d : Details) (out : List ℕ) {k : ℕ} (e : k ≡ ask (s
       go true zero rest h = absurd (h refl)
       go true (suc m) rest h = refl
 
-  module _ (z : k ≡ 0) {f : Fields} (q : f ≡ fieldsOf st d) {r : ℕ} {out₁ : List ℕ}
+  module _ (z : k ≡ 0) {f : PayloadFields} (q : f ≡ fieldsOf st d) {r : ℕ} {out₁ : List ℕ}
       (w : (r ≡ behind out 0 (prepared (st .settings) (st .width) f)) × (out₁ ≡ placed out 0 (prepared (st .settings) (st .width) f))) where
     asked : (soundAlone st ≡ true) × (detailsNumber st d 0 ≡ 0)
     asked = ask-zero _ _ _ (sym e ∙ z)

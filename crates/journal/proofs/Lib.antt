@@ -1,9 +1,9 @@
 pub mod Accepting
 pub mod Again
 pub mod Agreement
-pub mod Asking
 pub mod Check
 pub mod Dropping
+pub mod Equal
 pub mod FirstNo
 pub mod Forth
 pub mod Heads

@@ -24,7 +24,7 @@ use Rattle.receipt.specs.Payload.{counterGood}
 use Rattle.receipt.specs.DateTime.{dateGood}
 use Rattle.receipt.specs.Details.{standard, amountsGood, counted}
 use Rattle.receipt.specs.Chain.{chainValue, encryptedCounter, decryptedCounter}
-use Rattle.receipt.specs.Compact.{compact, signatureZero, spellable}
+use Rattle.receipt.specs.Compact.{compact, signatureZero, spellable, TypedEntry}
 use Rattle.receipt.specs.declared.details.Kind.{Kind}
 use Rattle.receipt.specs.declared.details.Kind.the-variants.{Standard, Cancellation, Training}
 use Rattle.receipt.specs.declared.settings.Settings.{Settings}
@@ -32,18 +32,16 @@ use Rattle.receipt.specs.declared.details.Details.{Details}
 use Rattle.receipt.specs.declared.details.After.{After}
 use Rattle.receipt.specs.declared.entry.Entry.{Entry}
 use Rattle.receipt.specs.declared.entry.Signature.{Signature}
-use Rattle.receipt.proofs.Lists.{both, true-is-not-false}
+use Rattle.primitives.proofs.Rows.{both, true-is-not-false, ask-zero}
 use Rattle.receipt.proofs.Names.{good-sized}
 use Rattle.receipt.proofs.Chains.{length-chain, bytes-chain, length-encrypted, bytes-encrypted, behind-encrypted, decrypt-back}
 use Rattle.journal.specs.Head.{head, headLength, entryText}
-use Rattle.journal.specs.State.{ask, ifZero}
+use Rattle.primitives.specs.Questions.{ask, ifZero}
 use Rattle.journal.specs.Issue.{soundAlone, sound, numberAbove, firstGood, newCounter, signatureSized, detailsNumber, fieldsOf, givenSignature, entryOf, textOf, entryFits, issueNumber, next, issued}
 use Rattle.journal.specs.Receipts.{receiptsIn, sum}
 use Rattle.journal.specs.Valid.{texts}
 use Rattle.journal.specs.Calls.{Call, TypedCall, none, more}
 use Rattle.journal.specs.declared.state.State.{State}
-use Rattle.journal.proofs.Asking.{ask-zero}
-use Rattle.receipt.specs.Exact.{TypedEntry}
 use Rattle.receipt.proofs.Entries.{spellable-yes, behind-counter, none-counter, failed-zero, signed-zero}
 use Rattle.journal.proofs.Heads.{front, head-front}
 use Rattle.journal.proofs.Check as check

@@ -9,7 +9,7 @@ use Rattle.primitives.specs.Place.{overwrite, placed}
 use Rattle.primitives.specs.Number.{bytesOf}
 use Rattle.primitives.proofs.Numbers.{length-bytesOf}
 use Rattle.primitives.proofs.Over.{length-over, placed-room, then}
-use Rattle.receipt.specs.Settings.{nameText, settingsGood, TypedSettings}
+use Rattle.receipt.specs.Settings.{nameText, settingsGood, SettingsLengths}
 use Rattle.receipt.specs.declared.settings.Settings.{Settings}
 use Rattle.receipt.proofs.Names.{good-settings, length-text}
 use Rattle.receipt.proofs.Entries.{lent-name}
@@ -17,7 +17,7 @@ use Rattle.journal.specs.Head.{head, headLength, countPlace}
 use Rattle.journal.specs.State.{unopened, fresh}
 use Rattle.journal.specs.Open.{openNumber, opened, openBuffer}
 use Rattle.journal.specs.declared.state.State.{State}
-use Rattle.journal.proofs.Asking.{ifZero-yes, ifZero-no}
+use Rattle.primitives.proofs.Rows.{ifZero-yes, ifZero-no}
 use Rattle.journal.proofs.Heads.{front, head-front, front-place}
 
 -- ---- writers in a row
@@ -35,7 +35,7 @@ pub head-least : (s : Settings) → 19 ≤ headLength s
 unfolding headLength
 head-least s = omega arith
 
-module _ (s : Settings) (t : TypedSettings s) (b : List ℕ) where
+module _ (s : Settings) (t : SettingsLengths s) (b : List ℕ) where
   csp-long : length (bytesOf 4 3 ++ s .csp) ≡ 7
   csp-long = length-append (bytesOf 4 3) (s .csp) ∙ omega (arith, length-bytesOf 4 3, t .csp)
 

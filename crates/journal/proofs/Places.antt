@@ -8,12 +8,12 @@ use borrow.Author.Tests.{leb-true, le-leb}
 use lib.ListN.{length, take, drop, length-append, length-drop, take-append-drop}
 use lib.Seq.{take-at, drop-at, length-take-le, drop-drop}
 use Rattle.primitives.specs.Bytes.{AllBytes}
-use Rattle.primitives.specs.Number.{bytesOf, valueOf}
+use Rattle.primitives.specs.Number.{bytesOf, valueOf, countAt}
 use Rattle.primitives.proofs.ByteLists.{bytes-take, bytes-drop}
 use Rattle.primitives.proofs.Numbers.{length-bytesOf, value-bytesOf, bytesOf-value, value-lt}
-use Rattle.receipt.proofs.Lists.{both}
+use Rattle.primitives.proofs.Rows.{both}
 use Rattle.journal.specs.Head.{entryText}
-use Rattle.journal.specs.TakeOver.{countAt, lengthAt, there, textAt}
+use Rattle.journal.specs.TakeOver.{lengthAt, there, textAt}
 
 -- ---- what stands in the middle
 

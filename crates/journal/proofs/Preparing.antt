@@ -2,7 +2,7 @@
 use borrow.Author.Tests.{le-leb}
 use lib.ListN.{length}
 use Rattle.receipt.proofs.ExactEntry.{input-before-dot}
-use Rattle.journal.specs.State.{ask}
+use Rattle.primitives.specs.Questions.{ask}
 use Rattle.journal.specs.Issue.{entryOf, textOf}
 use Rattle.journal.specs.Prepare.{preparedText, prepareNumber}
 use Rattle.journal.specs.Demands.{PreparedIsIssued, PreparedBefore}

@@ -10,14 +10,14 @@ use lib.Dec.{leb, eqb, lit<}
 use lib.ListN.{length, take, drop, getD}
 use lib.Seq.{drop-cons}
 use Rattle.primitives.specs.Bytes.{AllBytes}
-use Rattle.primitives.specs.Number.{numberAt}
+use Rattle.primitives.specs.Number.{numberAt, countAt}
 use Rattle.primitives.specs.declared.buffer.Number.the-variants.{Is, Missing}
 use Rattle.primitives.proofs.Numbers.{number-there, number-found, found-lt}
 use Rattle.receipt.specs.Settings.{nameOf, settingsGood}
 use Rattle.receipt.specs.declared.settings.Name.{Name}
 use Rattle.receipt.specs.declared.settings.Settings.{Settings}
-use Rattle.receipt.proofs.Lists.{both, and-no, and-yes}
-use Rattle.journal.specs.TakeOver.{countAt, idLength, serialLength, settingsOf, countOf, headGood}
+use Rattle.primitives.proofs.Rows.{both, and-no, and-yes}
+use Rattle.journal.specs.TakeOver.{idLength, serialLength, settingsOf, countOf, headGood}
 
 -- ---- a count
 

@@ -7,7 +7,8 @@ use lib.Dec.{leb}
 use lib.ListN.{length}
 use Rattle.receipt.specs.declared.settings.Settings.{Settings}
 use Rattle.receipt.specs.declared.details.Details.{Details}
-use Rattle.journal.specs.State.{ifZero, unopened, fresh}
+use Rattle.journal.specs.State.{unopened, fresh}
+use Rattle.primitives.specs.Questions.{ifZero}
 use Rattle.journal.specs.Open.{openNumber, opened, openBuffer}
 use Rattle.journal.specs.Issue.{issueNumber, issued, issueBuffer}
 use Rattle.journal.specs.Prepare.{prepareNumber, prepareAnswer, prepareBuffer}
@@ -15,7 +16,7 @@ use Rattle.journal.specs.TakeOver.{settingsOf, countOf, headNumber, text
 use Rattle.journal.specs.Demands.{RefusedChangesNothing}
 use Rattle.journal.specs.declared.state.State.{State}
 use Rattle.journal.specs.declared.state.TakenOver.{TakenOver}
-use Rattle.journal.proofs.Asking.{ifZero-no}
+use Rattle.primitives.proofs.Rows.{ifZero-no}
 
 open-refused : (s : Settings) (key : List ℕ) (n : ℕ) (buf : List ℕ) → (opened s key n (length buf) .number ≡ 0 → ⊥)
     → (opened s key n (length buf) .state ≡ unopened) × (openBuffer s n buf ≡ buf)

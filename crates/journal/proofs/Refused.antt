@@ -13,19 +13,20 @@ use Rattle.primitives.specs.Bytes.{AllBytes, same}
 use Rattle.primitives.specs.Counter.{widthGood, counterFits}
 use Rattle.primitives.specs.Aes.{keySchedule}
 use Rattle.primitives.proofs.ByteLists.{same-refl, same-true}
-use Rattle.receipt.specs.Settings.{nameText, settingsGood}
+use Rattle.receipt.specs.Settings.{nameText, settingsGood, TypedSettings}
 use Rattle.receipt.specs.Details.{counted}
 use Rattle.receipt.specs.Chain.{chainValue, decryptedCounter}
 use Rattle.receipt.specs.Compact.{compact, spellable, readEntry}
 use Rattle.receipt.specs.declared.settings.Settings.{Settings}
-use Rattle.receipt.specs.declared.payload.Fields.{Fields}
+use Rattle.receipt.specs.declared.payload.PayloadFields.{PayloadFields}
 use Rattle.receipt.specs.declared.entry.Entry.{Entry}
 use Rattle.receipt.specs.declared.entry.Found.{Found}
-use Rattle.receipt.proofs.Lists.{true-is-not-false}
+use Rattle.primitives.proofs.Rows.{true-is-not-false, ask-zero, ask-yes, ask-no}
 use Rattle.receipt.proofs.ExactEntry.{back, exact}
 use Rattle.receipt.proofs.Entries.{admitted}
 use Rattle.journal.specs.Head.{head, headLength, entryText}
-use Rattle.journal.specs.State.{ask, ifZero, fresh, Typed}
+use Rattle.journal.specs.State.{fresh}
+use Rattle.primitives.specs.Questions.{ask, ifZero}
 use Rattle.journal.specs.Issue.{numberAbove, firstGood, next}
 use Rattle.journal.specs.TakeOver.{settingsOf, countOf, headGood, headNumber, there, textAt, found, counterRight, fieldsNumber, entryNumber, after, stepNumber, refused, accepted, checkFrom, takeOver}
 use Rattle.journal.specs.Receipts.{receiptsIn, sum}
@@ -33,7 +34,6 @@ use Rattle.journal.specs.Valid.{Counted, texts, lastOf, chainOf}
 use Rattle.journal.specs.FirstNo.{Headed, SoFar, EntryThere, Spells, Above, StartFirst, Chained, Next, NoAt, no-width, no-head, not-there, not-spelled, not-above, not-start, not-chained, not-counted, bytes-left}
 use Rattle.journal.specs.declared.state.State.{State}
 use Rattle.journal.specs.declared.state.TakenOver.{TakenOver}
-use Rattle.journal.proofs.Asking.{ask-zero, ask-yes, ask-no}
 use Rattle.journal.proofs.Places.{there-at, there-entry, text-short}
 use Rattle.journal.proofs.Heads.{length-head, head-good, good-head, read-typed, read-few, read-back}
 use Rattle.journal.proofs.Check as check
@@ -68,7 +68,7 @@ at s n key es = run (fresh s n key) es
 
 -- ---- a journal whose head is good, and right entries up to a place
 
-module _ (j key : List ℕ) (n : ℕ) (b : AllBytes j) (width : widthGood n ≡ true) (s : Settings) (ts : Typed s) (good : settingsGood s ≡ true) (k : ℕ) (few : k < 4294967296) where
+module _ (j key : List ℕ) (n : ℕ) (b : AllBytes j) (width : widthGood n ≡ true) (s : Settings) (ts : TypedSettings s) (good : settingsGood s ≡ true) (k : ℕ) (few : k < 4294967296) where
   module _ (es : List Entry) (right : AllRight (fresh s n key) es) (bytes : j ≡ head s k ++ (texts s n es ++ drop (at s n key es .length) j)) where
     behind : Behind s n key es (at s n key es)
     behind = run-behind s n key es
@@ -215,7 +215,7 @@ module _ (j key : List ℕ) (n : ℕ) (b : AllBytes j) (width : widthGood n ≡ 
       step-passed : Passed (at s n key es) (textAt j (at s n key es .length))
       unfolding stepNumber
       step-passed =
-          passes-right (at s n key es) (textAt j (at s n key es .length)) (subst Typed (sym (behind .settings)) ts) (bytes-text j (at s n key es .length) b) (ask-zero _ _ _ z .1)
+          passes-right (at s n key es) (textAt j (at s n key es .length)) (subst TypedSettings (sym (behind .settings)) ts) (bytes-text j (at s n key es .length) b) (ask-zero _ _ _ z .1)
 
       one : Entry
       one = step-passed .entry
@@ -307,7 +307,7 @@ pub entry-fields : (st : State) (text : List ℕ) (e : Entry) → found st text 
 unfolding entryNumber ask
 entry-fields st text e q = rw q
 
-module _ (st : State) (f : Fields) where
+module _ (st : State) (f : PayloadFields) where
   pub fields-17 : numberAbove st (f .details) ≡ false → fieldsNumber st f ≡ 17
   unfolding fieldsNumber ask
   fields-17 q = rw q

@@ -15,19 +15,20 @@ use Rattle.primitives.specs.Number.{bytesOf}
 use Rattle.primitives.specs.Counter.{widthGood, counterFits, half}
 use Rattle.primitives.proofs.Over.{length-over, read-over}
 use Rattle.primitives.proofs.Twos.{width-true, half-twice, below-fits, fits-wide}
-use Rattle.receipt.specs.Settings.{nameText, settingsGood}
+use Rattle.receipt.specs.Settings.{nameText, settingsGood, TypedSettings}
 use Rattle.receipt.specs.Compact.{compact}
 use Rattle.receipt.specs.declared.settings.Settings.{Settings}
 use Rattle.receipt.specs.declared.entry.Entry.{Entry}
 use Rattle.journal.specs.Head.{head, headLength, countPlace, entryText}
-use Rattle.journal.specs.State.{Typed, ifZero, unopened, fresh}
+use Rattle.journal.specs.State.{unopened, fresh}
+use Rattle.primitives.specs.Questions.{ifZero}
 use Rattle.journal.specs.Open.{openNumber, opened, openBuffer}
 use Rattle.journal.specs.Issue.{fieldsOf, entryOf, textOf, issueNumber, next, issued, written, issueBuffer}
 use Rattle.journal.specs.Receipts.{receiptOf, receiptsIn, sum}
 use Rattle.journal.specs.Valid.{texts}
 use Rattle.journal.specs.Calls.{Call, TypedCall, TypedCalls, none, more, Register, opening, numberOf, call, calls, receiptOfCall, receiptsOf}
 use Rattle.journal.specs.declared.state.State.{State}
-use Rattle.journal.proofs.Asking.{ask-zero, ifZero-yes, ifZero-no}
+use Rattle.primitives.proofs.Rows.{ask-zero, ifZero-yes, ifZero-no}
 use Rattle.receipt.proofs.Entries.{all-settings}
 use Rattle.journal.proofs.Heads.{front-place, length-head}
 use Rattle.journal.proofs.Check as check
@@ -185,7 +186,7 @@ pub record Holds (s : Settings) (n : ℕ) (key : List ℕ) (g : Register) (es : 
   pub bytes : take (g .state .length) (g .buf) ≡ head s (length es) ++ texts s n es
   pub room : g .state .length ≤ length (g .buf)
 
-module _ (s : Settings) (n : ℕ) (key : List ℕ) (ts : Typed s) (good : settingsGood s ≡ true) (width : widthGood n ≡ true) (kb : AllBytes key) where
+module _ (s : Settings) (n : ℕ) (key : List ℕ) (ts : TypedSettings s) (good : settingsGood s ≡ true) (width : widthGood n ≡ true) (kb : AllBytes key) where
   module _ (g : Register) (es : List Entry) (h : Holds s n key g es) where
     pub holds-behind : Behind s n key es (g .state)
     holds-behind = subst (Behind s n key es) (sym (h .state)) (run-behind s n key es)

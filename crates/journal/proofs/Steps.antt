@@ -18,17 +18,19 @@ use Rattle.receipt.specs.Chain.{decryptedCounter}
 use Rattle.receipt.specs.Compact.{readEntry}
 use Rattle.receipt.specs.declared.details.Details.{Details}
 use Rattle.receipt.specs.declared.details.After.{After}
-use Rattle.receipt.specs.declared.payload.Fields.{Fields}
+use Rattle.receipt.specs.declared.payload.PayloadFields.{PayloadFields}
 use Rattle.receipt.specs.declared.entry.Found.{Found}
 use Rattle.receipt.specs.declared.settings.Settings.{Settings}
 use Rattle.primitives.proofs.Zlaws.{same-bits}
-use Rattle.receipt.proofs.Lists.{both, true-is-not-false, and-no, and-yes, not-yes}
-use Rattle.journal.specs.State.{ask, ifZero, fresh}
+use Rattle.primitives.proofs.Rows.{both, true-is-not-false, and-no, and-yes, not-yes, ask-zero, ask-yes, ask-no, ifZero-yes, ifZero-no}
+use Rattle.journal.specs.State.{fresh}
+use Rattle.primitives.specs.Questions.{ask, ifZero}
 use Rattle.journal.specs.Issue.{newCounter, next}
-use Rattle.journal.specs.TakeOver.{countAt, countOf, settingsOf, headGood, headNumber, lengthAt, there, textAt, found, equal, counterRight, fieldsNumber, entryNumber, after, stepNumber, refused, accepted, checkFrom, takeOver}
+use Rattle.primitives.specs.Number.{countAt}
+use Rattle.journal.specs.TakeOver.{countOf, settingsOf, headGood, headNumber, lengthAt, there, textAt, found, equal, counterRight, fieldsNumber, entryNumber, after, stepNumber, refused, accepted, checkFrom, takeOver}
 use Rattle.journal.specs.declared.state.State.{State}
+use Rattle.journal.proofs.Equal.{equal-true, equal-refl}
 use Rattle.journal.specs.declared.state.TakenOver.{TakenOver}
-use Rattle.journal.proofs.Asking.{ask-zero, ask-yes, ask-no, ifZero-yes, ifZero-no, equal-true, equal-refl}
 use Rattle.journal.proofs.Check.{above-true}
 
 -- ---- the bytes of an entry
@@ -89,7 +91,7 @@ pub after-back : (st : State) (d : Details) {a : After} → SFits w64 (st .count
     → a ≡ counterAfter (st .width) (st .counter) d
 after-back st d f e = e ∙ ap (λ (z : ℤ). counterAfter (st .width) z d) (toZ-ofZ f)
 
-module _ (st : State) (f : Fields) {a : After} (e : a ≡ counterAfter (st .width) (st .counter) (f .details)) where
+module _ (st : State) (f : PayloadFields) {a : After} (e : a ≡ counterAfter (st .width) (st .counter) (f .details)) where
   new-is : a ≡ newCounter st (f .details)
   unfolding newCounter
   new-is = e
@@ -115,7 +117,7 @@ module _ (st : State) (f : Fields) {a : After} (e : a ≡ counterAfter (st .widt
         and-yes _ _ _ fits
         (q ∙ ap (equal _) (toZ-ofZ g) ∙ (λ i. equal (decryptedCounter (s i) (st .settings .id) (f .details .number) (st .width) (f .counter)) (new-is i .counter)) ∙ sym (rw k))
 
-pub above-of : (st : State) (f : Fields) → fieldsNumber st f ≡ 0 → st .last < f .details .number
+pub above-of : (st : State) (f : PayloadFields) → fieldsNumber st f ≡ 0 → st .last < f .details .number
 unfolding fieldsNumber
 above-of st f z = above-true st (f .details) (ask-zero _ _ _ z .0)
 

@@ -15,11 +15,11 @@ use Rattle.primitives.proofs.Rewrites.{getD-before, getD-behind}
 use Rattle.receipt.specs.declared.settings.Settings.{Settings}
 use Rattle.receipt.specs.declared.details.Details.{Details}
 use Rattle.journal.specs.Head.{headLength, countPlace, entryText}
-use Rattle.journal.specs.State.{ifZero}
+use Rattle.primitives.specs.Questions.{ifZero}
 use Rattle.journal.specs.Issue.{textOf, issueNumber, written, issueBuffer}
 use Rattle.journal.specs.Demands.{TouchesNoOther}
 use Rattle.journal.specs.declared.state.State.{State}
-use Rattle.journal.proofs.Asking.{ifZero-yes, ifZero-no}
+use Rattle.primitives.proofs.Rows.{ifZero-yes, ifZero-no}
 use Rattle.journal.proofs.Lists.{issue-zero}
 
 -- a byte outside of what is written

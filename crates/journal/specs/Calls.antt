@@ -8,7 +8,7 @@ use Rattle.primitives.specs.Bytes.{AllBytes}
 use Rattle.receipt.specs.declared.settings.Settings.{Settings}
 use Rattle.receipt.specs.declared.details.Details.{Details}
 use Rattle.receipt.specs.declared.entry.Entry.{Entry}
-use Rattle.journal.specs.State.{ifZero}
+use Rattle.primitives.specs.Questions.{ifZero}
 use Rattle.journal.specs.Open.{opened, openBuffer}
 use Rattle.journal.specs.Issue.{issueNumber, issued, issueBuffer, givenSignature}
 use Rattle.journal.specs.Receipts.{Receipt}

@@ -12,7 +12,8 @@ use Rattle.receipt.specs.declared.settings.Settings.{Settings}
 use Rattle.receipt.specs.declared.details.Details.{Details}
 use Rattle.receipt.specs.declared.entry.Entry.{Entry}
 use Rattle.journal.specs.Head.{headLength, countPlace, entryText}
-use Rattle.journal.specs.State.{Typed, unopened}
+use Rattle.journal.specs.State.{unopened}
+use Rattle.receipt.specs.Settings.{TypedSettings}
 use Rattle.journal.specs.Open.{openNumber, opened, openBuffer}
 use Rattle.journal.specs.Issue.{textOf, issueNumber, issued, issueBuffer}
 use Rattle.journal.specs.Prepare.{preparedText, prepareNumber, prepareAnswer, prepareBuffer}
@@ -47,7 +48,7 @@ pub record Written (key : List ℕ) (n : ℕ) (g : Register) (cs : List Call) : 
 -- from an Open that was not refused, after every list of calls
 abbrev pub Forth : Type 0
 Forth =
-    (s : Settings) (key : List ℕ) (n : ℕ) (buf : List ℕ) → Typed s → AllBytes key → openNumber s n (length buf) ≡ 0
+    (s : Settings) (key : List ℕ) (n : ℕ) (buf : List ℕ) → TypedSettings s → AllBytes key → openNumber s n (length buf) ≡ 0
     → (cs : List Call) → TypedCalls cs → Written key n (opening s key n buf) cs
 
 -- what holds where the entries es of the journal j are issued anew

@@ -5,12 +5,10 @@ use mathlib.Core.Bool.{true}
 use mathlib.Core.List.{List, [], _∷_, _++_}
 use lib.ListN.{length}
 use Rattle.primitives.specs.Counter.{widthGood}
-use Rattle.receipt.specs.Settings.{nameText, settingsGood}
+use Rattle.receipt.specs.Settings.{nameText, settingsGood, TypedSettings}
 use Rattle.receipt.specs.Details.{startGood}
 use Rattle.receipt.specs.Chain.{chainValue}
-use Rattle.receipt.specs.Compact.{compact, spellable}
-use Rattle.receipt.specs.Exact.{TypedEntry}
-use Rattle.journal.specs.State.{Typed}
+use Rattle.receipt.specs.Compact.{compact, spellable, TypedEntry}
 use Rattle.receipt.specs.declared.settings.Settings.{Settings}
 use Rattle.receipt.specs.declared.entry.Entry.{Entry}
 use Rattle.journal.specs.Head.{head, entryText}
@@ -19,7 +17,7 @@ use Rattle.journal.specs.Valid.{Counted, RightBehind, texts, lastOf, cha
 
 -- 14: the journal starts with a good head, which says k entries
 pub record Headed (j : List ℕ) (s : Settings) (k : ℕ) (more : List ℕ) : Type 0 where
-  pub typed : Typed s
+  pub typed : TypedSettings s
   pub good : settingsGood s ≡ true
   pub few : k < 4294967296
   pub bytes : j ≡ head s k ++ more

@@ -15,11 +15,11 @@ use Rattle.receipt.specs.Chain.{chainValue, encryptedCounter}
 use Rattle.receipt.specs.Compact.{compact}
 use Rattle.receipt.specs.declared.details.Details.{Details}
 use Rattle.receipt.specs.declared.details.After.{After}
-use Rattle.receipt.specs.declared.payload.Fields.{Fields}
+use Rattle.receipt.specs.declared.payload.PayloadFields.{PayloadFields}
 use Rattle.receipt.specs.declared.entry.Signature.{Signature}
 use Rattle.receipt.specs.declared.entry.Entry.{Entry}
 use Rattle.journal.specs.Head.{headLength, countPlace, entryText}
-use Rattle.journal.specs.State.{ask, ifZero}
+use Rattle.primitives.specs.Questions.{ask, ifZero}
 use Rattle.journal.specs.declared.state.State.{State}
 use Rattle.journal.specs.declared.state.Issued.{Issued}
 
@@ -62,7 +62,7 @@ detailsNumber st d rest =
 -- ---- the entry
 
 -- on a standard receipt the encrypted counter after it; the chain bytes of the state
-unfoldable pub fieldsOf : State → Details → Fields
+unfoldable pub fieldsOf : State → Details → PayloadFields
 fieldsOf st d =
     record {
       details = d;

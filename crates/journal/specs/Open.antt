@@ -8,7 +8,8 @@ use Rattle.primitives.specs.Counter.{widthGood}
 use Rattle.receipt.specs.Settings.{cspGood, idGood, serialGood}
 use Rattle.receipt.specs.declared.settings.Settings.{Settings}
 use Rattle.journal.specs.Head.{head, headLength}
-use Rattle.journal.specs.State.{ask, ifZero, unopened, fresh}
+use Rattle.journal.specs.State.{unopened, fresh}
+use Rattle.primitives.specs.Questions.{ask, ifZero}
 use Rattle.journal.specs.declared.state.Opened.{Opened}
 
 -- "CSP good? 1. ID good? 2. Serial good? 3. N from 5 to 8? 4. Head fits the buffer? 5."

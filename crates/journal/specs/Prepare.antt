@@ -6,8 +6,8 @@ use lib.ListN.{length}
 use Rattle.primitives.specs.Place.{overwrite}
 use Rattle.receipt.specs.Compact.{signingInput}
 use Rattle.receipt.specs.declared.details.Details.{Details}
-use Rattle.receipt.specs.declared.machine_code.Answer.{Answer}
-use Rattle.journal.specs.State.{ask, ifZero}
+use Rattle.primitives.specs.declared.answer.Answer.{Answer}
+use Rattle.primitives.specs.Questions.{ask, ifZero}
 use Rattle.journal.specs.Issue.{soundAlone, detailsNumber, fieldsOf}
 use Rattle.journal.specs.declared.state.State.{State}
 

@@ -1,28 +1,18 @@
--- The state of a register, and questions in a row.
-use Prim.Native.Nat.{ℕ, zero, suc}
-use mathlib.Core.Bool.{Bool, true, false}
+-- The state of a register.
+use Prim.Native.Nat.{ℕ, _<_}
+use mathlib.Core.Path.{_≡_}
+use mathlib.Core.Bool.{true}
 use mathlib.Core.List.{List}
 use lib.IntN.{pos}
-use lib.ListN.{replicate}
-use Rattle.receipt.specs.Settings.{nameText, TypedSettings}
-use Rattle.receipt.specs.Payload.{SettingsBytes}
+use lib.ListN.{length, replicate}
+use Rattle.primitives.specs.Bytes.{AllBytes}
+use Rattle.primitives.specs.Counter.{fitsIn}
+use Rattle.receipt.specs.Settings.{nameText, SettingsLengths}
 use Rattle.receipt.specs.Chain.{chainValue}
 use Rattle.receipt.specs.declared.settings.Name.{Name}
 use Rattle.receipt.specs.declared.settings.Settings.{Settings}
 use Rattle.journal.specs.Head.{headLength}
 use Rattle.journal.specs.declared.state.State.{State}
-
--- ---- "Questions come in this order. The first 'no' gives its number."
-
--- a question: the next ones where the answer is yes, and else its number
-unfoldable pub ask : Bool → ℕ → ℕ → ℕ
-ask true n rest = rest
-ask false n rest = n
-
--- the first of two where the number is 0, that is where no question got a no, and else the second
-unfoldable pub ifZero {ℓ} : {X : Type ℓ} → ℕ → X → X → X
-ifZero zero x y = x
-ifZero (suc n) x y = y
 
 -- ---- states
 
@@ -57,7 +47,22 @@ fresh s n key =
       length = headLength s;
     }
 
--- what the code's types say of settings: arrays of so many bytes
-pub record Typed (s : Settings) : Type 0 where
-  pub lengths : TypedSettings s
-  pub bytes : SettingsBytes s
+-- ---- what the code's types say
+
+-- settings, width and key: arrays of so many bytes, and numbers of 64 bits
+pub record TypedRegister (s : Settings) (n : ℕ) (key : List ℕ) : Type 0 where
+  pub settings : SettingsLengths s
+  pub id : s .id .len < 18446744073709551616
+  pub serial : s .serial .len < 18446744073709551616
+  pub width : n < 18446744073709551616
+  pub keyLength : length key ≡ 32
+  pub keyBytes : AllBytes key
+
+pub record TypedState (st : State) : Type 0 where
+  pub register : TypedRegister (st .settings) (st .width) (st .key)
+  pub counter : fitsIn 8 (st .counter) ≡ true
+  pub last : st .last < 4294967296
+  pub issued : st .issued < 4294967296
+  pub chain : length (st .chain) ≡ 8
+  pub chainBytes : AllBytes (st .chain)
+  pub length : st .length < 18446744073709551616

@@ -7,7 +7,7 @@ use lib.IntN.{ℤ}
 use lib.Signed.{leZ}
 use lib.ListN.{length, take, drop}
 use Rattle.primitives.specs.Bytes.{same}
-use Rattle.primitives.specs.Number.{valueOf}
+use Rattle.primitives.specs.Number.{countAt}
 use Rattle.primitives.specs.Counter.{widthGood}
 use Rattle.primitives.specs.Aes.{keySchedule}
 use Rattle.receipt.specs.Settings.{nameOf, settingsGood}
@@ -15,18 +15,15 @@ use Rattle.receipt.specs.Details.{standard}
 use Rattle.receipt.specs.Chain.{decryptedCounter}
 use Rattle.receipt.specs.Compact.{readEntry}
 use Rattle.receipt.specs.declared.settings.Settings.{Settings}
-use Rattle.receipt.specs.declared.payload.Fields.{Fields}
+use Rattle.receipt.specs.declared.payload.PayloadFields.{PayloadFields}
 use Rattle.receipt.specs.declared.entry.Found.{Found}
-use Rattle.journal.specs.State.{ask, ifZero, unopened, fresh}
+use Rattle.journal.specs.State.{unopened, fresh}
+use Rattle.primitives.specs.Questions.{ask, ifZero}
 use Rattle.journal.specs.Issue.{numberAbove, firstGood, newCounter, next}
 use Rattle.journal.specs.declared.state.State.{State}
 use Rattle.journal.specs.declared.state.TakenOver.{TakenOver}
 
 -- ---- the head
-
--- the number of the n bytes at a place
-unfoldable pub countAt : List ℕ → ℕ → ℕ → ℕ
-countAt j at n = valueOf (take n (drop at j))
 
 -- the counts of ID and serial stand behind what is before them
 unfoldable pub idLength : List ℕ → ℕ
@@ -74,14 +71,14 @@ unfoldable pub equal : ℤ → ℤ → Bool
 equal a b = leZ a b && leZ b a
 
 -- 20: "Running sum fits N bytes, and on a standard receipt equals the decrypted counter?"
-unfoldable pub counterRight : State → Fields → Bool
+unfoldable pub counterRight : State → PayloadFields → Bool
 counterRight st f =
     newCounter st (f .details) .fits
     && (not (standard (f .details .kind))
     || equal (decryptedCounter (keySchedule (st .key)) (st .settings .id) (f .details .number) (st .width) (f .counter)) (newCounter st (f .details) .counter))
 
 -- 17: "Number above the last?" 18: "First one standard with five zeros?" 19: "Chain field right?" 20
-unfoldable pub fieldsNumber : State → Fields → ℕ
+unfoldable pub fieldsNumber : State → PayloadFields → ℕ
 fieldsNumber st f =
     ask (numberAbove st (f .details)) 17
     (ask (firstGood st (f .details)) 18 (ask (same (f .chain) (st .chain)) 19 (ask (counterRight st f) 20 0)))

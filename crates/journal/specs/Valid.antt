@@ -7,12 +7,10 @@ use lib.IntN.{ℤ, _+ℤ_}
 use lib.ListN.{length}
 use Rattle.primitives.specs.Counter.{widthGood, counterFits}
 use Rattle.primitives.specs.Aes.{keySchedule}
-use Rattle.receipt.specs.Settings.{nameText, settingsGood}
+use Rattle.receipt.specs.Settings.{nameText, settingsGood, TypedSettings}
 use Rattle.receipt.specs.Details.{counted, startGood}
 use Rattle.receipt.specs.Chain.{chainValue, decryptedCounter}
-use Rattle.receipt.specs.Compact.{compact, spellable}
-use Rattle.receipt.specs.Exact.{TypedEntry}
-use Rattle.journal.specs.State.{Typed}
+use Rattle.receipt.specs.Compact.{compact, spellable, TypedEntry}
 use Rattle.receipt.specs.declared.settings.Settings.{Settings}
 use Rattle.receipt.specs.declared.details.Kind.the-variants.{Standard}
 use Rattle.receipt.specs.declared.entry.Entry.{Entry}
@@ -64,7 +62,7 @@ pub record Valid (j key : List ℕ) (n : ℕ) : Type 0 where
   pub width : widthGood n ≡ true
   -- 14: the head's CSP, ID and serial
   pub settings : Settings
-  pub typed : Typed settings
+  pub typed : TypedSettings settings
   pub good : settingsGood settings ≡ true
   -- 15 and 21: the entries that the count says, and no byte behind them
   pub entries : List Entry

@@ -10,15 +10,15 @@ use super::register::unopened;
 use super::state::State;
 use super::state::TakenOver;
 use receipt::Details;
-use receipt::Fields;
 use receipt::Kind;
+use receipt::PayloadFields;
 ghost use mathlib.Core.Path.{_≡_};
 ghost use Prim.Native.Nat.{_+_, _≤_, _<_};
 ghost use lib.ListN.{length};
 ghost use Rattle.primitives.specs.Bytes.{same};
 ghost use Rattle.primitives.specs.Aes.{keySchedule};
 ghost use Rattle.receipt.specs.Chain.{decryptedCounter};
-ghost use Rattle.journal.specs.State.{ifZero};
+ghost use Rattle.primitives.specs.Questions.{ifZero};
 ghost use Rattle.journal.specs.TakeOver.{there, textAt, equal, counterRight, fieldsNumber, entryNumber, after, stepNumber, refused, checkFrom, takeOver};
 
 // ---- one entry
@@ -35,7 +35,7 @@ fn there(j: &[u8], at: usize) -> bool
 }
 
 // 19: the chain field is that of the state.
-fn chain_right(st: State, f: Fields) -> bool
+fn chain_right(st: State, f: PayloadFields) -> bool
     ensures { λ r. ⌜ r ≡ same (f .chain) (st .chain) ⌝ }
 {
     let a = f.chain;
@@ -44,7 +44,7 @@ fn chain_right(st: State, f: Fields) -> bool
 }
 
 // The decrypted counter is this one.
-fn decrypts_to(schedule: &[[u8; 4]; 60], st: State, f: Fields, z: i64) -> bool
+fn decrypts_to(schedule: &[[u8; 4]; 60], st: State, f: PayloadFields, z: i64) -> bool
     ensures { λ r. ⌜ r ≡ equal (decryptedCounter (now (schedule .entry)) (st .settings .id) (f .details .number) (st .width) (f .counter)) z ⌝ }
 {
     let settings = st.settings;
@@ -55,7 +55,7 @@ fn decrypts_to(schedule: &[[u8; 4]; 60], st: State, f: Fields, z: i64) -> bool
 }
 
 // 20: the new counter fits, and a standard receipt has it.
-fn counter_right(schedule: &[[u8; 4]; 60], st: State, f: Fields) -> bool
+fn counter_right(schedule: &[[u8; 4]; 60], st: State, f: PayloadFields) -> bool
     requires { ⌜ now schedule ≡ keySchedule (st .key) ⌝ }
     ensures { λ r. ⌜ r ≡ counterRight st f ⌝ }
 {
@@ -73,7 +73,7 @@ fn counter_right(schedule: &[[u8; 4]; 60], st: State, f: Fields) -> bool
 }
 
 // 17 to 20.
-fn fields_number(schedule: &[[u8; 4]; 60], st: State, f: Fields) -> u32
+fn fields_number(schedule: &[[u8; 4]; 60], st: State, f: PayloadFields) -> u32
     requires { ⌜ now schedule ≡ keySchedule (st .key) ⌝ }
     ensures { λ r. ⌜ r ≡ fieldsNumber st f ⌝ }
 {

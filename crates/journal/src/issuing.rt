@@ -10,8 +10,8 @@ use super::state::State;
 use receipt::Answer;
 use receipt::Details;
 use receipt::Entry;
-use receipt::Fields;
 use receipt::Kind;
+use receipt::PayloadFields;
 use receipt::Signature;
 ghost use mathlib.Core.Path.{_≡_};
 ghost use mathlib.Core.Bool.{true};
@@ -22,7 +22,7 @@ ghost use Rattle.primitives.specs.Aes.{keySchedule};
 ghost use Rattle.receipt.specs.Chain.{encryptedCounter};
 ghost use Rattle.receipt.specs.Compact.{compact, spellable};
 ghost use Rattle.journal.specs.Head.{entryText};
-ghost use Rattle.journal.specs.State.{ask};
+ghost use Rattle.primitives.specs.Questions.{ask};
 ghost use Rattle.journal.specs.Issue.{soundAlone, sound, newCounter, signatureSized, detailsNumber, fieldsOf, givenSignature, entryOf, next, issued, issueBuffer};
 ghost use Rattle.journal.specs.Prepare.{prepareAnswer, prepareBuffer};
 
@@ -52,12 +52,12 @@ fn counter_field(st: State, d: Details) -> [u8; 8]
     }
 }
 
-fn fields_of(st: State, d: Details) -> Fields
+fn fields_of(st: State, d: Details) -> PayloadFields
     ensures { λ r. ⌜ r ≡ fieldsOf st d ⌝ }
 {
     let counter = counter_field(st, d);
     let chain = st.chain;
-    Fields {
+    PayloadFields {
         details: d,
         counter: counter,
         chain: chain,

@@ -6,7 +6,8 @@ ghost use mathlib.Core.Bool.{_&&_};
 ghost use Prim.Native.Nat.{_+_, _≤_, _<_};
 ghost use lib.Dec.{leb, eqb};
 ghost use lib.ListN.{length};
-ghost use Rattle.journal.specs.TakeOver.{countAt, idLength, serialLength, settingsOf, countOf};
+ghost use Rattle.journal.specs.TakeOver.{idLength, serialLength, settingsOf, countOf};
+ghost use Rattle.primitives.specs.Number.{countAt};
 
 // The number of the n bytes at a place.
 pub(crate) fn count_at(j: &[u8], at: usize, n: usize) -> usize
@@ -46,8 +47,8 @@ pub(crate) fn settings_at(j: &[u8]) -> Settings
     let a = 11 + count_at(j, 7, 4);
     let b = a + 4;
     let c = b + count_at(j, a, 4);
-    let id = receipt::name_at(&j[11..a]);
-    let serial = receipt::name_at(&j[b..c]);
+    let id = receipt::name_of(&j[11..a]);
+    let serial = receipt::name_of(&j[b..c]);
     Settings {
         csp: [j[4], j[5], j[6]],
         id: id,

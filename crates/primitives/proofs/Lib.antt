@@ -18,6 +18,7 @@ pub mod Over
 pub mod Padding
 pub mod Questions
 pub mod Rewrites
+pub mod Rows
 pub mod Schedule
 pub mod Table
 pub mod Twos

@@ -110,7 +110,7 @@ pos-bits (pos n) e = refl
 pos-bits (negsuc n) e = absurd (subst T e tt)
 
 module _ {z : ℤ} (f : SFits w64 z) where
-  -- what a call of `magnitude` gives
+  -- what a call of `folded` gives
   pub same-mag : {m : ℕ} → m ≡ mag (toZ w64 (ofZ w64 z)) → m ≡ mag z
   same-mag e = e ∙ ap mag (toZ-ofZ f)
 
@@ -135,6 +135,14 @@ module _ {z : ℤ} (f : SFits w64 z) where
 
     pub bits-pos : {m : ℕ} → m ≡ mag z → m ≡ ofZ w64 z
     bits-pos q = q ∙ pos-bits z (tested-neg f e)
+
+-- a number without its sign
+pub absolute-below : (z : ℤ) {m : ℕ} → m ≡ mag z → ltZ z (pos 0) ≡ true → m + 1 ≡ natAbs z
+absolute-below (pos n) e t = absurd (omega (arith, ltb-true n 0 t))
+absolute-below (negsuc n) e t = omega arith
+
+pub absolute-from : (z : ℤ) {m : ℕ} → m ≡ mag z → ltZ z (pos 0) ≡ false → m ≡ natAbs z
+absolute-from z e t = e ∙ abs-pos z t
 
 -- ---- a signed number as a natural one: z + 2 ^ 63
 

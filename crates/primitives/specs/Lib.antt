@@ -1,8 +1,10 @@
 pub mod Aes
+pub mod Answers
 pub mod Base64
 pub mod Bytes
 pub mod Counter
 pub mod Field
 pub mod Number
 pub mod Place
+pub mod Questions
 pub mod Sha256

@@ -21,6 +21,10 @@ valueAfter v (b ∷ bs) = valueAfter (v * 256 + b) bs
 unfoldable pub valueOf : List ℕ → ℕ
 valueOf bs = valueAfter 0 bs
 
--- the number of the n bytes at a place: missing where n is above 8, or not all of the bytes are there
+-- the number of the n bytes at a place
+unfoldable pub countAt : List ℕ → ℕ → ℕ → ℕ
+countAt s at n = valueOf (take n (drop at s))
+
+-- the same, missing where n is above 8, or not all of the bytes are there
 unfoldable pub numberAt : List ℕ → ℕ → ℕ → Number
 numberAt s at n = cond (leb n 8 && leb (at + n) (length s)) (Is (valueOf (take n (drop at s)))) Missing

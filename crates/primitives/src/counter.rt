@@ -2,6 +2,7 @@
 ghost use mathlib.Core.Path.{_≡_};
 ghost use mathlib.Core.Bool.{true};
 ghost use Prim.Native.Nat.{_<_, _≤_, _^_};
+ghost use lib.IntN.{natAbs};
 ghost use lib.ListN.{length};
 ghost use lib.Signed.{mag};
 ghost use mir.Syntax.{w64};
@@ -21,18 +22,26 @@ pub fn width_good(n: usize) -> bool
     n <= 8
 }
 
-// The magnitude: k both of k and of -(k + 1), so that the least number has one.
-pub fn magnitude(z: i64) -> u64
+// k, of k and of -(k + 1): the numbers of n bytes are those whose fold is below half of 256^n.
+fn folded(z: i64) -> u64
     ensures { λ r. ⌜ r ≡ mag z ⌝ }
 {
     if z < 0 { (!z) as u64 } else { z as u64 }
+}
+
+// A number without its sign.
+pub fn absolute(z: i64) -> u64
+    ensures { λ r. ⌜ r ≡ natAbs z ⌝ }
+{
+    let m = folded(z);
+    if z < 0 { m + 1 } else { m }
 }
 
 // The 64 bits of a signed number.
 fn bits_of(z: i64) -> u64
     ensures { λ r. ⌜ r ≡ ofZ w64 z ⌝ }
 {
-    let m = magnitude(z);
+    let m = folded(z);
     if z < 0 { !m } else { m }
 }
 
@@ -51,7 +60,7 @@ pub fn counter_fits(n: usize, z: i64) -> bool
     if !width_good(n) {
         return false;
     }
-    let m = magnitude(z);
+    let m = folded(z);
     m < half_of(n)
 }
 

@@ -1,5 +1,6 @@
 // The primitives of the receipt journal: SHA-256, AES-256, BASE64, counter bytes, and writing at a place of a buffer.
 mod aes;
+mod answer;
 mod base64;
 mod buffer;
 mod counter;
@@ -8,6 +9,7 @@ mod hash;
 pub use aes::aes256;
 pub use aes::encrypt_block;
 pub use aes::expand_key;
+pub use answer::Answer;
 pub use base64::Alphabet;
 pub use base64::Decoded;
 pub use base64::base64_decode;
@@ -19,11 +21,11 @@ pub use buffer::put;
 pub use buffer::put_number;
 pub use buffer::same;
 pub use counter::Sum;
+pub use counter::absolute;
 pub use counter::checked_add;
 pub use counter::counter_bytes;
 pub use counter::counter_fits;
 pub use counter::counter_value;
-pub use counter::magnitude;
 pub use counter::width_good;
 pub use counter::xor_first;
 pub use hash::sha256;

@@ -7,7 +7,7 @@ use native.Mathlib.Omega.{arith}
 use borrow.Author.Tests.{leb-true, ltb-true, ltb-false, eq-eqb, ne-eqb}
 use lib.Dec.{ltb}
 use lib.IntN.{ℤ, pos, negsuc, natAbs, negℤ, _-ℤ_}
-use lib.Signed.{mag, ltZ}
+use lib.Signed.{ltZ}
 use lib.ListN.{length, drop, getD, length-append, List·getD-eq-default}
 use lib.Seq.{getD-drop}
 use native.Mathlib.Nat.{add-zero}
@@ -17,7 +17,7 @@ use mir.Facts.{toZ-ofZ, toZ-pos}
 use Rattle.primitives.specs.Place.{overwrite}
 use Rattle.receipt.specs.Decimal.{fixedOnto, fixed, digits, readLimit, valueFrom, valueOf}
 use Rattle.receipt.specs.Amount.{cents, amount, amountLimit, withinLimit, readAmount}
-use Rattle.receipt.proofs.Lists.{true-is-not-false}
+use Rattle.primitives.proofs.Rows.{true-is-not-false}
 use Rattle.primitives.proofs.Over.{then}
 use Rattle.receipt.proofs.Digits.{length-fixed, length-digits, width-short, from-digits, from-digit, from-mark, from-other, more-low, first-digits}
 
@@ -32,17 +32,6 @@ module _ {z : ℤ} (f : SFits w64 z) where
 
   pub same-absolute : {m : ℕ} → m ≡ natAbs (toZ w64 (ofZ w64 z)) → m ≡ natAbs z
   same-absolute e = rw (plain z f) at e
-
-  pub same-mag : {m : ℕ} → m ≡ mag (toZ w64 (ofZ w64 z)) → m ≡ mag z
-  same-mag e = rw (plain z f) at e
-
-pub absolute-below : (z : ℤ) {m : ℕ} → m ≡ mag z → ltZ z (pos 0) ≡ true → m + 1 ≡ natAbs z
-absolute-below (pos n) e t = absurd (omega (arith, ltb-true n 0 t))
-absolute-below (negsuc n) e t = omega arith
-
-pub absolute-from : (z : ℤ) {m : ℕ} → m ≡ mag z → ltZ z (pos 0) ≡ false → m ≡ natAbs z
-absolute-from (pos n) e t = e
-absolute-from (negsuc n) e t = true-is-not-false (sym t)
 
 -- ---- writing
 

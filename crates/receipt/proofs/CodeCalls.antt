@@ -14,11 +14,12 @@ use Rattle.primitives.specs.Base64.{encoding, decoding}
 use Rattle.primitives.specs.declared.base64.Alphabet.the-variants.{Standard}
 use Rattle.primitives.proofs.Over.{placed-room, placed-full, behind-room, behind-full, room-true, room-false}
 use Rattle.primitives.proofs.Questions.{yes, no}
-use Rattle.receipt.specs.declared.machine_code.Answer.{Answer}
+use Rattle.primitives.specs.declared.answer.Answer.{Answer}
 use Rattle.receipt.specs.declared.machine_code.Part.{Part}
 use Rattle.receipt.specs.declared.form.Reading.{Reading}
 use Rattle.receipt.specs.Form.{nextAt, part, parts, payloadGood, signatureGood, partsGood, signedForm, partsOfForm}
-use Rattle.receipt.specs.Code.{lastAt, codeText, partsOfCode, written, codeAnswer, codeBuffer, uncodeAnswer, uncodeBuffer, idStart, idEnd, idThere, nowhere, idPlace, idField}
+use Rattle.receipt.specs.Code.{lastAt, codeText, partsOfCode, codeAnswer, codeBuffer, uncodeAnswer, uncodeBuffer, idStart, idEnd, idThere, nowhere, idPlace, idField}
+use Rattle.primitives.specs.Answers.{written}
 use Rattle.receipt.specs.FormReading.{short, found}
 use Rattle.receipt.proofs.Finding.{next-most}
 use Rattle.receipt.proofs.CodeTexts.{good-payload, good-signature, read-signed}

@@ -12,8 +12,8 @@ use Rattle.primitives.specs.Bytes.{same}
 use Rattle.primitives.specs.Base64.{letter, quad, letters, encoding}
 use Rattle.primitives.specs.declared.base64.Alphabet.the-variants.{UrlSafe}
 use Rattle.primitives.proofs.ByteLists.{same-true, same-length}
-use Rattle.receipt.specs.Payload.{header, failureText, longestPayload}
-use Rattle.receipt.specs.Form.{Parts, parts, payloadGood, signatureGood, partsGood, goodParts}
+use Rattle.receipt.specs.Payload.{longestPayload}
+use Rattle.receipt.specs.Form.{Parts, parts, payloadGood, signatureGood, partsGood, goodParts, header, failureText}
 use Rattle.receipt.specs.FormReading.{short, found}
 
 -- ---- the texts

@@ -18,7 +18,8 @@ use Rattle.primitives.proofs.ByteLists.{bytes-take, bytes-drop}
 use Rattle.primitives.proofs.Base64Lengths.{length-encoding}
 use Rattle.primitives.proofs.Base64Laws.{no-underscore, decode-encode, encode-decode, decoded-bytes}
 use Rattle.receipt.specs.Form.{part, Parts, partsGood, PartsOfBytes, signedForm, goodParts, partsOfForm}
-use Rattle.receipt.specs.Code.{lastAt, codeText, partsOfCode, written, answerWith, bufferWith, codeAnswer, codeBuffer, uncodeAnswer, uncodeBuffer}
+use Rattle.receipt.specs.Code.{lastAt, codeText, partsOfCode, codeAnswer, codeBuffer, uncodeAnswer, uncodeBuffer}
+use Rattle.primitives.specs.Answers.{written, answerWith, bufferWith}
 use Rattle.receipt.specs.CodeLaws.{CodeIsRead, CodeIsOne, CodeIsShort, UncodeAfterCode, CodeAfterUncode}
 use Rattle.receipt.proofs.Finding.{last-is, last-without}
 use Rattle.receipt.proofs.CodeTexts.{good-payload, good-signature, good-some, Inverted, good-inverted}

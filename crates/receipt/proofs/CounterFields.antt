@@ -22,7 +22,7 @@ use Rattle.receipt.specs.Payload.{base64, counterContent, counterField, 
 use Rattle.receipt.specs.PayloadReading.{eight, fieldWidth, kindOf, readCounter}
 use Rattle.receipt.specs.declared.details.Kind.{Kind}
 use Rattle.receipt.specs.declared.details.Kind.the-variants.{Standard, Cancellation, Training}
-use Rattle.receipt.proofs.Lists.{both}
+use Rattle.primitives.proofs.Rows.{both}
 use Rattle.receipt.proofs.Written.{length-base64}
 
 -- two of the paper's cases

@@ -23,7 +23,7 @@ use Rattle.receipt.specs.declared.details.Kind.{Kind}
 use Rattle.receipt.specs.declared.details.Kind.the-variants.{Standard, Cancellation, Training}
 use Rattle.receipt.specs.declared.details.Details.{Details}
 use Rattle.receipt.specs.declared.details.After.{After}
-use Rattle.receipt.proofs.Lists.{both, true-is-not-false}
+use Rattle.primitives.proofs.Rows.{both, true-is-not-false}
 use Rattle.receipt.proofs.Cents.{within-most}
 use Rattle.receipt.proofs.Joined.{drop-here, ok-here}
 

@@ -11,7 +11,7 @@ use Rattle.primitives.specs.Place.{overwrite}
 use Rattle.receipt.specs.Decimal.{fixedOnto, fixed}
 use Rattle.receipt.specs.DateTime.{leap, daysIn, pair, dateText, twoAt, readDate}
 use Rattle.receipt.specs.declared.datetime.DateTime.{DateTime}
-use Rattle.receipt.proofs.Lists.{true-is-not-false}
+use Rattle.primitives.proofs.Rows.{true-is-not-false}
 use Rattle.primitives.proofs.Over.{then}
 use Rattle.receipt.proofs.Digits.{length-fixed}
 

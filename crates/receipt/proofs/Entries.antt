@@ -24,9 +24,9 @@ use Rattle.receipt.specs.declared.details.Kind.the-variants.{Standard, C
 use Rattle.receipt.specs.declared.settings.Name.{Name}
 use Rattle.receipt.specs.declared.settings.Settings.{Settings}
 use Rattle.receipt.specs.declared.entry.Signature.{Signature}
-use Rattle.receipt.specs.declared.payload.Fields.{Fields}
+use Rattle.receipt.specs.declared.payload.PayloadFields.{PayloadFields}
 use Rattle.receipt.specs.declared.entry.Entry.{Entry}
-use Rattle.receipt.proofs.Lists.{both, true-is-not-false}
+use Rattle.primitives.proofs.Rows.{both, true-is-not-false}
 use Rattle.receipt.proofs.CounterFields.{zeros-are}
 use Rattle.receipt.proofs.FormCalls.{length-input}
 
@@ -158,6 +158,6 @@ encrypt-back schedule id number n bytes w g l b z =
 
 -- ---- what is signed is never empty
 
-pub input-some : (s : Settings) (n : ℕ) (f : Fields) → 0 < length (signingInput s n f)
+pub input-some : (s : Settings) (n : ℕ) (f : PayloadFields) → 0 < length (signingInput s n f)
 unfolding signingInput
 input-some s n f = omega (arith, length-input (payload s n f))

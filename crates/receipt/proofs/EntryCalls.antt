@@ -13,7 +13,7 @@ use Rattle.primitives.specs.Place.{overwrite, placed, behind}
 use Rattle.primitives.specs.Bytes.{same}
 use Rattle.primitives.specs.Counter.{widthGood}
 use Rattle.primitives.proofs.Over.{over-nil, read-over, placed-room, placed-full, behind-room, behind-full}
-use Rattle.receipt.specs.Settings.{every, sized, TypedSettings}
+use Rattle.receipt.specs.Settings.{every, sized, SettingsLengths}
 use Rattle.receipt.specs.Payload.{payload, zeros, fieldsGood}
 use Rattle.receipt.specs.PayloadReading.{readFields}
 use Rattle.receipt.specs.Form.{parts, signedInput, signedForm, partsOfForm}
@@ -22,10 +22,10 @@ use Rattle.receipt.specs.Compact.{signatureText, compact, signingInput, 
 use Rattle.receipt.specs.declared.settings.Settings.{Settings}
 use Rattle.receipt.specs.declared.settings.Letters.the-variants.{Zero}
 use Rattle.receipt.specs.declared.form.Reading.{Reading}
-use Rattle.receipt.specs.declared.payload.Fields.{Fields}
+use Rattle.receipt.specs.declared.payload.PayloadFields.{PayloadFields}
 use Rattle.receipt.specs.declared.entry.Signature.{Signature}
 use Rattle.receipt.specs.declared.entry.Entry.{Entry}
-use Rattle.receipt.proofs.Lists.{both}
+use Rattle.primitives.proofs.Rows.{both}
 use Rattle.receipt.proofs.Written.{Sizes, payload-most}
 use Rattle.receipt.proofs.PayloadBytes.{payload-long}
 use Rattle.receipt.proofs.CodeTexts.{failureLetters, failure-letters}
@@ -39,19 +39,19 @@ one-more true false c d = refl
 one-more false b c d = refl
 
 -- what it takes to have a payload
-pub record Preparable (s : Settings) (n : ℕ) (f : Fields) : Type 0 where
+pub record Preparable (s : Settings) (n : ℕ) (f : PayloadFields) : Type 0 where
   pub sized : sized s ≡ true
   pub width : widthGood n ≡ true
   pub fields : fieldsGood n f ≡ true
 
-pub preparable-true : (s : Settings) (n : ℕ) (f : Fields) → preparable s n f ≡ true → Preparable s n f
+pub preparable-true : (s : Settings) (n : ℕ) (f : PayloadFields) → preparable s n f ≡ true → Preparable s n f
 unfolding preparable
 preparable-true s n f e =
     let p = both (sized s) (widthGood n && fieldsGood n f) e in
     let q = both (widthGood n) (fieldsGood n f) (p .1) in
     record { sized = p .0; width = q .0; fields = q .1 }
 
-pub preparable-made : (s : Settings) (n : ℕ) (f : Fields) → Preparable s n f → preparable s n f ≡ true
+pub preparable-made : (s : Settings) (n : ℕ) (f : PayloadFields) → Preparable s n f → preparable s n f ≡ true
 unfolding preparable
 preparable-made s n f p = rw (p .sized, p .width, p .fields)
 
@@ -74,32 +74,32 @@ pub spelled-is : (s : Settings) (n : ℕ) (e : Entry) → spellable s n e ≡ tr
 unfolding spelled
 spelled-is s n e g = rw g
 
-pub prepared-is : (s : Settings) (n : ℕ) (f : Fields) → preparable s n f ≡ true → prepared s n f ≡ signingInput s n f
+pub prepared-is : (s : Settings) (n : ℕ) (f : PayloadFields) → preparable s n f ≡ true → prepared s n f ≡ signingInput s n f
 unfolding prepared
 prepared-is s n f g = rw g
 
-pub spells-is : (s : Settings) (n : ℕ) (f : Fields) (text : List ℕ) → spells s n f text ≡ preparable s n f && same (payload s n f) text
+pub spells-is : (s : Settings) (n : ℕ) (f : PayloadFields) (text : List ℕ) → spells s n f text ≡ preparable s n f && same (payload s n f) text
 unfolding spells preparable
 spells-is s n f text = one-more (sized s) (widthGood n) (fieldsGood n f) (same (payload s n f) text)
 
 -- ---- the payload, in a buffer of 195 bytes
 
-module _ (s : Settings) (n : ℕ) (f : Fields) where
-  pub prepare-none : preparable s n f ≡ false → (0 ≤ 195) × (_≡_ {A = List ℕ} [] (cond (preparable s n f) (payload s n f) []))
-  prepare-none e = (omega arith, rw e)
+module _ (s : Settings) (n : ℕ) (f : PayloadFields) where
+  pub payload-none : preparable s n f ≡ false → (0 ≤ 195) × (_≡_ {A = List ℕ} [] (cond (preparable s n f) (payload s n f) []))
+  payload-none e = (omega arith, rw e)
 
-  module _ (ts : TypedSettings s) (tf : Sizes f) (out : List ℕ) (long : length out ≡ 195) (e : preparable s n f ≡ true) where
+  module _ (ts : SettingsLengths s) (tf : Sizes f) (out : List ℕ) (long : length out ≡ 195) (e : preparable s n f ≡ true) where
     fits : 0 + length (payload s n f) ≤ length out
     fits =
         let p = preparable-true s n f e in
         omega (arith, payload-most s n f ts (p .sized) tf (p .fields))
 
-    pub prepare-room : (sized s ≡ true) × (widthGood n ≡ true) × (0 + length (payload s n f) ≤ length out)
-    prepare-room = let p = preparable-true s n f e in (p .sized, p .width, fits)
+    pub payload-room : (sized s ≡ true) × (widthGood n ≡ true) × (0 + length (payload s n f) ≤ length out)
+    payload-room = let p = preparable-true s n f e in (p .sized, p .width, fits)
 
-    pub prepare-some : {r : ℕ} {out₁ : List ℕ} → (r ≡ 0 + length (payload s n f)) × (out₁ ≡ overwrite out 0 (payload s n f))
+    pub payload-some : {r : ℕ} {out₁ : List ℕ} → (r ≡ 0 + length (payload s n f)) × (out₁ ≡ overwrite out 0 (payload s n f))
         → (r ≤ 195) × (take r out₁ ≡ cond (preparable s n f) (payload s n f) [])
-    prepare-some {r} h =
+    payload-some {r} h =
         let q : r ≡ length (payload s n f) = omega (arith, h .0) in
         (omega (arith, fits), rw e ((λ i. take (q i) (h .1 i)) ∙ read-over out 0 (payload s n f) fits))
 
@@ -161,7 +161,7 @@ module _ (out : List ℕ) (at : ℕ) where
         let w : spellable s n e ≡ true = spellable-is s n e ∙ rw (a, b) in
         rw (w, sym q) h
 
-  module _ (s : Settings) (n : ℕ) (f : Fields) where
+  module _ (s : Settings) (n : ℕ) (f : PayloadFields) where
     pub no-input : preparable s n f ≡ false → (at ≡ behind out at (prepared s n f)) × (out ≡ placed out at (prepared s n f))
     unfolding prepared
     no-input q = rw q (empty out at)
@@ -214,7 +214,7 @@ module _ (bytes : List ℕ) (m : ℕ) (long : length bytes ≡ 64) where
 
 -- ---- reading
 
-module _ (s : Settings) (n : ℕ) (f : Fields) (text : List ℕ) where
+module _ (s : Settings) (n : ℕ) (f : PayloadFields) (text : List ℕ) where
   pub spells-none : preparable s n f ≡ false → false ≡ spells s n f text
   spells-none e = sym (spells-is s n f text ∙ ap (λ (t : Bool). t && same (payload s n f) text) e)
 
@@ -226,7 +226,7 @@ module _ (s : Settings) (n : ℕ) (text pay sig : List ℕ) (r : Reading) (e : f
   unfolding readEntry
   read-refused t = let q : none ≡ partsOfForm text = found-none (r .good) (take (r .payload) pay) (take (r .signature) sig) e t in rw (sym q)
 
-  module _ (t : not (r .good) ≡ false) (f : Fields) (fs : f ≡ readFields s n (take (r .payload - 0) pay)) where
+  module _ (t : not (r .good) ≡ false) (f : PayloadFields) (fs : f ≡ readFields s n (take (r .payload - 0) pay)) where
     taken : some (parts (take (r .payload - 0) pay) (take (r .signature) sig)) ≡ partsOfForm text
     taken = rw (lent-front pay (r .payload)) (found-some (r .good) (take (r .payload) pay) (take (r .signature) sig) e t)
 

@@ -14,18 +14,18 @@ use Rattle.primitives.specs.Base64.{encoding}
 use Rattle.primitives.specs.declared.base64.Alphabet.the-variants.{UrlSafe}
 use Rattle.primitives.proofs.ByteLists.{bytes-nil, bytes-cons, bytes-append, bytes-replicate, same-refl, same-true}
 use Rattle.primitives.proofs.Base64Laws.{encoding-bytes}
-use Rattle.receipt.specs.Settings.{TypedSettings}
-use Rattle.receipt.specs.Payload.{header, failureText, payload, longestPayload, zeros, SettingsBytes}
+use Rattle.receipt.specs.Settings.{SettingsLengths, SettingsBytes}
+use Rattle.receipt.specs.Payload.{payload, longestPayload, zeros}
 use Rattle.receipt.specs.PayloadReading.{readFields}
-use Rattle.receipt.specs.Form.{Parts, parts, partsGood, PartsOfBytes, signedInput, signedForm, signatureGood, payloadGood, secondDot, partsOfForm}
-use Rattle.receipt.specs.Compact.{signatureText, compact, signingInput, longestCompact, signatureZero, preparable, spellable, signatureOf, spells, noEntry, entryOf, entryOfParts, readEntry}
-use Rattle.receipt.specs.Exact.{TypedEntry, Exact, Back, OneSpelling, CompactIsShort, CompactIsLong, CompactIsBytes, CompactIsSigned, InputBeforeDot, FoundIsTyped}
+use Rattle.receipt.specs.Form.{Parts, parts, partsGood, PartsOfBytes, signedInput, signedForm, signatureGood, payloadGood, secondDot, partsOfForm, header, failureText}
+use Rattle.receipt.specs.Compact.{signatureText, compact, signingInput, longestCompact, signatureZero, preparable, spellable, signatureOf, spells, noEntry, entryOf, entryOfParts, readEntry, TypedEntry}
+use Rattle.receipt.specs.Exact.{Exact, Back, OneSpelling, CompactIsShort, CompactIsLong, CompactIsBytes, CompactIsSigned, InputBeforeDot, FoundIsTyped}
 use Rattle.receipt.specs.declared.settings.Settings.{Settings}
-use Rattle.receipt.specs.declared.payload.Fields.{Fields}
+use Rattle.receipt.specs.declared.payload.PayloadFields.{PayloadFields}
 use Rattle.receipt.specs.declared.entry.Signature.{Signature}
 use Rattle.receipt.specs.declared.entry.Entry.{Entry}
 use Rattle.receipt.specs.declared.entry.Found.{Found}
-use Rattle.receipt.proofs.Lists.{both, true-is-not-false}
+use Rattle.primitives.proofs.Rows.{both, true-is-not-false}
 use Rattle.receipt.proofs.Written.{payload-short}
 use Rattle.receipt.proofs.PayloadBytes.{payload-bytes, payload-begins, payload-long}
 use Rattle.receipt.proofs.PayloadBack.{payload-back, read-typed, blank-typed}
@@ -113,7 +113,7 @@ signature-right text b e = go (eqb (length text) 64) refl e
 
 -- ---- the compact form
 
-pub payload-good : (s : Settings) (n : ℕ) (f : Fields) → length (payload s n f) ≤ longestPayload → payloadGood (payload s n f) ≡ true
+pub payload-good : (s : Settings) (n : ℕ) (f : PayloadFields) → length (payload s n f) ≤ longestPayload → payloadGood (payload s n f) ≡ true
 payload-good s n f h =
     let mark : List ℕ = 95 ∷ 82 ∷ 49 ∷ 45 ∷ [] in
     sym
@@ -133,7 +133,7 @@ module _ (s : Settings) (n : ℕ) (e : Entry) where
     unfolding p
     compact-long-of = omega (arith, ap length is-form, length-form p, text-long (e .signature) (te .signature))
 
-    module _ (ts : TypedSettings s) (g : spellable s n e ≡ true) where
+    module _ (ts : SettingsLengths s) (g : spellable s n e ≡ true) where
       parts-good : partsGood p ≡ true
       unfolding p
       parts-good =
@@ -229,7 +229,7 @@ module _ (s : Settings) (n : ℕ) (text : List ℕ) where
       go none q h = true-is-not-false h
       go (some q) eq h = try (spells s n f (q .payload)) refl h
         where
-          f : Fields
+          f : PayloadFields
           f = readFields s n (q .payload)
 
           r : Right (q .signature) (signatureOf (q .signature))

@@ -19,9 +19,8 @@ use Rattle.primitives.proofs.Over.{placed-room, behind-room, room-true, room-fa
 use Rattle.primitives.proofs.ByteLists.{same-length}
 use Rattle.primitives.proofs.Questions.{yes, no}
 use Rattle.primitives.proofs.Base64Lengths.{length-encoding}
-use Rattle.receipt.specs.Payload.{header}
 use Rattle.receipt.specs.declared.form.Reading.{Reading}
-use Rattle.receipt.specs.Form.{nextAt, part, Parts, parts, payloadGood, signatureGood, signedInput, signedForm, secondDot, partsOfForm}
+use Rattle.receipt.specs.Form.{nextAt, part, Parts, parts, payloadGood, signatureGood, signedInput, signedForm, secondDot, partsOfForm, header}
 use Rattle.receipt.specs.FormReading.{short, nothing, found}
 use Rattle.receipt.proofs.Finding.{next-from}
 use Rattle.receipt.proofs.CodeTexts.{headerLetters, header-letters, header-long, read-parts}
@@ -189,10 +188,10 @@ module _ (p out : List ℕ) (at : ℕ) (h : at + (21 + (length p * 4 + 2) / 3) �
   pub room-second : at + 20 + length ((46 ∷ []) ++ encoding UrlSafe p) ≤ length out₁
   room-second = omega (arith, length-encoding UrlSafe p, ap length e₁, length-placed out at headerLetters)
 
-  pub put-input : {r : ℕ} {out₂ : List ℕ}
+  pub put-signed-input : {r : ℕ} {out₂ : List ℕ}
       → (r ≡ at + 20 + length ((46 ∷ []) ++ encoding UrlSafe p)) × (out₂ ≡ overwrite out₁ (at + 20) ((46 ∷ []) ++ encoding UrlSafe p))
       → (r ≡ behind out at (signedInput p)) × (out₂ ≡ placed out at (signedInput p))
-  put-input {r} {out₂} e₂ =
+  put-signed-input {r} {out₂} e₂ =
       let t : List ℕ = encoding UrlSafe header in
       let a : List ℕ = (46 ∷ []) ++ encoding UrlSafe p in
       let l : length (signedInput p) ≡ 21 + (length p * 4 + 2) / 3 = length-input p in

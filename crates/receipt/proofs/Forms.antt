@@ -15,8 +15,7 @@ use Rattle.primitives.specs.declared.base64.Alphabet.the-variants.{UrlSafe}
 use Rattle.primitives.proofs.ByteLists.{bytes-take, bytes-drop, same-refl, same-true}
 use Rattle.primitives.proofs.Base64Lengths.{length-encoding}
 use Rattle.primitives.proofs.Base64Laws.{no-dot, decode-encode, encode-decode, decoded-bytes}
-use Rattle.receipt.specs.Payload.{header}
-use Rattle.receipt.specs.Form.{nextAt, part, Parts, partsGood, PartsOfBytes, signedForm, goodParts, secondDot, partsOfForm}
+use Rattle.receipt.specs.Form.{nextAt, part, Parts, partsGood, PartsOfBytes, signedForm, goodParts, secondDot, partsOfForm, header}
 use Rattle.receipt.specs.CodeLaws.{FormIsRead, FormIsOne, FormIsShort}
 use Rattle.receipt.proofs.Finding.{Without, next-is, next-from, next-without}
 use Rattle.receipt.proofs.CodeTexts.{header-long, good-payload, good-signature, good-some, Inverted, good-inverted}

@@ -12,7 +12,7 @@ use lib.Seq.{drop-cons, take-suc-set, take-all}
 use Rattle.primitives.specs.Place.{overwrite}
 use Rattle.primitives.proofs.Writing.{Writing, writing-left, writing-more, writing-end, writing-fits}
 use Rattle.receipt.specs.Amount.{amount, withinLimit, readAmount, amountsText}
-use Rattle.receipt.specs.Fields.{after, skip, At, readAmounts}
+use Rattle.receipt.specs.Separated.{after, skip, At, readAmounts}
 use Rattle.receipt.specs.Details.{amountsGood}
 use Rattle.primitives.proofs.Over.{then}
 

@@ -14,13 +14,12 @@ pub mod Finding
 pub mod FormCalls
 pub mod Forms
 pub mod Joined
-pub mod Lists
 pub mod Loose
 pub mod Marks
 pub mod Missing
 pub mod Names
+pub mod PaperCases
 pub mod PayloadBack
 pub mod PayloadBytes
 pub mod Signs
-pub mod PaperCases
 pub mod Written

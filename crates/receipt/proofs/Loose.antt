@@ -13,7 +13,7 @@ use lib.ListN.{length, take, drop, getD, length-drop, drop-of-length-le}
 use lib.Seq.{getD-drop, drop-cons, take-all}
 use Rattle.receipt.specs.Decimal.{valueOf}
 use Rattle.receipt.specs.DateTime.{readDate}
-use Rattle.receipt.specs.Fields.{after, skip, At, readAmounts}
+use Rattle.receipt.specs.Separated.{after, skip, At, readAmounts}
 use Rattle.receipt.specs.Payload.{zeros}
 use Rattle.receipt.specs.PayloadReading.{fieldWidth, kindOf, readCounter, readChain, readDetails, readable, Placed, foundIn, blank, readFields}
 use Rattle.receipt.specs.declared.datetime.DateTime.{DateTime}
@@ -22,7 +22,7 @@ use Rattle.receipt.specs.declared.details.Kind.the-variants.{Standard, C
 use Rattle.receipt.specs.declared.details.Details.{Details}
 use Rattle.receipt.specs.declared.settings.Settings.{Settings}
 use Rattle.receipt.specs.declared.payload.Places.{Places}
-use Rattle.receipt.proofs.Lists.{both, and-no, and-yes}
+use Rattle.primitives.proofs.Rows.{both, and-no, and-yes}
 
 -- ---- the loop that looks for a byte that is not zero
 

@@ -11,9 +11,9 @@ use Rattle.receipt.specs.Decimal.{digits}
 use Rattle.receipt.specs.Amount.{amount, withinLimit, amountsText}
 use Rattle.receipt.specs.DateTime.{dateText}
 use Rattle.receipt.specs.Details.{amountsGood}
-use Rattle.receipt.specs.Fields.{after, skip, readAmounts}
+use Rattle.receipt.specs.Separated.{after, skip, readAmounts}
 use Rattle.receipt.specs.declared.datetime.DateTime.{DateTime}
-use Rattle.receipt.proofs.Lists.{both}
+use Rattle.primitives.proofs.Rows.{both}
 use Rattle.receipt.proofs.Cents.{read-amount}
 use Rattle.receipt.proofs.Signs.{Signs, each-digits, each-amount, each-date}
 use Rattle.receipt.proofs.Joined.{after-mark, after-other}

@@ -21,7 +21,7 @@ use Rattle.receipt.specs.declared.settings.Letters.{Letters}
 use Rattle.receipt.specs.declared.settings.Letters.the-variants.{Id, Serial, Zero}
 use Rattle.receipt.specs.Settings.{between, idLetter, serialLetter, letterGood, every, nameText, nameGood, nameOf, cspGood, idGood, serialGood, settingsGood, sized}
 use Rattle.primitives.proofs.Questions.{yes, no}
-use Rattle.receipt.proofs.Lists.{both}
+use Rattle.primitives.proofs.Rows.{both}
 
 -- ---- the loop over the bytes of one class, at the place i
 

@@ -8,7 +8,7 @@ use Rattle.primitives.specs.Base64.{letter, quad, letters, encoding}
 use Rattle.receipt.specs.Decimal.{fixedOnto, fixed, widthUp, width, digits}
 use Rattle.receipt.specs.Amount.{cents, amount}
 use Rattle.receipt.specs.DateTime.{leap, daysIn, dayGood, timeGood, dateGood}
-use Rattle.receipt.specs.Payload.{header}
+use Rattle.receipt.specs.Form.{header}
 use Rattle.receipt.specs.Cases.{day, answer, cases, allAsPaper}
 
 pub as-the-paper-says : allAsPaper cases ≡ true

@@ -13,20 +13,20 @@ use Rattle.primitives.specs.Counter.{widthGood}
 use Rattle.primitives.proofs.ByteLists.{bytes-replicate}
 use Rattle.receipt.specs.Decimal.{digits, valueOf}
 use Rattle.receipt.specs.DateTime.{daysIn, dayGood, timeGood, dateGood, dateText, readDate}
-use Rattle.receipt.specs.Settings.{nameText, sized, TypedSettings}
+use Rattle.receipt.specs.Settings.{nameText, sized, SettingsLengths}
 use Rattle.receipt.specs.Amount.{amountsText}
-use Rattle.receipt.specs.Fields.{after, skip, readAmounts}
-use Rattle.receipt.specs.Payload.{base64, head, moment, counterField, closing, body, payload, fieldsGood, TypedFields}
+use Rattle.receipt.specs.Separated.{after, skip, readAmounts}
+use Rattle.receipt.specs.Payload.{base64, registerPart, moment, counterField, closing, body, payload, fieldsGood, TypedFields}
 use Rattle.receipt.specs.PayloadReading.{eight, kindOf, readCounter, readChain, readDetails, readable, foundIn, blank, readFields}
 use Rattle.receipt.specs.declared.datetime.DateTime.{DateTime}
 use Rattle.receipt.specs.declared.details.Kind.{Kind}
 use Rattle.receipt.specs.declared.details.Kind.the-variants.{Standard, Cancellation, Training}
 use Rattle.receipt.specs.declared.settings.Settings.{Settings}
-use Rattle.receipt.specs.declared.payload.Fields.{Fields}
-use Rattle.receipt.proofs.Lists.{both}
+use Rattle.receipt.specs.declared.payload.PayloadFields.{PayloadFields}
+use Rattle.primitives.proofs.Rows.{both}
 use Rattle.receipt.proofs.Digits.{value-digits}
 use Rattle.receipt.proofs.Dates.{Small, read-date, length-date, days-few}
-use Rattle.receipt.proofs.Written.{sized-short, length-head, Good, good}
+use Rattle.receipt.proofs.Written.{sized-short, length-register, Good, good}
 use Rattle.receipt.proofs.Marks.{after-digits, after-date, skip-amounts, read-amounts}
 use Rattle.receipt.proofs.CounterFields.{kind-back, counter-back, length-chain, chain-back, eight-length, eight-bytes}
 
@@ -58,7 +58,7 @@ small t e =
 
 -- ---- the body, from the front
 
-module _ (s : Settings) (n : ℕ) (f : Fields) (w : widthGood n ≡ true) (a : TypedFields f) (g : Good n f) where
+module _ (s : Settings) (n : ℕ) (f : PayloadFields) (w : widthGood n ≡ true) (a : TypedFields f) (g : Good n f) where
   -- what stands behind the counter field's '_'
   ending : List ℕ
   ending = nameText (s .serial) ++ (95 ∷ base64 (f .chain))
@@ -130,7 +130,7 @@ module _ (s : Settings) (n : ℕ) (f : Fields) (w : widthGood n ≡ true) (a : T
 
   opening : List ℕ
   opening =
-      head s ++ (moment (f .details .number) (f .details .date) ++ amountsText (f .details .amounts)
+      registerPart s ++ (moment (f .details .number) (f .details .date) ++ amountsText (f .details .amounts)
       ++ ((counterField n (f .details .kind) (f .counter) ++ (95 ∷ [])) ++ (nameText (s .serial) ++ (95 ∷ []))))
 
   whole : payload s n f ≡ opening ++ base64 (f .chain)
@@ -153,19 +153,19 @@ module _ (s : Settings) (n : ℕ) (f : Fields) (w : widthGood n ≡ true) (a : T
 
 -- ---- the whole
 
-behind-head : (s : Settings) (n : ℕ) (f : Fields) → TypedSettings s → sized s ≡ true → drop (9 + s .id .len) (payload s n f) ≡ body s n f
+behind-register : (s : Settings) (n : ℕ) (f : PayloadFields) → SettingsLengths s → sized s ≡ true → drop (9 + s .id .len) (payload s n f) ≡ body s n f
 unfolding payload
-behind-head s n f t z = drop-at (head s) (body s n f) (9 + s .id .len) (length-head s (t .csp) (t .id) (sized-short s z .id))
+behind-register s n f t z = drop-at (registerPart s) (body s n f) (9 + s .id .len) (length-register s (t .csp) (t .id) (sized-short s z .id))
 
 -- reading what was spelled gives it back
-pub payload-back : (s : Settings) (n : ℕ) (f : Fields) → TypedSettings s → sized s ≡ true → widthGood n ≡ true → TypedFields f → fieldsGood n f ≡ true
+pub payload-back : (s : Settings) (n : ℕ) (f : PayloadFields) → SettingsLengths s → sized s ≡ true → widthGood n ≡ true → TypedFields f → fieldsGood n f ≡ true
     → readFields s n (payload s n f) ≡ f
 unfolding readFields
 payload-back s n f t z w a g =
-    rw (behind-head s n f t z, readable-back s n f w a (good n f g)) (found-back s n f w a (good n f g))
+    rw (behind-register s n f t z, readable-back s n f w a (good n f g)) (found-back s n f w a (good n f g))
 
 -- different fields are spelled differently
-pub payload-injective : (s : Settings) (n : ℕ) (f h : Fields) → TypedSettings s → sized s ≡ true → widthGood n ≡ true
+pub payload-injective : (s : Settings) (n : ℕ) (f h : PayloadFields) → SettingsLengths s → sized s ≡ true → widthGood n ≡ true
     → TypedFields f → fieldsGood n f ≡ true → TypedFields h → fieldsGood n h ≡ true → payload s n f ≡ payload s n h → f ≡ h
 payload-injective s n f h t z w af gf ah gh e = sym (payload-back s n f t z w af gf) ∙ ap (readFields s n) e ∙ payload-back s n h t z w ah gh
 

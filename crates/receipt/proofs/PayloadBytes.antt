@@ -10,13 +10,13 @@ use Rattle.primitives.specs.declared.base64.Alphabet.the-variants as alphabet
 use Rattle.primitives.proofs.ByteLists.{bytes-nil, bytes-cons, bytes-append, bytes-take}
 use Rattle.primitives.proofs.Base64Laws.{encoding-bytes}
 use Rattle.primitives.proofs.Each.{Each, none-left, one-more}
-use Rattle.receipt.specs.Settings.{nameText}
+use Rattle.receipt.specs.Settings.{nameText, SettingsBytes}
 use Rattle.receipt.specs.Amount.{amountsText}
-use Rattle.receipt.specs.Payload.{head, moment, counterField, closing, body, payload, SettingsBytes}
+use Rattle.receipt.specs.Payload.{registerPart, moment, counterField, closing, body, payload}
 use Rattle.receipt.specs.declared.datetime.DateTime.{DateTime}
 use Rattle.receipt.specs.declared.settings.Name.{Name}
 use Rattle.receipt.specs.declared.settings.Settings.{Settings}
-use Rattle.receipt.specs.declared.payload.Fields.{Fields}
+use Rattle.receipt.specs.declared.payload.PayloadFields.{PayloadFields}
 use Rattle.receipt.proofs.Signs.{Signs, each-digits, each-amount, each-date}
 
 each-bytes : {xs : List ℕ} → Each (λ b. b < 256) xs → AllBytes xs
@@ -35,9 +35,9 @@ name-bytes : (n : Name) → AllBytes (n .bytes) → AllBytes (nameText n)
 unfolding nameText
 name-bytes n p = bytes-take (n .len) p
 
-head-bytes : (s : Settings) → SettingsBytes s → AllBytes (head s)
-unfolding head
-head-bytes s p =
+register-bytes : (s : Settings) → SettingsBytes s → AllBytes (registerPart s)
+unfolding registerPart
+register-bytes s p =
     bytes-append
     (bytes-append
     (bytes-cons (omega arith) (bytes-cons (omega arith) (bytes-cons (omega arith) (bytes-cons (omega arith) bytes-nil))))
@@ -53,25 +53,25 @@ unfolding amountsText
 amounts-bytes [] = bytes-nil
 amounts-bytes (z ∷ zs) = bytes-append (field-bytes (each-bytes (each-amount a-byte z))) (amounts-bytes zs)
 
-closing-bytes : (s : Settings) (n : ℕ) (f : Fields) → SettingsBytes s → AllBytes (closing s n f)
+closing-bytes : (s : Settings) (n : ℕ) (f : PayloadFields) → SettingsBytes s → AllBytes (closing s n f)
 unfolding closing counterField
 closing-bytes s n f p =
     bytes-append
     (bytes-append (field-bytes (encoding-bytes alphabet.Standard _)) (field-bytes (name-bytes (s .serial) (p .serial))))
     (encoding-bytes alphabet.Standard (f .chain))
 
-pub payload-bytes : (s : Settings) (n : ℕ) (f : Fields) → SettingsBytes s → AllBytes (payload s n f)
+pub payload-bytes : (s : Settings) (n : ℕ) (f : PayloadFields) → SettingsBytes s → AllBytes (payload s n f)
 unfolding payload body
 payload-bytes s n f p =
-    bytes-append (head-bytes s p)
+    bytes-append (register-bytes s p)
     (bytes-append
     (bytes-append (moment-bytes (f .details .number) (f .details .date)) (amounts-bytes (f .details .amounts)))
     (closing-bytes s n f p))
 
-pub payload-begins : (s : Settings) (n : ℕ) (f : Fields) → take 4 (payload s n f) ≡ 95 ∷ 82 ∷ 49 ∷ 45 ∷ []
-unfolding payload head
+pub payload-begins : (s : Settings) (n : ℕ) (f : PayloadFields) → take 4 (payload s n f) ≡ 95 ∷ 82 ∷ 49 ∷ 45 ∷ []
+unfolding payload registerPart
 payload-begins s n f = refl
 
-pub payload-long : (s : Settings) (n : ℕ) (f : Fields) → 4 ≤ length (payload s n f)
-unfolding payload head
+pub payload-long : (s : Settings) (n : ℕ) (f : PayloadFields) → 4 ≤ length (payload s n f)
+unfolding payload registerPart
 payload-long s n f = simp length-append (omega arith)

@@ -15,17 +15,17 @@ use Rattle.primitives.proofs.Over.{then}
 use Rattle.primitives.proofs.Base64Lengths.{length-encoding}
 use Rattle.receipt.specs.Decimal.{digits}
 use Rattle.receipt.specs.DateTime.{dateGood, dateText}
-use Rattle.receipt.specs.Settings.{nameText, sized, TypedSettings}
+use Rattle.receipt.specs.Settings.{nameText, sized, SettingsLengths}
 use Rattle.receipt.specs.Details.{amountsGood}
 use Rattle.receipt.specs.Amount.{amountsText}
-use Rattle.receipt.specs.Payload.{base64, head, moment, counterContent, counterField, closing, body, payload, longestPayload, counterGood, fieldsGood, TypedFields}
+use Rattle.receipt.specs.Payload.{base64, registerPart, moment, counterContent, counterField, closing, body, payload, longestPayload, counterGood, fieldsGood, TypedFields}
 use Rattle.receipt.specs.declared.datetime.DateTime.{DateTime}
 use Rattle.receipt.specs.declared.details.Kind.{Kind}
 use Rattle.receipt.specs.declared.details.Kind.the-variants.{Standard, Cancellation, Training}
 use Rattle.receipt.specs.declared.settings.Name.{Name}
 use Rattle.receipt.specs.declared.settings.Settings.{Settings}
-use Rattle.receipt.specs.declared.payload.Fields.{Fields}
-use Rattle.receipt.proofs.Lists.{both}
+use Rattle.receipt.specs.declared.payload.PayloadFields.{PayloadFields}
+use Rattle.primitives.proofs.Rows.{both}
 use Rattle.receipt.proofs.Digits.{length-digits, width-short}
 use Rattle.receipt.proofs.Cents.{amount-short}
 use Rattle.receipt.proofs.Dates.{length-date}
@@ -65,15 +65,15 @@ sized-short s e =
 -- ---- the head
 
 module _ (s : Settings) (three : length (s .csp) ≡ 3) (whole : length (s .id .bytes) ≡ 32) (short : s .id .len ≤ 32) where
-  pub length-head : length (head s) ≡ 9 + s .id .len
-  unfolding head
-  length-head = let l = length-name (s .id) whole short in simp length-append (omega arith)
+  pub length-register : length (registerPart s) ≡ 9 + s .id .len
+  unfolding registerPart
+  length-register = let l = length-name (s .id) whole short in simp length-append (omega arith)
 
-  pub put-head : (b : List ℕ) (at : ℕ) {b₁ b₂ b₃ : List ℕ} → at + (9 + s .id .len) ≤ length b
+  pub put-register : (b : List ℕ) (at : ℕ) {b₁ b₂ b₃ : List ℕ} → at + (9 + s .id .len) ≤ length b
       → b₁ ≡ overwrite b at (95 ∷ 82 ∷ 49 ∷ 45 ∷ []) → b₂ ≡ overwrite b₁ (at + 4) (s .csp ++ (95 ∷ []))
-      → b₃ ≡ overwrite b₂ (at + 8) (take (s .id .len - 0) (drop 0 (s .id .bytes)) ++ (95 ∷ [])) → b₃ ≡ overwrite b at (head s)
-  unfolding head
-  put-head b at {b₁} {b₂} room e₁ e₂ e₃ =
+      → b₃ ≡ overwrite b₂ (at + 8) (take (s .id .len - 0) (drop 0 (s .id .bytes)) ++ (95 ∷ [])) → b₃ ≡ overwrite b at (registerPart s)
+  unfolding registerPart
+  put-register b at {b₁} {b₂} room e₁ e₂ e₃ =
       let l = length-name (s .id) whole short in
       let q₂ = then _ _ _ _ _ e₁ e₂ refl (omega arith) in
       then _ _ _ _ _ q₂ (e₃ ∙ ap (overwrite b₂ (at + 8)) (named (s .id))) (simp length-append (omega arith)) (simp length-append (omega arith))
@@ -114,7 +114,7 @@ marked text b at p q room e e₁ e₂ =
     let l = ap length q in
     record { place = omega arith; is = then _ _ _ _ _ (e₁ ∙ ap (overwrite b at) q) e₂ (omega arith) (omega arith) }
 
-module _ (s : Settings) (n : ℕ) (f : Fields) (whole : length (s .serial .bytes) ≡ 32) (short : s .serial .len ≤ 32) where
+module _ (s : Settings) (n : ℕ) (f : PayloadFields) (whole : length (s .serial .bytes) ≡ 32) (short : s .serial .len ≤ 32) where
   pub length-closing : length (closing s n f) ≡ length (counterField n (f .details .kind) (f .counter)) + s .serial .len + length (base64 (f .chain)) + 2
   unfolding closing
   length-closing = let l = length-name (s .serial) whole short in simp length-append (omega arith)
@@ -132,7 +132,7 @@ module _ (s : Settings) (n : ℕ) (f : Fields) (whole : length (s .serial .bytes
 
 -- ---- the whole
 
-module _ (s : Settings) (n : ℕ) (f : Fields) where
+module _ (s : Settings) (n : ℕ) (f : PayloadFields) where
   pub length-body : length (body s n f) ≡ length (moment (f .details .number) (f .details .date)) + length (amountsText (f .details .amounts)) + length (closing s n f)
   unfolding body
   length-body = simp length-append
@@ -147,12 +147,12 @@ module _ (s : Settings) (n : ℕ) (f : Fields) where
       let q₂ = then _ _ _ _ _ e₁ e₂ hp (omega arith) in
       then _ _ _ _ _ q₂ e₃ (simp length-append (omega arith)) (simp length-append (omega arith))
 
-  pub length-payload : length (payload s n f) ≡ length (head s) + length (body s n f)
+  pub length-payload : length (payload s n f) ≡ length (registerPart s) + length (body s n f)
   unfolding payload
-  length-payload = length-append (head s) (body s n f)
+  length-payload = length-append (registerPart s) (body s n f)
 
-  pub put-payload : (b : List ℕ) (at p : ℕ) {b₁ b₂ : List ℕ} → p ≡ at + length (head s) → at + length (payload s n f) ≤ length b
-      → b₁ ≡ overwrite b at (head s) → b₂ ≡ overwrite b₁ p (body s n f) → b₂ ≡ overwrite b at (payload s n f)
+  pub put-payload : (b : List ℕ) (at p : ℕ) {b₁ b₂ : List ℕ} → p ≡ at + length (registerPart s) → at + length (payload s n f) ≤ length b
+      → b₁ ≡ overwrite b at (registerPart s) → b₂ ≡ overwrite b₁ p (body s n f) → b₂ ≡ overwrite b at (payload s n f)
   unfolding payload
   put-payload b at p q room e₁ e₂ = then _ _ _ _ _ e₁ e₂ q (omega (arith, length-payload))
 
@@ -172,13 +172,13 @@ counter-short n Cancellation counter e = omega (arith, length-base64 (83 ∷ 84 
 counter-short n Training counter e = omega (arith, length-base64 (84 ∷ 82 ∷ 65 ∷ []))
 
 -- what the test of the fields says
-pub record Good (n : ℕ) (f : Fields) : Type 0 where
+pub record Good (n : ℕ) (f : PayloadFields) : Type 0 where
   pub number : 1 ≤ f .details .number
   pub date : dateGood (f .details .date) ≡ true
   pub amounts : amountsGood (f .details .amounts) ≡ true
   pub counter : counterGood n (f .details .kind) (f .counter) ≡ true
 
-pub good : (n : ℕ) (f : Fields) → fieldsGood n f ≡ true → Good n f
+pub good : (n : ℕ) (f : PayloadFields) → fieldsGood n f ≡ true → Good n f
 unfolding fieldsGood
 good n f e =
     let d = dateGood (f .details .date) in
@@ -190,14 +190,14 @@ good n f e =
     record { number = leb-true 1 (f .details .number) (p .0); date = q .0; amounts = r .0; counter = r .1 }
 
 -- what the payload's length depends on
-pub record Sizes (f : Fields) : Type 0 where
+pub record Sizes (f : PayloadFields) : Type 0 where
   pub number : f .details .number < 4294967296
   pub amounts : length (f .details .amounts) ≡ 5
   pub counter : length (f .counter) ≡ 8
   pub chain : length (f .chain) ≡ 8
 
 -- "A payload is at most 195 bytes"
-pub payload-most : (s : Settings) (n : ℕ) (f : Fields) → TypedSettings s → sized s ≡ true → Sizes f → fieldsGood n f ≡ true
+pub payload-most : (s : Settings) (n : ℕ) (f : PayloadFields) → SettingsLengths s → sized s ≡ true → Sizes f → fieldsGood n f ≡ true
     → length (payload s n f) ≤ longestPayload
 payload-most s n f ts z tf e =
     let h = sized-short s z in
@@ -207,7 +207,7 @@ payload-most s n f ts z tf e =
     omega (
       arith,
       length-payload s n f,
-      length-head s (ts .csp) (ts .id) (h .id),
+      length-register s (ts .csp) (ts .id) (h .id),
       length-body s n f,
       length-closing s n f (ts .serial) (h .serial),
       length-moment (f .details .number) (f .details .date),
@@ -220,7 +220,7 @@ payload-most s n f ts z tf e =
       h .serial,
     )
 
-pub payload-short : (s : Settings) (n : ℕ) (f : Fields) → TypedSettings s → sized s ≡ true → TypedFields f → fieldsGood n f ≡ true
+pub payload-short : (s : Settings) (n : ℕ) (f : PayloadFields) → SettingsLengths s → sized s ≡ true → TypedFields f → fieldsGood n f ≡ true
     → length (payload s n f) ≤ longestPayload
 payload-short s n f ts z tf e =
     payload-most s n f ts z (record { number = tf .number; amounts = tf .amounts; counter = tf .counter; chain = tf .chain }) e

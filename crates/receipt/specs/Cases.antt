@@ -10,7 +10,7 @@ use Rattle.primitives.specs.Base64.{encoding}
 use Rattle.primitives.specs.declared.base64.Alphabet.the-variants.{Standard, UrlSafe}
 use Rattle.receipt.specs.Amount.{amount}
 use Rattle.receipt.specs.DateTime.{dateGood}
-use Rattle.receipt.specs.Payload.{header}
+use Rattle.receipt.specs.Form.{header}
 use Rattle.receipt.specs.declared.datetime.DateTime.{DateTime}
 
 pub record Case : Type 0 where

@@ -5,11 +5,11 @@ use mathlib.Core.List.{List, [], _∷_, _++_}
 use mathlib.Core.Option.{Option, none, some, Option·map}
 use lib.Dec.{ltb, eqb}
 use lib.ListN.{length, getD, take, drop}
-use Rattle.primitives.specs.Place.{room, placed}
+use Rattle.primitives.specs.Answers.{answerWith, bufferWith}
 use Rattle.primitives.specs.Base64.{encoding, decoding}
 use Rattle.primitives.specs.declared.base64.Alphabet.the-variants.{Standard}
 use Rattle.receipt.specs.Form.{nextAt, part, Parts, goodParts, signedForm, partsOfForm}
-use Rattle.receipt.specs.declared.machine_code.Answer.{Answer}
+use Rattle.primitives.specs.declared.answer.Answer.{Answer}
 use Rattle.receipt.specs.declared.machine_code.Part.{Part}
 
 -- ---- the text
@@ -34,19 +34,6 @@ partsOfCode text =
     (goodParts (some (take (lastAt 95 text) text)) (decoding Standard (drop (lastAt 95 text + 1) text))) none
 
 -- ---- what the calls answer, and the output after them
-
--- a text that is to be written: its length, or 23 where it doesn't fit
-unfoldable pub written : List ℕ → List ℕ → Answer
-written out text = cond (room out 0 text) (record { number = 0; length = length text }) (record { number = 23; length = 0 })
-
--- a refused call, or one that has a text to write
-abbrev pub answerWith : ℕ → Option (List ℕ) → List ℕ → Answer
-answerWith refused none out = record { number = refused; length = 0 }
-answerWith refused (some text) out = written out text
-
-abbrev pub bufferWith : Option (List ℕ) → List ℕ → List ℕ
-bufferWith none out = out
-bufferWith (some text) out = placed out 0 text
 
 -- Code: good parts? 22. Output long enough? 23
 unfoldable pub codeAnswer : List ℕ → List ℕ → Answer

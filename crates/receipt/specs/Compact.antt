@@ -2,17 +2,18 @@
 use Prim.Native.Nat.{ℕ}
 use mathlib.Core.Bool.{Bool, true, false, cond, not, _&&_, _||_}
 use mathlib.Core.List.{List, []}
+use mathlib.Core.Path.{_≡_}
 use mathlib.Core.Option.{Option, none, some}
 use lib.Dec.{eqb}
 use lib.ListN.{length, replicate}
-use Rattle.primitives.specs.Bytes.{same}
+use Rattle.primitives.specs.Bytes.{AllBytes, same}
 use Rattle.primitives.specs.Counter.{widthGood}
 use Rattle.receipt.specs.Settings.{sized}
-use Rattle.receipt.specs.Payload.{payload, failureText, zeros, fieldsGood}
+use Rattle.receipt.specs.Payload.{payload, zeros, fieldsGood, TypedFields}
 use Rattle.receipt.specs.PayloadReading.{blank, readFields}
-use Rattle.receipt.specs.Form.{Parts, parts, signedInput, signedForm, partsOfForm}
+use Rattle.receipt.specs.Form.{Parts, parts, signedInput, signedForm, partsOfForm, failureText}
 use Rattle.receipt.specs.declared.settings.Settings.{Settings}
-use Rattle.receipt.specs.declared.payload.Fields.{Fields}
+use Rattle.receipt.specs.declared.payload.PayloadFields.{PayloadFields}
 use Rattle.receipt.specs.declared.entry.Signature.{Signature}
 use Rattle.receipt.specs.declared.entry.Entry.{Entry}
 use Rattle.receipt.specs.declared.entry.Found.{Found}
@@ -28,12 +29,18 @@ unfoldable pub compact : Settings → ℕ → Entry → List ℕ
 compact s n e = signedForm (parts (payload s n (e .fields)) (signatureText (e .signature)))
 
 -- what the device signs: what stands before the second "."
-unfoldable pub signingInput : Settings → ℕ → Fields → List ℕ
+unfoldable pub signingInput : Settings → ℕ → PayloadFields → List ℕ
 signingInput s n f = signedInput (payload s n f)
 
 -- "a compact form at most 368"
 abbrev pub longestCompact : ℕ
 longestCompact = 368
+
+-- what the code's types say of an entry
+pub record TypedEntry (e : Entry) : Type 0 where
+  pub fields : TypedFields (e .fields)
+  pub signature : length (e .signature .bytes) ≡ 64
+  pub signatureBytes : AllBytes (e .signature .bytes)
 
 -- ---- which entries have one
 
@@ -45,7 +52,7 @@ signatureZero g = not (g .failed) || zeros (g .bytes)
 unfoldable pub entryGood : ℕ → Entry → Bool
 entryGood n e = fieldsGood n (e .fields) && signatureZero (e .signature)
 
-unfoldable pub preparable : Settings → ℕ → Fields → Bool
+unfoldable pub preparable : Settings → ℕ → PayloadFields → Bool
 preparable s n f = sized s && (widthGood n && fieldsGood n f)
 
 unfoldable pub spellable : Settings → ℕ → Entry → Bool
@@ -53,7 +60,7 @@ spellable s n e = sized s && (widthGood n && entryGood n e)
 
 -- ---- what the writers write: nothing, where there is nothing to spell
 
-unfoldable pub prepared : Settings → ℕ → Fields → List ℕ
+unfoldable pub prepared : Settings → ℕ → PayloadFields → List ℕ
 prepared s n f = cond (preparable s n f) (signingInput s n f) []
 
 unfoldable pub spelled : Settings → ℕ → Entry → List ℕ
@@ -66,7 +73,7 @@ unfoldable pub signatureOf : List ℕ → Signature
 signatureOf text = cond (eqb (length text) 64) (record { failed = false; bytes = text }) (record { failed = true; bytes = replicate 64 0 })
 
 -- the fields have a payload, and it is this text
-unfoldable pub spells : Settings → ℕ → Fields → List ℕ → Bool
+unfoldable pub spells : Settings → ℕ → PayloadFields → List ℕ → Bool
 spells s n f text = sized s && (widthGood n && (fieldsGood n f && same (payload s n f) text))
 
 -- nothing is found
@@ -75,7 +82,7 @@ noEntry =
     record { ok = false; entry = record { fields = blank; signature = record { failed = false; bytes = replicate 64 0 } } }
 
 -- fields that are read loosely, and spelled again
-unfoldable pub entryOf : Settings → ℕ → Fields → Parts → Found
+unfoldable pub entryOf : Settings → ℕ → PayloadFields → Parts → Found
 entryOf s n f p =
     cond (spells s n f (p .payload)) (record { ok = true; entry = record { fields = f; signature = signatureOf (p .signature) } }) noEntry
 

@@ -7,18 +7,12 @@ use lib.ListN.{length, take}
 use Rattle.primitives.specs.Bytes.{AllBytes}
 use Rattle.primitives.specs.Base64.{encoding}
 use Rattle.primitives.specs.declared.base64.Alphabet.the-variants.{UrlSafe}
-use Rattle.receipt.specs.Settings.{TypedSettings}
-use Rattle.receipt.specs.Payload.{SettingsBytes, TypedFields}
+use Rattle.receipt.specs.Settings.{SettingsLengths, SettingsBytes}
+use Rattle.receipt.specs.Payload.{TypedFields}
 use Rattle.receipt.specs.Form.{secondDot}
-use Rattle.receipt.specs.Compact.{signatureText, compact, signingInput, longestCompact, spellable, readEntry}
+use Rattle.receipt.specs.Compact.{TypedEntry, signatureText, compact, signingInput, longestCompact, spellable, readEntry}
 use Rattle.receipt.specs.declared.settings.Settings.{Settings}
 use Rattle.receipt.specs.declared.entry.Entry.{Entry}
-
--- what the code's types say of an entry
-pub record TypedEntry (e : Entry) : Type 0 where
-  pub fields : TypedFields (e .fields)
-  pub signature : length (e .signature .bytes) ≡ 64
-  pub signatureBytes : AllBytes (e .signature .bytes)
 
 -- the text is the compact form of an entry that can be spelled
 pub record Spelled (s : Settings) (n : ℕ) (text : List ℕ) : Type 0 where
@@ -30,24 +24,24 @@ pub record Spelled (s : Settings) (n : ℕ) (text : List ℕ) : Type 0 where
 -- question 16 is exact: the reader accepts the texts that are the compact form of an entry, and finds the entry; it accepts no other text
 abbrev pub Exact : Type 0
 Exact =
-    (s : Settings) (n : ℕ) (text : List ℕ) → TypedSettings s → SettingsBytes s → AllBytes text
+    (s : Settings) (n : ℕ) (text : List ℕ) → SettingsLengths s → SettingsBytes s → AllBytes text
     → (readEntry s n text .ok ≡ true → Spelled s n text) × ((w : Spelled s n text) → readEntry s n text ≡ record { ok = true; entry = w .entry })
 
 -- an entry is read back from its compact form
 abbrev pub Back : Type 0
 Back =
-    (s : Settings) (n : ℕ) (e : Entry) → TypedSettings s → SettingsBytes s → TypedEntry e → spellable s n e ≡ true
+    (s : Settings) (n : ℕ) (e : Entry) → SettingsLengths s → SettingsBytes s → TypedEntry e → spellable s n e ≡ true
     → readEntry s n (compact s n e) ≡ record { ok = true; entry = e }
 
 -- no two entries have one spelling
 abbrev pub OneSpelling : Type 0
 OneSpelling =
-    (s : Settings) (n : ℕ) (e f : Entry) → TypedSettings s → SettingsBytes s → TypedEntry e → TypedEntry f → spellable s n e ≡ true → spellable s n f ≡ true
+    (s : Settings) (n : ℕ) (e f : Entry) → SettingsLengths s → SettingsBytes s → TypedEntry e → TypedEntry f → spellable s n e ≡ true → spellable s n f ≡ true
     → compact s n e ≡ compact s n f → e ≡ f
 
 -- "a compact form at most 368"
 abbrev pub CompactIsShort : Type 0
-CompactIsShort = (s : Settings) (n : ℕ) (e : Entry) → TypedSettings s → TypedEntry e → spellable s n e ≡ true → length (compact s n e) ≤ longestCompact
+CompactIsShort = (s : Settings) (n : ℕ) (e : Entry) → SettingsLengths s → TypedEntry e → spellable s n e ≡ true → length (compact s n e) ≤ longestCompact
 
 -- and longer than any number or register ID
 abbrev pub CompactIsLong : Type 0

@@ -8,7 +8,17 @@ use lib.ListN.{length, take, drop}
 use Rattle.primitives.specs.Bytes.{AllBytes, same}
 use Rattle.primitives.specs.Base64.{encoding, decoding}
 use Rattle.primitives.specs.declared.base64.Alphabet.the-variants.{UrlSafe}
-use Rattle.receipt.specs.Payload.{header, failureText, longestPayload}
+use Rattle.receipt.specs.Payload.{longestPayload}
+
+-- ---- fixed texts
+
+-- {"alg":"ES256"}
+unfoldable pub header : List ℕ
+header = 123 ∷ 34 ∷ 97 ∷ 108 ∷ 103 ∷ 34 ∷ 58 ∷ 34 ∷ 69 ∷ 83 ∷ 50 ∷ 53 ∷ 54 ∷ 34 ∷ 125 ∷ []
+
+-- "Sicherheitseinrichtung ausgefallen"
+unfoldable pub failureText : List ℕ
+failureText = 83 ∷ 105 ∷ 99 ∷ 104 ∷ 101 ∷ 114 ∷ 104 ∷ 101 ∷ 105 ∷ 116 ∷ 115 ∷ 101 ∷ 105 ∷ 110 ∷ 114 ∷ 105 ∷ 99 ∷ 104 ∷ 116 ∷ 117 ∷ 110 ∷ 103 ∷ 32 ∷ 97 ∷ 117 ∷ 115 ∷ 103 ∷ 101 ∷ 102 ∷ 97 ∷ 108 ∷ 108 ∷ 101 ∷ 110 ∷ []
 
 -- ---- finding a byte
 

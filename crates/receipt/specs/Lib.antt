@@ -8,9 +8,9 @@ pub mod DateTime
 pub mod Decimal
 pub mod Details
 pub mod Exact
-pub mod Fields
 pub mod Form
 pub mod FormReading
 pub mod Payload
 pub mod PayloadReading
+pub mod Separated
 pub mod Settings

@@ -17,7 +17,7 @@ use Rattle.receipt.specs.declared.datetime.DateTime.{DateTime}
 use Rattle.receipt.specs.declared.details.Kind.{Kind}
 use Rattle.receipt.specs.declared.details.Kind.the-variants.{Standard, Cancellation, Training}
 use Rattle.receipt.specs.declared.settings.Settings.{Settings}
-use Rattle.receipt.specs.declared.payload.Fields.{Fields}
+use Rattle.receipt.specs.declared.payload.PayloadFields.{PayloadFields}
 
 -- ---- the spelling
 
@@ -26,8 +26,8 @@ abbrev pub base64 : List ℕ → List ℕ
 base64 xs = encoding alphabet.Standard xs
 
 -- "_R1-", the CSP, '_', the ID, '_'
-unfoldable pub head : Settings → List ℕ
-head s = (95 ∷ 82 ∷ 49 ∷ 45 ∷ []) ++ (s .csp ++ (95 ∷ [])) ++ (nameText (s .id) ++ (95 ∷ []))
+unfoldable pub registerPart : Settings → List ℕ
+registerPart s = (95 ∷ 82 ∷ 49 ∷ 45 ∷ []) ++ (s .csp ++ (95 ∷ [])) ++ (nameText (s .id) ++ (95 ∷ []))
 
 -- number, '_', date, '_'
 unfoldable pub moment : ℕ → DateTime → List ℕ
@@ -44,30 +44,20 @@ unfoldable pub counterField : ℕ → Kind → List ℕ → List ℕ
 counterField n kind counter = base64 (counterContent n kind counter)
 
 -- counter field, '_', serial, '_', chain field
-unfoldable pub closing : Settings → ℕ → Fields → List ℕ
+unfoldable pub closing : Settings → ℕ → PayloadFields → List ℕ
 closing s n f =
     (counterField n (f .details .kind) (f .counter) ++ (95 ∷ [])) ++ (nameText (s .serial) ++ (95 ∷ [])) ++ base64 (f .chain)
 
--- what stands behind the head
-unfoldable pub body : Settings → ℕ → Fields → List ℕ
+-- what stands behind the register part
+unfoldable pub body : Settings → ℕ → PayloadFields → List ℕ
 body s n f = moment (f .details .number) (f .details .date) ++ amountsText (f .details .amounts) ++ closing s n f
 
-unfoldable pub payload : Settings → ℕ → Fields → List ℕ
-payload s n f = head s ++ body s n f
+unfoldable pub payload : Settings → ℕ → PayloadFields → List ℕ
+payload s n f = registerPart s ++ body s n f
 
 -- "A payload is at most 195 bytes"
 abbrev pub longestPayload : ℕ
 longestPayload = 195
-
--- ---- fixed texts of the compact form
-
--- {"alg":"ES256"}
-unfoldable pub header : List ℕ
-header = 123 ∷ 34 ∷ 97 ∷ 108 ∷ 103 ∷ 34 ∷ 58 ∷ 34 ∷ 69 ∷ 83 ∷ 50 ∷ 53 ∷ 54 ∷ 34 ∷ 125 ∷ []
-
--- "Sicherheitseinrichtung ausgefallen"
-unfoldable pub failureText : List ℕ
-failureText = 83 ∷ 105 ∷ 99 ∷ 104 ∷ 101 ∷ 114 ∷ 104 ∷ 101 ∷ 105 ∷ 116 ∷ 115 ∷ 101 ∷ 105 ∷ 110 ∷ 114 ∷ 105 ∷ 99 ∷ 104 ∷ 116 ∷ 117 ∷ 110 ∷ 103 ∷ 32 ∷ 97 ∷ 117 ∷ 115 ∷ 103 ∷ 101 ∷ 102 ∷ 97 ∷ 108 ∷ 108 ∷ 101 ∷ 110 ∷ []
 
 -- ---- which fields it may have
 
@@ -82,19 +72,13 @@ counterGood n Standard counter = zeros (drop n counter)
 counterGood n Cancellation counter = zeros counter
 counterGood n Training counter = zeros counter
 
-unfoldable pub fieldsGood : ℕ → Fields → Bool
+unfoldable pub fieldsGood : ℕ → PayloadFields → Bool
 fieldsGood n f =
     leb 1 (f .details .number)
     && (dateGood (f .details .date) && (amountsGood (f .details .amounts) && counterGood n (f .details .kind) (f .counter)))
 
--- what the code's types say: the settings' arrays hold bytes
-pub record SettingsBytes (s : Settings) : Type 0 where
-  pub csp : AllBytes (s .csp)
-  pub id : AllBytes (s .id .bytes)
-  pub serial : AllBytes (s .serial .bytes)
-
--- and the fields are a number of 32 bits, five amounts and eight bytes twice
-pub record TypedFields (f : Fields) : Type 0 where
+-- what the code's types say: a number of 32 bits, five amounts and eight bytes twice
+pub record TypedFields (f : PayloadFields) : Type 0 where
   pub number : f .details .number < 4294967296
   pub amounts : length (f .details .amounts) ≡ 5
   pub counter : length (f .counter) ≡ 8

@@ -9,12 +9,12 @@ use Rattle.primitives.specs.Base64.{decodeBuffer}
 use Rattle.primitives.specs.declared.base64.Alphabet.the-variants as alphabet
 use Rattle.receipt.specs.Decimal.{valueOf}
 use Rattle.receipt.specs.DateTime.{readDate}
-use Rattle.receipt.specs.Fields.{skip, At, readAmounts}
+use Rattle.receipt.specs.Separated.{skip, At, readAmounts}
 use Rattle.receipt.specs.declared.details.Kind.{Kind}
 use Rattle.receipt.specs.declared.details.Kind.the-variants.{Standard, Cancellation, Training}
 use Rattle.receipt.specs.declared.details.Details.{Details}
 use Rattle.receipt.specs.declared.settings.Settings.{Settings}
-use Rattle.receipt.specs.declared.payload.Fields.{Fields}
+use Rattle.receipt.specs.declared.payload.PayloadFields.{PayloadFields}
 use Rattle.receipt.specs.declared.payload.Places.{Places}
 
 -- the bytes that a text of BASE64 stands for, with zeros behind them up to eight; eight zeros where it stands for none, or for more
@@ -38,7 +38,7 @@ readCounter n Training bs = replicate 8 0
 unfoldable pub readChain : List ℕ → List ℕ
 readChain text = eight (drop (length text - 12) text)
 
--- the details, from what stands behind the head
+-- the details, from what stands behind the register part
 unfoldable pub readDetails : List ℕ → Details
 readDetails bs =
     record {
@@ -58,13 +58,13 @@ pub record Placed (text bs : List ℕ) (p : Places) : Type 0 where
   pub amounts : At text (p .amounts) (skip 2 bs)
   pub counter : At text (p .counter) (skip 7 bs)
 
--- the fields of a text, with what stands behind its head
-unfoldable pub foundIn : ℕ → List ℕ → List ℕ → Fields
+-- the fields of a text, with what stands behind its register part
+unfoldable pub foundIn : ℕ → List ℕ → List ℕ → PayloadFields
 foundIn n text bs =
     record { details = readDetails bs; counter = readCounter n (kindOf (skip 7 bs)) (skip 7 bs); chain = readChain text }
 
 -- fields of a text that is too short
-unfoldable pub blank : Fields
+unfoldable pub blank : PayloadFields
 blank =
     record {
       details =
@@ -79,5 +79,5 @@ blank =
     }
 
 -- the ID is not searched: its length comes from the settings
-unfoldable pub readFields : Settings → ℕ → List ℕ → Fields
+unfoldable pub readFields : Settings → ℕ → List ℕ → PayloadFields
 readFields s n text = cond (readable (drop (9 + s .id .len) text)) (foundIn n text (drop (9 + s .id .len) text)) blank

@@ -5,6 +5,7 @@ use mathlib.Core.List.{List, [], _∷_, _++_}
 use mathlib.Core.Path.{_≡_}
 use lib.Dec.{leb, eqb}
 use lib.ListN.{length, getD, take, drop, replicate}
+use Rattle.primitives.specs.Bytes.{AllBytes}
 use Rattle.receipt.specs.declared.settings.Name.{Name}
 use Rattle.receipt.specs.declared.settings.Settings.{Settings}
 use Rattle.receipt.specs.declared.settings.Letters.{Letters}
@@ -74,8 +75,17 @@ settingsGood s = cspGood (s .csp) && (idGood (s .id) && serialGood (s .serial))
 unfoldable pub sized : Settings → Bool
 sized s = leb (s .id .len) 32 && leb (s .serial .len) 32
 
--- what the code's types say
-pub record TypedSettings (s : Settings) : Type 0 where
+-- what the code's types say: arrays of so many elements, which are bytes
+pub record SettingsLengths (s : Settings) : Type 0 where
   pub csp : length (s .csp) ≡ 3
   pub id : length (s .id .bytes) ≡ 32
   pub serial : length (s .serial .bytes) ≡ 32
+
+pub record SettingsBytes (s : Settings) : Type 0 where
+  pub csp : AllBytes (s .csp)
+  pub id : AllBytes (s .id .bytes)
+  pub serial : AllBytes (s .serial .bytes)
+
+pub record TypedSettings (s : Settings) : Type 0 where
+  pub lengths : SettingsLengths s
+  pub bytes : SettingsBytes s

@@ -1,11 +1,11 @@
 // Amounts in cents as euros, ',' and two digits.
 use super::bytes::put8;
+use super::decimal::put_decimal;
 use super::decimal::put_fixed;
-use super::decimal::put_number;
 use super::decimal::value_at;
+use primitives::absolute;
 ghost use mathlib.Core.Path.{_≡_};
 ghost use Prim.Native.Nat.{_+_, _≤_};
-ghost use lib.IntN.{natAbs};
 ghost use lib.ListN.{length, drop};
 ghost use Rattle.primitives.specs.Place.{overwrite};
 ghost use Rattle.receipt.specs.Amount.{cents, amount, withinLimit, readAmount};
@@ -13,20 +13,12 @@ ghost use Rattle.receipt.specs.Amount.{cents, amount, withinLimit, readA
 // The largest amount, in cents.
 const AMOUNT_LIMIT: u64 = 9_999_999_999;
 
-// A number without its sign.
-fn absolute(z: i64) -> u64
-    ensures { λ r. ⌜ r ≡ natAbs z ⌝ }
-{
-    let m = primitives::magnitude(z);
-    if z < 0 { m + 1 } else { m }
-}
-
 // Cents without a sign, at a place; the place behind them.
 fn put_cents(out: &mut [u8], at: usize, m: u64) -> usize
     requires { ⌜ at + length (cents m) ≤ length (now out) ⌝ }
     ensures { λ r. ⌜ (r ≡ at + length (cents m)) × (now (out .exit) ≡ overwrite (now (out .entry)) at (cents m)) ⌝ }
 {
-    let p = put_number(out, at, m / 100);
+    let p = put_decimal(out, at, m / 100);
     put8(out, p, 44);
     put_fixed(out, p + 1, 2, m);
     p + 3

@@ -10,7 +10,7 @@ ghost use lib.ListN.{length, drop};
 ghost use Rattle.primitives.specs.Place.{overwrite};
 ghost use Rattle.receipt.specs.Details.{amountsGood};
 ghost use Rattle.receipt.specs.Amount.{amountsText};
-ghost use Rattle.receipt.specs.Fields.{readAmounts};
+ghost use Rattle.receipt.specs.Separated.{readAmounts};
 
 // Five amounts, each with a '_' behind it, at a place; the place behind them.
 pub(crate) fn put_amounts(out: &mut [u8], at: usize, a: [i64; 5]) -> usize

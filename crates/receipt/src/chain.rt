@@ -1,5 +1,5 @@
 // The chain between receipts, and the encrypted counter.
-use super::decimal::put_number;
+use super::decimal::put_decimal;
 use super::settings::Name;
 use super::settings::lesser;
 ghost use mathlib.Core.Path.{_≡_};
@@ -27,14 +27,14 @@ pub fn counter_key(key: [u8; 32]) -> [[u8; 4]; 60]
 }
 
 // ID then number as spelled, at the start of a buffer; the length.
-fn put_input(out: &mut [u8], id: Name, number: u32) -> usize
+fn put_hash_input(out: &mut [u8], id: Name, number: u32) -> usize
     requires { ⌜ 42 ≤ length (now out) ⌝ }
     ensures { λ r. ⌜ (r ≡ length (hashInput id number)) × (now (out .exit) ≡ overwrite (now (out .entry)) 0 (hashInput id number)) ⌝ }
 {
     let b = id.bytes;
     let n = lesser(id.len, 32);
     let p = primitives::put(out, 0, &b[0..n]);
-    put_number(out, p, number as u64)
+    put_decimal(out, p, number as u64)
 }
 
 // The IV of a receipt's counter: bytes 0 to 15 of SHA-256 of ID then number as spelled.
@@ -42,7 +42,7 @@ pub fn counter_iv(id: Name, number: u32) -> [u8; 16]
     ensures { λ r. ⌜ r ≡ iv id number ⌝ }
 {
     let mut text = [0u8; 42];
-    let n = put_input(&mut text, id, number);
+    let n = put_hash_input(&mut text, id, number);
     let h = primitives::sha256(&text[0..n]);
     let mut r = [0u8; 16];
     let _ = primitives::put(&mut r, 0, &h[0..16]);

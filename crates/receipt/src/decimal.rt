@@ -33,7 +33,7 @@ fn width(n: u64) -> usize
 }
 
 // A number without leading zeros, at a place; the place behind it.
-pub(crate) fn put_number(out: &mut [u8], at: usize, n: u64) -> usize
+pub(crate) fn put_decimal(out: &mut [u8], at: usize, n: u64) -> usize
     requires { ⌜ at + length (digits n) ≤ length (now out) ⌝ }
     ensures { λ r. ⌜ (r ≡ at + length (digits n)) × (now (out .exit) ≡ overwrite (now (out .entry)) at (digits n)) ⌝ }
 {

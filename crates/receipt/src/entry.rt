@@ -1,9 +1,9 @@
 // A receipt as a journal's entry spells it: its compact form, written and read.
 use super::form::LONGEST_PAYLOAD;
 use super::form::put_form;
-use super::form::put_input;
+use super::form::put_signed_input;
 use super::form::read_form;
-use super::payload::Fields;
+use super::payload::PayloadFields;
 use super::payload::blank;
 use super::payload::fields_good;
 use super::payload::put_payload;
@@ -31,7 +31,7 @@ pub struct Signature {
 }
 
 pub struct Entry {
-    pub fields: Fields,
+    pub fields: PayloadFields,
     pub signature: Signature,
 }
 
@@ -56,7 +56,7 @@ fn sized(s: Settings) -> bool
 }
 
 // These fields have a payload.
-fn preparable(s: Settings, n: usize, f: Fields) -> bool
+fn preparable(s: Settings, n: usize, f: PayloadFields) -> bool
     ensures { λ r. ⌜ r ≡ preparable s n f ⌝ }
 {
     if !sized(s) {
@@ -69,7 +69,7 @@ fn preparable(s: Settings, n: usize, f: Fields) -> bool
 }
 
 // Writes the payload to the start of a buffer; its length, 0 where the fields have none.
-fn prepare(s: Settings, n: usize, f: Fields, out: &mut [u8]) -> usize
+fn write_payload(s: Settings, n: usize, f: PayloadFields, out: &mut [u8]) -> usize
     requires { ⌜ length (now out) ≡ longestPayload ⌝ }
     ensures { λ r. ⌜ (r ≤ longestPayload) × (take r (now (out .exit)) ≡ cond (preparable s n f) (payload s n f) []) ⌝ }
 {
@@ -111,7 +111,7 @@ pub fn put_compact(s: Settings, n: usize, e: Entry, out: &mut [u8], at: usize) -
     let f = e.fields;
     let g = e.signature;
     let mut payload = [0u8; LONGEST_PAYLOAD];
-    let m = prepare(s, n, f, &mut payload);
+    let m = write_payload(s, n, f, &mut payload);
     if m == 0 {
         return at;
     }
@@ -122,25 +122,31 @@ pub fn put_compact(s: Settings, n: usize, e: Entry, out: &mut [u8], at: usize) -
 }
 
 // Writes the compact form up to its second '.', without it.
-pub fn put_signing_input(s: Settings, n: usize, f: Fields, out: &mut [u8], at: usize) -> usize
+pub fn put_signing_input(
+    s: Settings,
+    n: usize,
+    f: PayloadFields,
+    out: &mut [u8],
+    at: usize,
+) -> usize
     ensures { λ r. ⌜ (r ≡ behind (now (out .entry)) at (prepared s n f)) × (now (out .exit) ≡ placed (now (out .entry)) at (prepared s n f)) ⌝ }
 {
     let mut payload = [0u8; LONGEST_PAYLOAD];
-    let m = prepare(s, n, f, &mut payload);
+    let m = write_payload(s, n, f, &mut payload);
     if m == 0 {
         return at;
     }
-    put_input(&payload[0..m], out, at)
+    put_signed_input(&payload[0..m], out, at)
 }
 
 // ---- reading
 
 // The fields have a payload, and it is this text.
-fn spells(s: Settings, n: usize, f: Fields, text: &[u8]) -> bool
+fn spells(s: Settings, n: usize, f: PayloadFields, text: &[u8]) -> bool
     ensures { λ r. ⌜ r ≡ spells s n f (now (text .entry)) ⌝ }
 {
     let mut payload = [0u8; LONGEST_PAYLOAD];
-    let m = prepare(s, n, f, &mut payload);
+    let m = write_payload(s, n, f, &mut payload);
     if m == 0 {
         return false;
     }

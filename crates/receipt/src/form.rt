@@ -132,7 +132,7 @@ fn put_element(out: &mut [u8], at: usize, s: &[u8]) -> usize
 }
 
 // What is signed of a compact form: the elements of header and payload with the '.' between them, at a place; the place behind them.
-pub(crate) fn put_input(payload: &[u8], out: &mut [u8], at: usize) -> usize
+pub(crate) fn put_signed_input(payload: &[u8], out: &mut [u8], at: usize) -> usize
     requires { ⌜ length (now payload) ≤ longestPayload ⌝ }
     ensures { λ r. ⌜ (r ≡ behind (now (out .entry)) at (signedInput (now (payload .entry)))) × (now (out .exit) ≡ placed (now (out .entry)) at (signedInput (now (payload .entry)))) ⌝ }
 {
@@ -153,6 +153,6 @@ pub(crate) fn put_form(payload: &[u8], signature: &[u8], out: &mut [u8], at: usi
     if !has_room(out.len(), at, total) {
         return at;
     }
-    let p = put_input(payload, out, at);
+    let p = put_signed_input(payload, out, at);
     put_element(out, p, signature)
 }

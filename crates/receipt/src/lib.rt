@@ -32,23 +32,23 @@ pub use entry::Signature;
 pub use entry::put_compact;
 pub use entry::put_signing_input;
 pub use entry::read_entry;
-pub use machine_code::Answer;
 pub use machine_code::Part;
 pub use machine_code::code;
 pub use machine_code::fields;
 pub use machine_code::id_place;
 pub use machine_code::uncode;
-pub use payload::Fields;
+pub use payload::PayloadFields;
 pub use settings::Letters;
 pub use settings::Name;
 pub use settings::Settings;
 pub use settings::csp_good;
 pub use settings::id_good;
-pub use settings::name_at;
+pub use settings::name_of;
 pub use settings::serial_good;
 pub use settings::settings_good;
 
-// What the journal needs of the primitives: bytes and numbers at a place of a buffer, and the widths of a counter.
+// What the journal needs of the primitives: answers, bytes and numbers at a place of a buffer, and the widths of a counter.
+pub use primitives::Answer;
 pub use primitives::Number;
 pub use primitives::counter_fits;
 pub use primitives::has_room;

@@ -9,6 +9,7 @@ use super::form::put_form;
 use super::form::read_form;
 use super::form::signature_good;
 use primitives::Alphabet;
+use primitives::Answer;
 use primitives::base64_encode;
 use primitives::put;
 ghost use mathlib.Core.Path.{_≡_};
@@ -18,13 +19,8 @@ ghost use Rattle.primitives.specs.Place.{placed};
 ghost use Rattle.receipt.specs.Payload.{longestPayload};
 ghost use Rattle.receipt.specs.Form.{parts, part};
 ghost use Rattle.receipt.specs.FormReading.{found};
-ghost use Rattle.receipt.specs.Code.{lastAt, codeText, partsOfCode, written, codeAnswer, codeBuffer, uncodeAnswer, uncodeBuffer, nowhere, idPlace, idField};
-
-// What a call that writes a text answers: 0 and the text's length, or the number of the question and 0.
-pub struct Answer {
-    pub number: u32,
-    pub length: usize,
-}
+ghost use Rattle.receipt.specs.Code.{lastAt, codeText, partsOfCode, codeAnswer, codeBuffer, uncodeAnswer, uncodeBuffer, nowhere, idPlace, idField};
+ghost use Rattle.primitives.specs.Answers.{written};
 
 // ---- reading
 

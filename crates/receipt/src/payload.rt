@@ -9,7 +9,7 @@ use super::datetime::DateTime;
 use super::datetime::date_good;
 use super::datetime::put_date;
 use super::datetime::read_date;
-use super::decimal::put_number;
+use super::decimal::put_decimal;
 use super::decimal::value_at;
 use super::details::Details;
 use super::details::Kind;
@@ -25,11 +25,11 @@ ghost use lib.ListN.{length, take, drop};
 ghost use Rattle.primitives.specs.Place.{overwrite};
 ghost use Rattle.primitives.specs.Counter.{widthGood};
 ghost use Rattle.receipt.specs.Settings.{sized};
-ghost use Rattle.receipt.specs.Payload.{base64, head, moment, counterContent, counterField, closing, body, payload, zeros, counterGood, fieldsGood};
+ghost use Rattle.receipt.specs.Payload.{base64, registerPart, moment, counterContent, counterField, closing, body, payload, zeros, counterGood, fieldsGood};
 ghost use Rattle.receipt.specs.PayloadReading.{eight, fieldWidth, kindOf, readCounter, readChain, readDetails, readable, Placed, foundIn, blank, readFields};
 
 // What a payload spells. The counter: N bytes and zeros behind them; eight zeros where the kind is not Standard.
-pub struct Fields {
+pub struct PayloadFields {
     pub details: Details,
     pub counter: [u8; 8],
     pub chain: [u8; 8],
@@ -46,9 +46,9 @@ fn put_base64(out: &mut [u8], at: usize, src: &[u8]) -> usize
 }
 
 // "_R1-", the CSP, '_', the ID, '_', at a place; the place behind them.
-fn put_head(out: &mut [u8], at: usize, s: Settings) -> usize
+fn put_register(out: &mut [u8], at: usize, s: Settings) -> usize
     requires { ⌜ (s .id .len ≤ 32) × (at + (9 + s .id .len) ≤ length (now out)) ⌝ }
-    ensures { λ r. ⌜ (r ≡ at + (9 + s .id .len)) × (now (out .exit) ≡ overwrite (now (out .entry)) at (head s)) ⌝ }
+    ensures { λ r. ⌜ (r ≡ at + (9 + s .id .len)) × (now (out .exit) ≡ overwrite (now (out .entry)) at (registerPart s)) ⌝ }
 {
     let csp = s.csp;
     let id = s.id;
@@ -65,7 +65,7 @@ fn put_moment(out: &mut [u8], at: usize, number: u32, date: DateTime) -> usize
     requires { ⌜ at + length (moment number date) ≤ length (now out) ⌝ }
     ensures { λ r. ⌜ (r ≡ at + length (moment number date)) × (now (out .exit) ≡ overwrite (now (out .entry)) at (moment number date)) ⌝ }
 {
-    let p = put_number(out, at, number as u64);
+    let p = put_decimal(out, at, number as u64);
     put8(out, p, 95);
     put_date(out, p + 1, date);
     put8(out, p + 20, 95);
@@ -112,7 +112,7 @@ fn put_counter(out: &mut [u8], at: usize, n: usize, kind: Kind, counter: [u8; 8]
 }
 
 // Counter field, '_', serial, '_' and chain field, at a place; the place behind them.
-fn put_closing(out: &mut [u8], at: usize, s: Settings, n: usize, f: Fields) -> usize
+fn put_closing(out: &mut [u8], at: usize, s: Settings, n: usize, f: PayloadFields) -> usize
     requires { ⌜ (s .serial .len ≤ 32) × (n ≤ 8) × (at + length (closing s n f) ≤ length (now out)) ⌝ }
     ensures { λ r. ⌜ (r ≡ at + length (closing s n f)) × (now (out .exit) ≡ overwrite (now (out .entry)) at (closing s n f)) ⌝ }
 {
@@ -128,8 +128,8 @@ fn put_closing(out: &mut [u8], at: usize, s: Settings, n: usize, f: Fields) -> u
     put_base64(out, p + m + 1, &chain)
 }
 
-// What stands behind the head, at a place; the place behind it.
-fn put_body(out: &mut [u8], at: usize, s: Settings, n: usize, f: Fields) -> usize
+// What stands behind the register part, at a place; the place behind it.
+fn put_body(out: &mut [u8], at: usize, s: Settings, n: usize, f: PayloadFields) -> usize
     requires { ⌜ (s .serial .len ≤ 32) × (n ≤ 8) × (at + length (body s n f) ≤ length (now out)) ⌝ }
     ensures { λ r. ⌜ (r ≡ at + length (body s n f)) × (now (out .exit) ≡ overwrite (now (out .entry)) at (body s n f)) ⌝ }
 {
@@ -142,11 +142,17 @@ fn put_body(out: &mut [u8], at: usize, s: Settings, n: usize, f: Fields) -> usiz
 }
 
 // A payload, at a place; the place behind it.
-pub(crate) fn put_payload(out: &mut [u8], at: usize, s: Settings, n: usize, f: Fields) -> usize
+pub(crate) fn put_payload(
+    out: &mut [u8],
+    at: usize,
+    s: Settings,
+    n: usize,
+    f: PayloadFields,
+) -> usize
     requires { ⌜ (sized s ≡ true) × (widthGood n ≡ true) × (at + length (payload s n f) ≤ length (now out)) ⌝ }
     ensures { λ r. ⌜ (r ≡ at + length (payload s n f)) × (now (out .exit) ≡ overwrite (now (out .entry)) at (payload s n f)) ⌝ }
 {
-    let p = put_head(out, at, s);
+    let p = put_register(out, at, s);
     put_body(out, p, s, n, f)
 }
 
@@ -178,7 +184,7 @@ fn counter_good(n: usize, kind: Kind, counter: [u8; 8]) -> bool
 }
 
 // What a payload's fields have to be: number not 0, date and time, amounts within limits, no stray byte of the counter.
-pub(crate) fn fields_good(n: usize, f: Fields) -> bool
+pub(crate) fn fields_good(n: usize, f: PayloadFields) -> bool
     ensures { λ r. ⌜ r ≡ fieldsGood n f ⌝ }
 {
     let d = f.details;
@@ -307,7 +313,7 @@ fn read_details(text: &[u8], at: usize, p: Places) -> Details
 }
 
 // The fields from a place on.
-fn read_fields(text: &[u8], at: usize, n: usize, p: Places) -> Fields
+fn read_fields(text: &[u8], at: usize, n: usize, p: Places) -> PayloadFields
     requires { ⌜ (at ≤ length (now text)) × (Placed (now text) (drop at (now text)) p) × (readable (drop at (now text)) ≡ true) ⌝ }
     ensures { λ r. ⌜ r ≡ foundIn n (now (text .entry)) (drop at (now (text .entry))) ⌝ }
 {
@@ -315,7 +321,7 @@ fn read_fields(text: &[u8], at: usize, n: usize, p: Places) -> Fields
     let kind = details.kind;
     let counter = read_counter(text, p.counter, n, kind);
     let chain = read_chain(text);
-    Fields {
+    PayloadFields {
         details: details,
         counter: counter,
         chain: chain,
@@ -323,10 +329,10 @@ fn read_fields(text: &[u8], at: usize, n: usize, p: Places) -> Fields
 }
 
 // Fields of a text that is too short.
-pub(crate) fn blank() -> Fields
+pub(crate) fn blank() -> PayloadFields
     ensures { λ r. ⌜ r ≡ blank ⌝ }
 {
-    Fields {
+    PayloadFields {
         details: Details {
             number: 0,
             date: DateTime {
@@ -346,7 +352,7 @@ pub(crate) fn blank() -> Fields
 }
 
 // The fields of a payload's bytes, read loosely: whether they spell these bytes is decided by spelling them again.
-pub(crate) fn read_payload(s: Settings, n: usize, text: &[u8]) -> Fields
+pub(crate) fn read_payload(s: Settings, n: usize, text: &[u8]) -> PayloadFields
     ensures { λ r. ⌜ r ≡ readFields s n (now (text .entry)) ⌝ }
 {
     let id = s.id;

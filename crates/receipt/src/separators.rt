@@ -1,7 +1,7 @@
 // Fields joined by '_': the places behind the next ones.
 ghost use Prim.Native.Nat.{_≤_};
 ghost use lib.ListN.{length, drop};
-ghost use Rattle.receipt.specs.Fields.{after, skip, At};
+ghost use Rattle.receipt.specs.Separated.{after, skip, At};
 
 // The place behind the next '_', or the end.
 pub(crate) fn next_field(text: &[u8], at: usize) -> usize

@@ -143,7 +143,7 @@ pub(crate) fn lesser(a: usize, b: usize) -> usize
 }
 
 // The name with this text. Of a text over 32 bytes the first 32 are copied, and its length makes the name bad.
-pub fn name_at(text: &[u8]) -> Name
+pub fn name_of(text: &[u8]) -> Name
     ensures { λ r. ⌜ r ≡ nameOf (now (text .entry)) ⌝ }
 {
     let len = text.len();

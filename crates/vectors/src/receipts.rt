@@ -11,8 +11,8 @@ use receipt::Answer;
 use receipt::DateTime;
 use receipt::Details;
 use receipt::Entry;
-use receipt::Fields;
 use receipt::Kind;
+use receipt::PayloadFields;
 use receipt::Settings;
 use receipt::Signature;
 
@@ -36,7 +36,7 @@ pub(crate) fn number_of(text: &[u8]) -> u32 {
 
 // The IV of a receipt's counter.
 pub(crate) fn iv_row(line: &[u8]) {
-    let iv = receipt::counter_iv(receipt::name_at(field(line, 1)), number_of(field(line, 2)));
+    let iv = receipt::counter_iv(receipt::name_of(field(line, 1)), number_of(field(line, 2)));
     print_hex(field(line, 0), &iv, 16);
 }
 
@@ -46,7 +46,7 @@ pub(crate) fn counter_row(line: &[u8]) {
     let mut key = [0u8; 32];
     unhex(field(line, 1), &mut key);
     let schedule = receipt::counter_key(key);
-    let id = receipt::name_at(field(line, 2));
+    let id = receipt::name_of(field(line, 2));
     let number = number_of(field(line, 3));
     let cents = decimal(field(line, 4));
     let bytes = receipt::encrypt_counter(&schedule, id, number, n, cents);
@@ -99,8 +99,8 @@ pub(crate) fn settings_of(csp: &[u8], id: &[u8], serial: &[u8]) -> Settings {
     primitives::put(&mut letters, 0, csp);
     Settings {
         csp: letters,
-        id: receipt::name_at(id),
-        serial: receipt::name_at(serial),
+        id: receipt::name_of(id),
+        serial: receipt::name_of(serial),
     }
 }
 
@@ -138,7 +138,7 @@ pub(crate) fn compact_row(line: &[u8]) {
 // A training receipt of one amount, for a register whose device has failed.
 fn entry_of(cents: i64) -> Entry {
     Entry {
-        fields: Fields {
+        fields: PayloadFields {
             details: Details {
                 number: 1,
                 date: DateTime {

@@ -1,12 +1,12 @@
 -- `layout::put_settings` meets its contract.
-use Rattle.receipt.specs.Settings.{TypedSettings}
+use Rattle.receipt.specs.Settings.{SettingsLengths}
 use Rattle.device.proofs.Writers.{put-settings}
 use borrow.Author.Needs.{needs}
 use Rattle.device.proofs.layout.put_settings.Statement.{statement}
 use Rattle.device.proofs.layout.put_settings.Tie as tie
 
 -- what the types say of the settings
-typed : (c : tie.Start) → TypedSettings (c .args .s)
+typed : (c : tie.Start) → SettingsLengths (c .args .s)
 typed c = record { csp = search needs; id = search needs; serial = search needs }
 
 put-names-requires : tie.Need-put-names-requires

@@ -1,14 +1,14 @@
 -- `layout::put_state` meets its contract.
 use mathlib.Core.Path.{_≡_}
 use lib.ListN.{length}
-use Rattle.receipt.specs.Settings.{TypedSettings}
+use Rattle.receipt.specs.Settings.{SettingsLengths}
 use Rattle.device.proofs.Writers.{put-state}
 use borrow.Author.Needs.{needs}
 use Rattle.device.proofs.layout.put_state.Statement.{statement}
 use Rattle.device.proofs.layout.put_state.Tie as tie
 
 -- what the types say of the settings
-typed : (c : tie.Start) → TypedSettings (c .args .st .settings)
+typed : (c : tie.Start) → SettingsLengths (c .args .st .settings)
 typed c = record { csp = search needs; id = search needs; serial = search needs }
 
 put-settings-requires : tie.Need-put-settings-requires

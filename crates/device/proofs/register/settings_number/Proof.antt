@@ -1,7 +1,7 @@
 -- `register::settings_number` meets its contract.
 use borrow.Author.Tests.{eq-eqb, ne-eqb}
 use Rattle.primitives.proofs.Questions.{yes, no}
-use Rattle.journal.specs.State.{ask}
+use Rattle.primitives.specs.Questions.{ask}
 use Rattle.device.specs.Calls.{settingsNumber}
 use borrow.Author.Needs.{needs}
 use Rattle.device.proofs.register.settings_number.Statement.{statement}

@@ -1,7 +1,7 @@
 -- A row of questions.
 use Rattle.journal.specs.Issue.{numberAbove}
 use Rattle.journal.specs.TakeOver.{fieldsNumber}
-use Rattle.journal.proofs.Asking.{rows}
+use Rattle.primitives.proofs.Rows.{rows}
 use borrow.Author.Needs.{needs}
 use Rattle.journal.proofs.checking.fields_number.Statement.{statement}
 use Rattle.journal.proofs.checking.fields_number.Tie as tie

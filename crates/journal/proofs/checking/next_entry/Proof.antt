@@ -1,6 +1,6 @@
 -- The bytes of the entry, and then what they say.
 use native.Mathlib.Omega.{arith}
-use Rattle.receipt.proofs.Lists.{not-no, not-yes}
+use Rattle.primitives.proofs.Rows.{not-no, not-yes}
 use Rattle.journal.proofs.Steps.{stays, step-no, step-is, there-count, there-room, Room}
 use borrow.Author.Needs.{needs}
 use Rattle.journal.proofs.checking.next_entry.Statement.{statement}

@@ -1,7 +1,7 @@
 -- The questions of the head, and then the entries.
 use mathlib.Core.Path.{sym, ap, _∙_}
 use Rattle.receipt.specs.Settings.{settingsGood}
-use Rattle.receipt.proofs.Lists.{not-no, not-yes}
+use Rattle.primitives.proofs.Rows.{not-no, not-yes}
 use Rattle.journal.proofs.Readings.{head-no, head-is, whole-room}
 use Rattle.journal.proofs.Steps.{over-width, over-head, over-read, fresh-starts}
 use borrow.Author.Needs.{needs}

@@ -2,7 +2,7 @@
 use Rattle.journal.proofs.Steps.{room-yes}
 use native.Mathlib.Omega.{arith}
 use borrow.Author.Tests.{leb-true}
-use Rattle.receipt.proofs.Lists.{and-no, not-no, not-yes}
+use Rattle.primitives.proofs.Rows.{and-no, not-no, not-yes}
 use Rattle.journal.specs.TakeOver.{there}
 use Rattle.journal.proofs.Steps.{there-is}
 use borrow.Author.Needs.{needs}

@@ -1,7 +1,7 @@
 -- `issuing::issue_number` meets its contract.
 use mathlib.Core.Path.{sym, _∙_}
 use Rattle.primitives.proofs.Questions.{yes, no}
-use Rattle.journal.proofs.Asking.{ask-yes, ask-no}
+use Rattle.primitives.proofs.Rows.{ask-yes, ask-no}
 use Rattle.journal.proofs.IssueCalls.{details-no, details-past}
 use borrow.Author.Needs.{needs}
 use Rattle.journal.proofs.issuing.issue_number.Statement.{statement}

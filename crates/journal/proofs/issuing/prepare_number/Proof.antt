@@ -1,7 +1,7 @@
 -- `issuing::prepare_number` meets its contract.
 use mathlib.Core.Path.{sym, _∙_}
 use Rattle.primitives.proofs.Questions.{yes, no}
-use Rattle.journal.proofs.Asking.{ask-yes, ask-no}
+use Rattle.primitives.proofs.Rows.{ask-yes, ask-no}
 use borrow.Author.Needs.{needs}
 use Rattle.journal.proofs.issuing.prepare_number.Statement.{statement}
 use Rattle.journal.proofs.issuing.prepare_number.Tie as tie

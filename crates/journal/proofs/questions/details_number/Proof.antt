@@ -3,7 +3,7 @@ use mathlib.Core.Path.{ap}
 use Rattle.receipt.specs.declared.details.After.{After}
 use borrow.Author.Tests.{le-ltb, lt-ltb}
 use Rattle.primitives.proofs.Questions.{yes, no}
-use Rattle.journal.specs.State.{ask}
+use Rattle.primitives.specs.Questions.{ask}
 use Rattle.journal.specs.Issue.{numberAbove, detailsNumber}
 use borrow.Author.Needs.{needs}
 use Rattle.journal.proofs.questions.details_number.Statement.{statement}

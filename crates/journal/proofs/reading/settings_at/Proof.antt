@@ -20,29 +20,29 @@ count-at-requires-2 c κs = (omega arith, omega (arith, id-read (c .before .befo
 add-c : tie.Need-add-c
 add-c c = search needs
 
-sub-name-at : tie.Need-sub-name-at
-sub-name-at c = search needs
+sub-name-of : tie.Need-sub-name-of
+sub-name-of c = search needs
 
-part-name-at-start : tie.Need-part-name-at-start
-part-name-at-start c = search needs
+part-name-of-start : tie.Need-part-name-of-start
+part-name-of-start c = search needs
 
-part-name-at-end : tie.Need-part-name-at-end
-part-name-at-end c = omega (arith, id-read (c .before .before .before .args .j .now) (c .before .count-at .ensures .0), c .before .before .before .pre)
+part-name-of-end : tie.Need-part-name-of-end
+part-name-of-end c = omega (arith, id-read (c .before .before .before .args .j .now) (c .before .count-at .ensures .0), c .before .before .before .pre)
 
-name-at-requires : tie.Need-name-at-requires
-name-at-requires c κs = search needs
+name-of-requires : tie.Need-name-of-requires
+name-of-requires c κs = search needs
 
-sub-name-at-2 : tie.Need-sub-name-at-2
-sub-name-at-2 c = search needs
+sub-name-of-2 : tie.Need-sub-name-of-2
+sub-name-of-2 c = search needs
 
-part-name-at-start-2 : tie.Need-part-name-at-start-2
-part-name-at-start-2 c = search needs
+part-name-of-start-2 : tie.Need-part-name-of-start-2
+part-name-of-start-2 c = search needs
 
-part-name-at-end-2 : tie.Need-part-name-at-end-2
-part-name-at-end-2 c = omega (arith, id-read (c .before .before .before .before .before .args .j .now) (c .before .before .before .count-at .ensures .0), serial-read (c .before .before .before .before .before .args .j .now) (c .before .before .before .count-at .ensures .0) (c .before .before .count-at2 .ensures .0), c .before .before .before .before .before .pre)
+part-name-of-end-2 : tie.Need-part-name-of-end-2
+part-name-of-end-2 c = omega (arith, id-read (c .before .before .before .before .before .args .j .now) (c .before .before .before .count-at .ensures .0), serial-read (c .before .before .before .before .before .args .j .now) (c .before .before .before .count-at .ensures .0) (c .before .before .count-at2 .ensures .0), c .before .before .before .before .before .pre)
 
-name-at-requires-2 : tie.Need-name-at-requires-2
-name-at-requires-2 c κs = search needs
+name-of-requires-2 : tie.Need-name-of-requires-2
+name-of-requires-2 c κs = search needs
 
 shared-slice-read-t15 : tie.Need-shared-slice-read-t15
 shared-slice-read-t15 c = search needs
@@ -54,7 +54,7 @@ shared-slice-read-t19 : tie.Need-shared-slice-read-t19
 shared-slice-read-t19 c = search needs
 
 returns : tie.Need-returns
-returns c = settings-read (c .before .before .before .before .before .before .before .before .before .before .args .j .now) (c .before .before .before .before .before .before .before .before .count-at .ensures .0) (c .before .before .before .before .before .before .before .count-at2 .ensures .0) (c .before .before .before .before .before .before .before .before .before .before .pre) (c .before .before .before .before .before .name-at .ensures) (c .before .before .before .name-at2 .ensures)
+returns c = settings-read (c .before .before .before .before .before .before .before .before .before .before .args .j .now) (c .before .before .before .before .before .before .before .before .count-at .ensures .0) (c .before .before .before .before .before .before .before .count-at2 .ensures .0) (c .before .before .before .before .before .before .before .before .before .before .pre) (c .before .before .before .before .before .name-of .ensures) (c .before .before .before .name-of2 .ensures)
 
 pub settings-at-spec : {M : Type 1} → statement M
 settings-at-spec =
@@ -65,14 +65,14 @@ settings-at-spec =
     add-b
     count-at-requires-2
     add-c
-    sub-name-at
-    part-name-at-start
-    part-name-at-end
-    name-at-requires
-    sub-name-at-2
-    part-name-at-start-2
-    part-name-at-end-2
-    name-at-requires-2
+    sub-name-of
+    part-name-of-start
+    part-name-of-end
+    name-of-requires
+    sub-name-of-2
+    part-name-of-start-2
+    part-name-of-end-2
+    name-of-requires-2
     shared-slice-read-t15
     shared-slice-read-t17
     shared-slice-read-t19

@@ -3,7 +3,7 @@ use native.Mathlib.Omega.{arith}
 use borrow.Author.Tests.{le-leb, lt-leb}
 use Rattle.primitives.proofs.Questions.{yes, no}
 use Rattle.journal.specs.Head.{headLength}
-use Rattle.journal.specs.State.{ask}
+use Rattle.primitives.specs.Questions.{ask}
 use Rattle.journal.specs.Open.{openNumber}
 use Rattle.receipt.proofs.Entries.{all-settings}
 use borrow.Author.Needs.{needs}

@@ -1,12 +1,12 @@
 -- `register::put_csp` meets its contract.
-use Rattle.receipt.specs.Settings.{TypedSettings}
+use Rattle.receipt.specs.Settings.{SettingsLengths}
 use Rattle.journal.proofs.OpenCalls.{put-csp}
 use borrow.Author.Needs.{needs}
 use Rattle.journal.proofs.register.put_csp.Statement.{statement}
 use Rattle.journal.proofs.register.put_csp.Tie as tie
 
 -- what the types say of the settings
-typed : (c : tie.Start) → TypedSettings (c .args .s)
+typed : (c : tie.Start) → SettingsLengths (c .args .s)
 typed c = record { csp = search needs; id = search needs; serial = search needs }
 
 put-number-requires : tie.Need-put-number-requires

@@ -1,13 +1,13 @@
 -- `register::put_head` meets its contract.
 use native.Mathlib.Omega.{arith}
-use Rattle.receipt.specs.Settings.{TypedSettings}
+use Rattle.receipt.specs.Settings.{SettingsLengths}
 use Rattle.journal.proofs.OpenCalls.{head-least, put-head}
 use borrow.Author.Needs.{needs}
 use Rattle.journal.proofs.register.put_head.Statement.{statement}
 use Rattle.journal.proofs.register.put_head.Tie as tie
 
 -- what the types say of the settings
-typed : (c : tie.Start) → TypedSettings (c .args .s)
+typed : (c : tie.Start) → SettingsLengths (c .args .s)
 typed c = record { csp = search needs; id = search needs; serial = search needs }
 
 put-csp-requires : tie.Need-put-csp-requires

@@ -1,14 +1,14 @@
 -- `register::put_names` meets its contract.
 use native.Mathlib.Omega.{arith}
 use Rattle.receipt.proofs.Names.{good-settings}
-use Rattle.receipt.specs.Settings.{TypedSettings}
+use Rattle.receipt.specs.Settings.{SettingsLengths}
 use Rattle.journal.proofs.OpenCalls.{put-names}
 use borrow.Author.Needs.{needs}
 use Rattle.journal.proofs.register.put_names.Statement.{statement}
 use Rattle.journal.proofs.register.put_names.Tie as tie
 
 -- what the types say of the settings
-typed : (c : tie.Start) → TypedSettings (c .args .s)
+typed : (c : tie.Start) → SettingsLengths (c .args .s)
 typed c = record { csp = search needs; id = search needs; serial = search needs }
 
 sub-put : tie.Need-sub-put

@@ -15,11 +15,11 @@ thirty-two c = search needs
 small : (c : tie.Start) → c .args .number < 2 ^ 32
 small c = search needs
 
-slice-aggregate-put-input : tie.Need-slice-aggregate-put-input
-slice-aggregate-put-input c = search needs
+slice-aggregate-put-hash-input : tie.Need-slice-aggregate-put-hash-input
+slice-aggregate-put-hash-input c = search needs
 
-put-input-requires : tie.Need-put-input-requires
-put-input-requires c κs = search needs
+put-hash-input-requires : tie.Need-put-hash-input-requires
+put-hash-input-requires c κs = search needs
 
 sub-sha256 : tie.Need-sub-sha256
 sub-sha256 c = search needs
@@ -31,7 +31,7 @@ part-sha256-end : tie.Need-part-sha256-end
 part-sha256-end c =
     let start = c .before .before .before .before in
     let short = input-short (start .args .id) (start .args .number) (thirty-two start) (small start) in
-    omega (arith, short, c .before .before .put-input .ensures .0, ap length (c .before .before .put-input .ensures .1))
+    omega (arith, short, c .before .before .put-hash-input .ensures .0, ap length (c .before .before .put-hash-input .ensures .1))
 
 sha256-requires : tie.Need-sha256-requires
 sha256-requires c κs = search needs
@@ -54,15 +54,15 @@ put-requires c κs = search needs
 returns : tie.Need-returns
 returns c =
     let start = c .before .before .before .before .before .before .before .before .before .before .before in
-    let put = c .before .before .before .before .before .before .before .before .before .put-input in
+    let put = c .before .before .before .before .before .before .before .before .before .put-hash-input in
     iv-first (start .args .id) (start .args .number) (input-lent _ _ _ (input-short _ _ (thirty-two start) (small start)) (put .ensures .0) (put .ensures .1)) (c .before .before .before .before .before .sha256 .ensures) (c .before .put .ensures .1)
 
 pub counter-iv-spec : {M : Type 1} → statement M
 counter-iv-spec =
     tie.close
     (tie.spec
-    slice-aggregate-put-input
-    put-input-requires
+    slice-aggregate-put-hash-input
+    put-hash-input-requires
     sub-sha256
     part-sha256-start
     part-sha256-end

@@ -1,5 +1,5 @@
 -- `datetime::date_good` meets its contract.
-use Rattle.receipt.proofs.Lists.{asks}
+use Rattle.primitives.proofs.Rows.{asks}
 use Rattle.receipt.specs.DateTime.{dateGood}
 use borrow.Author.Needs.{needs}
 use Rattle.receipt.proofs.datetime.date_good.Statement.{statement}

@@ -2,7 +2,7 @@
 use mathlib.Core.Path.{ap}
 use Prim.Native.Nat.{ℕ}
 use lib.Dec.{leb}
-use Rattle.receipt.proofs.Lists.{asks}
+use Rattle.primitives.proofs.Rows.{asks}
 use Rattle.receipt.specs.DateTime.{dayGood}
 use borrow.Author.Needs.{needs}
 use Rattle.receipt.proofs.datetime.day_good.Statement.{statement}

@@ -1,5 +1,5 @@
 -- `datetime::time_good` meets its contract.
-use Rattle.receipt.proofs.Lists.{asks}
+use Rattle.primitives.proofs.Rows.{asks}
 use Rattle.receipt.specs.DateTime.{timeGood}
 use Rattle.receipt.proofs.datetime.time_good.Statement.{statement}
 use Rattle.receipt.proofs.datetime.time_good.Tie as tie

@@ -2,7 +2,7 @@
 use borrow.Author.Needs.{needs}
 use Rattle.primitives.proofs.width_good.Reads as width-good-reads
 use Rattle.receipt.specs.Compact.{preparable}
-use Rattle.receipt.proofs.Lists.{asks}
+use Rattle.primitives.proofs.Rows.{asks}
 use Rattle.receipt.proofs.entry.preparable.Statement.{statement}
 use Rattle.receipt.proofs.entry.preparable.Tie as tie
 use Rattle.receipt.proofs.entry.preparable.Reads as reads

@@ -2,31 +2,31 @@
 use mathlib.Core.Path.{_≡_}
 use borrow.Author.Needs.{needs}
 use lib.ListN.{length}
-use Rattle.receipt.proofs.Lists.{not-no, not-yes}
+use Rattle.primitives.proofs.Rows.{not-no, not-yes}
 use Rattle.receipt.proofs.EntryCalls.{unprepared, is-prepared, payload-is, no-payload, stray-bytes, wrote-compact}
 use Rattle.receipt.proofs.entry.put_compact.Statement.{statement}
 use Rattle.receipt.proofs.entry.put_compact.Tie as tie
 use Rattle.receipt.proofs.entry.put_compact.Reads as reads
 use Rattle.receipt.proofs.entry.put_compact.Lts as lts
-use Rattle.receipt.proofs.entry.prepare.Reads as prepare-reads
+use Rattle.receipt.proofs.entry.write_payload.Reads as write-payload-reads
 use Rattle.receipt.proofs.entry.put_signed.Reads as put-signed-reads
 use Rattle.receipt.proofs.entry.signature_zero.Reads as signature-zero-reads
 
 -- the buffer's length after the call
-long : (c : tie.After-payload2) → length (c .before .prepare .last .1 .1 .1 .0) ≡ 195
+long : (c : tie.After-payload2) → length (c .before .write-payload .last .1 .1 .1 .0) ≡ 195
 long c = search needs
 
-slice-aggregate-prepare : tie.Need-slice-aggregate-prepare
-slice-aggregate-prepare c = search needs
+slice-aggregate-write-payload : tie.Need-slice-aggregate-write-payload
+slice-aggregate-write-payload c = search needs
 
-prepare-requires : tie.Need-prepare-requires
-prepare-requires c κs = search needs
+write-payload-requires : tie.Need-write-payload-requires
+write-payload-requires c κs = search needs
 
 returns : tie.Need-returns
 returns c =
     let start = c .before .before .before .before .before .before .before in
     no-payload (start .args .out .now) (start .args .at) (start .args .s) (start .args .n) (start .args .e)
-    (unprepared _ _ _ _ (c .before .before .prepare .last .1 .1 .1 .0) (long (c .before)) (c .before .before .prepare .ensures) (c .if1 .taken))
+    (unprepared _ _ _ _ (c .before .before .write-payload .last .1 .1 .1 .0) (long (c .before)) (c .before .before .write-payload .ensures) (c .if1 .taken))
 
 signature-zero-requires : tie.Need-signature-zero-requires
 signature-zero-requires c κs = search needs
@@ -55,7 +55,7 @@ same-length c = search needs
 returns-3 : tie.Need-returns-3
 returns-3 c =
     let start = c .before .before .before .before .before .before .before .before .before .before .before .before .before .before .before in
-    let p = c .before .before .before .before .before .before .before .before .before .before .prepare in
+    let p = c .before .before .before .before .before .before .before .before .before .before .write-payload in
     let l = long (c .before .before .before .before .before .before .before .before .before) in
     let some = c .before .before .before .before .before .before .before .before .if1 .left in
     wrote-compact (start .args .out .now) (start .args .at) (start .args .s) (start .args .n) (start .args .e)
@@ -66,8 +66,8 @@ pub put-compact-spec : {M : Type 1} → statement M
 put-compact-spec =
     tie.close
     (tie.spec
-    slice-aggregate-prepare
-    prepare-requires
+    slice-aggregate-write-payload
+    write-payload-requires
     returns
     signature-zero-requires
     returns-2

@@ -1,7 +1,7 @@
 -- What was read is what the definition reads.
 use mathlib.Core.Path.{_∙_}
 use borrow.Author.Needs.{needs}
-use Rattle.receipt.proofs.Lists.{not-no, not-yes}
+use Rattle.primitives.proofs.Rows.{not-no, not-yes}
 use Rattle.receipt.proofs.EntryCalls.{read-refused, read-other, read-found}
 use Rattle.receipt.proofs.entry.read_entry.Statement.{statement}
 use Rattle.receipt.proofs.entry.read_entry.Tie as tie

@@ -1,6 +1,6 @@
 -- Both lengths are asked.
 use Rattle.receipt.specs.Settings.{sized}
-use Rattle.receipt.proofs.Lists.{asks}
+use Rattle.primitives.proofs.Rows.{asks}
 use Rattle.receipt.proofs.entry.sized.Statement.{statement}
 use Rattle.receipt.proofs.entry.sized.Tie as tie
 use Rattle.receipt.proofs.entry.sized.Reads as reads

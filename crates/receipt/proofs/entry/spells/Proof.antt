@@ -8,23 +8,23 @@ use Rattle.receipt.proofs.entry.spells.Statement.{statement}
 use Rattle.receipt.proofs.entry.spells.Tie as tie
 use Rattle.receipt.proofs.entry.spells.Reads as reads
 use Rattle.receipt.proofs.entry.spells.Lts as lts
-use Rattle.receipt.proofs.entry.prepare.Reads as prepare-reads
+use Rattle.receipt.proofs.entry.write_payload.Reads as write-payload-reads
 
 -- the buffer's length after the call
-long : (c : tie.After-payload2) → length (c .before .prepare .last .1 .1 .1 .0) ≡ 195
+long : (c : tie.After-payload2) → length (c .before .write-payload .last .1 .1 .1 .0) ≡ 195
 long c = search needs
 
-slice-aggregate-prepare : tie.Need-slice-aggregate-prepare
-slice-aggregate-prepare c = search needs
+slice-aggregate-write-payload : tie.Need-slice-aggregate-write-payload
+slice-aggregate-write-payload c = search needs
 
-prepare-requires : tie.Need-prepare-requires
-prepare-requires c κs = search needs
+write-payload-requires : tie.Need-write-payload-requires
+write-payload-requires c κs = search needs
 
 returns : tie.Need-returns
 returns c =
     let start = c .before .before .before .before .before in
     spells-none (start .args .s) (start .args .n) (start .args .f) (start .args .text .now)
-    (unprepared _ _ _ _ (c .before .before .prepare .last .1 .1 .1 .0) (long (c .before)) (c .before .before .prepare .ensures) (c .if1 .taken))
+    (unprepared _ _ _ _ (c .before .before .write-payload .last .1 .1 .1 .0) (long (c .before)) (c .before .before .write-payload .ensures) (c .if1 .taken))
 
 sub-same : tie.Need-sub-same
 sub-same c = search needs
@@ -41,7 +41,7 @@ same-requires c κs = search needs
 returns-2 : tie.Need-returns-2
 returns-2 c =
     let start = c .before .before .before .before .before .before .before .before in
-    let p = c .before .before .before .before .before .prepare in
+    let p = c .before .before .before .before .before .write-payload in
     let l = long (c .before .before .before .before) in
     let some = c .before .before .before .if1 .left in
     spells-some (start .args .s) (start .args .n) (start .args .f) (start .args .text .now)
@@ -52,8 +52,8 @@ pub spells-spec : {M : Type 1} → statement M
 spells-spec =
     tie.close
     (tie.spec
-    slice-aggregate-prepare
-    prepare-requires
+    slice-aggregate-write-payload
+    write-payload-requires
     returns
     sub-same
     part-same-start

@@ -10,7 +10,7 @@ use Rattle.receipt.proofs.form.put_form.Tie as tie
 use Rattle.receipt.proofs.form.put_form.Reads as reads
 use Rattle.receipt.proofs.form.put_form.Lts as lts
 use Rattle.receipt.proofs.form.put_element.Reads as put-element-reads
-use Rattle.receipt.proofs.form.put_input.Reads as put-input-reads
+use Rattle.receipt.proofs.form.put_signed_input.Reads as put-signed-input-reads
 
 mul-total : tie.Need-mul-total
 mul-total c = search needs
@@ -39,14 +39,14 @@ returns c =
     wrote-nothing (start .args .out .now) (start .args .at) _ (length-form (parts (start .args .payload .now) (start .args .signature .now)))
     (above _ _ (c .before .has-room .ensures) (c .if1 .taken))
 
-put-input-requires : tie.Need-put-input-requires
-put-input-requires c κs = search needs
+put-signed-input-requires : tie.Need-put-signed-input-requires
+put-signed-input-requires c κs = search needs
 
 put-element-requires : tie.Need-put-element-requires
 put-element-requires c κs =
     let start = c .before .before .before .before .before .before .before .before .before .before in
     room-third (start .args .payload .now) (start .args .signature .now) (start .args .out .now) (start .args .at)
-    (at-most _ _ (c .before .before .before .before .before .before .has-room .ensures) (c .before .before .before .before .before .if1 .left)) (c .before .before .before .put-input .ensures)
+    (at-most _ _ (c .before .before .before .before .before .before .has-room .ensures) (c .before .before .before .before .before .if1 .left)) (c .before .before .before .put-signed-input .ensures)
 
 same-length : tie.Need-same-length
 same-length c = search needs
@@ -55,7 +55,7 @@ returns-2 : tie.Need-returns-2
 returns-2 c =
     let start = c .before .before .before .before .before .before .before .before .before .before .before .before .before in
     put-form (start .args .payload .now) (start .args .signature .now) (start .args .out .now) (start .args .at)
-    (at-most _ _ (c .before .before .before .before .before .before .before .before .before .has-room .ensures) (c .before .before .before .before .before .before .before .before .if1 .left)) (c .before .before .before .before .before .before .put-input .ensures) (c .before .before .put-element .ensures)
+    (at-most _ _ (c .before .before .before .before .before .before .before .before .before .has-room .ensures) (c .before .before .before .before .before .before .before .before .if1 .left)) (c .before .before .before .before .before .before .put-signed-input .ensures) (c .before .before .put-element .ensures)
 
 pub put-form-spec : {M : Type 1} → statement M
 put-form-spec =
@@ -69,7 +69,7 @@ put-form-spec =
     add-total-4
     has-room-requires
     returns
-    put-input-requires
+    put-signed-input-requires
     put-element-requires
     same-length
     returns-2)

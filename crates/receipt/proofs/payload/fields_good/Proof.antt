@@ -1,7 +1,7 @@
 -- `payload::fields_good` meets its contract.
 use borrow.Author.Needs.{needs}
 use Rattle.receipt.specs.Payload.{fieldsGood}
-use Rattle.receipt.proofs.Lists.{asks}
+use Rattle.primitives.proofs.Rows.{asks}
 use Rattle.receipt.proofs.payload.fields_good.Statement.{statement}
 use Rattle.receipt.proofs.payload.fields_good.Tie as tie
 

@@ -2,7 +2,7 @@
 use mathlib.Core.Path.{_∙_}
 use native.Mathlib.Omega.{arith}
 use borrow.Author.Needs.{needs}
-use Rattle.receipt.proofs.Lists.{not-no, not-yes}
+use Rattle.primitives.proofs.Rows.{not-no, not-yes}
 use Rattle.receipt.proofs.Loose.{too-short, not-readable, is-readable}
 use Rattle.receipt.proofs.payload.read_payload.Statement.{statement}
 use Rattle.receipt.proofs.payload.read_payload.Tie as tie

@@ -1,12 +1,12 @@
--- `chain::put_input` meets its contract.
+-- `chain::put_hash_input` meets its contract.
 use borrow.Author.Needs.{needs}
 use mathlib.Core.Path.{_≡_}
 use native.Mathlib.Omega.{arith}
 use Prim.Native.Nat.{_<_, _^_}
 use lib.ListN.{length}
 use Rattle.receipt.proofs.Chains.{input-room, input-put}
-use Rattle.receipt.proofs.chain.put_input.Statement.{statement}
-use Rattle.receipt.proofs.chain.put_input.Tie as tie
+use Rattle.receipt.proofs.chain.put_hash_input.Statement.{statement}
+use Rattle.receipt.proofs.chain.put_hash_input.Tie as tie
 
 -- what the types say of the parameters
 thirty-two : (c : tie.Start) → length (c .args .id .bytes) ≡ 32
@@ -30,8 +30,8 @@ part-put-end c = omega (arith, thirty-two (c .before .before .before .before .be
 put-requires : tie.Need-put-requires
 put-requires c κs = search needs
 
-put-number-requires : tie.Need-put-number-requires
-put-number-requires c κs =
+put-decimal-requires : tie.Need-put-decimal-requires
+put-decimal-requires c κs =
     let start = c .before .before .before .before .before .before .before .before .before .before in
     let put = c .before .before .before in
     input-room (start .args .id) (start .args .number) (start .args .out .now) (thirty-two start) (small start) (start .pre) (c .before .before .before .before .before .before .before .lesser .ensures) (put .put .ensures .0) (put .put .ensures .1)
@@ -43,10 +43,10 @@ returns : tie.Need-returns
 returns c =
     let start = c .before .before .before .before .before .before .before .before .before .before .before .before .before in
     let put = c .before .before .before .before .before .before in
-    input-put (start .args .id) (start .args .number) (start .args .out .now) (thirty-two start) (small start) (start .pre) (c .before .before .before .before .before .before .before .before .before .before .lesser .ensures) (put .put .ensures .0) (put .put .ensures .1) (c .before .before .put-number .ensures .0) (c .before .before .put-number .ensures .1)
+    input-put (start .args .id) (start .args .number) (start .args .out .now) (thirty-two start) (small start) (start .pre) (c .before .before .before .before .before .before .before .before .before .before .lesser .ensures) (put .put .ensures .0) (put .put .ensures .1) (c .before .before .put-decimal .ensures .0) (c .before .before .put-decimal .ensures .1)
 
-pub put-input-spec : {M : Type 1} → statement M
-put-input-spec =
+pub put-hash-input-spec : {M : Type 1} → statement M
+put-hash-input-spec =
     tie.close
     (tie.spec
     lesser-requires
@@ -54,6 +54,6 @@ put-input-spec =
     part-put-start
     part-put-end
     put-requires
-    put-number-requires
+    put-decimal-requires
     same-length
     returns)

@@ -1,11 +1,11 @@
--- `payload::put_head` meets its contract.
+-- `payload::put_register` meets its contract.
 use mathlib.Core.Path.{_≡_}
 use native.Mathlib.Omega.{arith}
 use borrow.Author.Needs.{needs}
 use lib.ListN.{length}
-use Rattle.receipt.proofs.Written.{put-head}
-use Rattle.receipt.proofs.payload.put_head.Statement.{statement}
-use Rattle.receipt.proofs.payload.put_head.Tie as tie
+use Rattle.receipt.proofs.Written.{put-register}
+use Rattle.receipt.proofs.payload.put_register.Statement.{statement}
+use Rattle.receipt.proofs.payload.put_register.Tie as tie
 
 -- what the types say of the parameter
 three : (c : tie.Start) → length (c .args .s .csp) ≡ 3
@@ -57,9 +57,9 @@ returns : tie.Need-returns
 returns c =
     let start = c .before .before .before .before .before .before .before .before .before .before .before .before .before .before .before .before .before .before .before .before in (
       omega arith,
-      put-head (start .args .s) (three start) (whole start) (start .pre .0) _ _ (start .pre .1)
+      put-register (start .args .s) (three start) (whole start) (start .pre .0) _ _ (start .pre .1)
           (c .before .before .before .before .before .before .before .before .before .before .before .before .before .put .ensures) (c .before .before .before .before .before .before .before .before .put-field .ensures) (c .before .before .put-field2 .ensures),
     )
 
-pub put-head-spec : {M : Type 1} → statement M
-put-head-spec = tie.close (tie.spec slice-aggregate-put put-requires add-put-field slice-aggregate-put-field put-field-requires add-put-field-2 sub-put-field part-put-field-start part-put-field-end put-field-requires-2 add-result add-result-2 same-length returns)
+pub put-register-spec : {M : Type 1} → statement M
+put-register-spec = tie.close (tie.spec slice-aggregate-put put-requires add-put-field slice-aggregate-put-field put-field-requires add-put-field-2 sub-put-field part-put-field-start part-put-field-end put-field-requires-2 add-result add-result-2 same-length returns)

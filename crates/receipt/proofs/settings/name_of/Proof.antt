@@ -1,8 +1,8 @@
--- `settings::name_at` meets its contract.
+-- `settings::name_of` meets its contract.
 use borrow.Author.Needs.{needs}
 use Rattle.receipt.proofs.Names.{put-name}
-use Rattle.receipt.proofs.settings.name_at.Statement.{statement}
-use Rattle.receipt.proofs.settings.name_at.Tie as tie
+use Rattle.receipt.proofs.settings.name_of.Statement.{statement}
+use Rattle.receipt.proofs.settings.name_of.Tie as tie
 
 lesser-requires : tie.Need-lesser-requires
 lesser-requires c κs = search needs
@@ -25,8 +25,8 @@ put-requires c κs = search needs
 returns : tie.Need-returns
 returns c = put-name _ (c .before .before .before .before .lesser .ensures) (c .before .put .ensures .1)
 
-pub name-at-spec : {M : Type 1} → statement M
-name-at-spec =
+pub name-of-spec : {M : Type 1} → statement M
+name-of-spec =
     tie.close
     (tie.spec
     lesser-requires

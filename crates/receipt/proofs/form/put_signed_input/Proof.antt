@@ -4,12 +4,12 @@ use lib.ListN.{length}
 use native.Mathlib.Omega.{arith}
 use Rattle.primitives.proofs.Filling.{wrote-nothing}
 use Rattle.primitives.proofs.Questions.{at-most, above}
-use Rattle.receipt.proofs.FormCalls.{length-input, room-second, put-input}
+use Rattle.receipt.proofs.FormCalls.{length-input, room-second, put-signed-input}
 use borrow.Author.Needs.{needs}
-use Rattle.receipt.proofs.form.put_input.Statement.{statement}
-use Rattle.receipt.proofs.form.put_input.Tie as tie
-use Rattle.receipt.proofs.form.put_input.Reads as reads
-use Rattle.receipt.proofs.form.put_input.Lts as lts
+use Rattle.receipt.proofs.form.put_signed_input.Statement.{statement}
+use Rattle.receipt.proofs.form.put_signed_input.Tie as tie
+use Rattle.receipt.proofs.form.put_signed_input.Reads as reads
+use Rattle.receipt.proofs.form.put_signed_input.Lts as lts
 use Rattle.primitives.proofs.put.Reads as put-reads
 use Rattle.receipt.proofs.form.put_element.Reads as put-element-reads
 
@@ -53,11 +53,11 @@ same-length c = search needs
 returns-2 : tie.Need-returns-2
 returns-2 c =
     let start = c .before .before .before .before .before .before .before .before .before .before .before .before .before in
-    put-input (start .args .payload .now) (start .args .out .now) (start .args .at) (at-most _ _ (c .before .before .before .before .before .before .before .before .before .before .has-room .ensures) (c .before .before .before .before .before .before .before .before .before .if1 .left)) (c .before .before .before .before .before .before .put .ensures .1)
+    put-signed-input (start .args .payload .now) (start .args .out .now) (start .args .at) (at-most _ _ (c .before .before .before .before .before .before .before .before .before .before .has-room .ensures) (c .before .before .before .before .before .before .before .before .before .if1 .left)) (c .before .before .before .before .before .before .put .ensures .1)
     (c .before .before .put-element .ensures)
 
-pub put-input-spec : {M : Type 1} → statement M
-put-input-spec =
+pub put-signed-input-spec : {M : Type 1} → statement M
+put-signed-input-spec =
     tie.close
     (tie.spec
     mul-total

@@ -1,11 +1,11 @@
--- `decimal::put_number` meets its contract.
+-- `decimal::put_decimal` meets its contract.
 use Prim.Native.Nat.{ℕ, _+_}
 use mathlib.Core.Path.{ap}
 use native.Mathlib.Omega.{arith}
 use Rattle.receipt.proofs.Digits.{counted, put-digits}
 use borrow.Author.Needs.{needs}
-use Rattle.receipt.proofs.decimal.put_number.Statement.{statement}
-use Rattle.receipt.proofs.decimal.put_number.Tie as tie
+use Rattle.receipt.proofs.decimal.put_decimal.Statement.{statement}
+use Rattle.receipt.proofs.decimal.put_decimal.Tie as tie
 
 width-requires : tie.Need-width-requires
 width-requires c κs = search needs
@@ -26,6 +26,6 @@ same-length c = search needs
 returns : tie.Need-returns
 returns c = (ap (λ (k : ℕ). c .before .before .before .before .before .before .args .at + k) (counted _ _ (c .before .before .before .before .width .ensures)), put-digits _ _ (c .before .before .before .before .width .ensures) _ _ (c .before .before .put-fixed .ensures))
 
-pub put-number-spec : {M : Type 1} → statement M
-put-number-spec =
+pub put-decimal-spec : {M : Type 1} → statement M
+put-decimal-spec =
     tie.close (tie.spec width-requires put-fixed-requires add-result same-length returns)

@@ -1,7 +1,7 @@
--- `magnitude` meets its contract, for the least number too.
+-- `folded` meets its contract, for the least number too.
 use Rattle.primitives.proofs.Zlaws.{neg-cast, neg-mag, pos-cast, pos-mag}
-use Rattle.primitives.proofs.counter.magnitude.Statement.{statement}
-use Rattle.primitives.proofs.counter.magnitude.Tie as tie
+use Rattle.primitives.proofs.counter.folded.Statement.{statement}
+use Rattle.primitives.proofs.counter.folded.Tie as tie
 
 cast-result : tie.Need-cast-result
 cast-result c = neg-cast (c .before .fits .z) (c .if1 .taken)
@@ -15,5 +15,5 @@ returns c = neg-mag (c .before .fits .z) (c .if1 .taken)
 returns-2 : tie.Need-returns-2
 returns-2 c = pos-mag (c .before .fits .z) (c .if1 .left)
 
-pub magnitude-spec : {M : Type 1} → statement M
-magnitude-spec = tie.close (tie.spec cast-result cast-result-2 returns returns-2)
+pub folded-spec : {M : Type 1} → statement M
+folded-spec = tie.close (tie.spec cast-result cast-result-2 returns returns-2)

@@ -1,14 +1,40 @@
--- Questions in a row, and what the number 0 says of them.
+-- Rows of tests and of questions, as code that returns at the first "no" answers them.
 use Prim.Native.Nat.{ℕ, zero, suc}
-use mathlib.Core.Path.{_≡_, refl, sym, ap, _∙_}
-use mathlib.Core.Bool.{Bool, true, false, _&&_}
+use mathlib.Core.Path.{_≡_, refl, sym, _∙_, subst}
+use mathlib.Core.Bool.{Bool, true, false, not, _&&_}
 use native.Mathlib.Omega.{arith}
-use borrow.Author.Tests.{leb-true, le-leb, lt-ltb, le-ltb, lt-leb, eq-eqb, ne-eqb}
-use lib.Dec.{leb}
-use lib.IntN.{ℤ, pos, negsuc}
-use Rattle.receipt.proofs.Lists.{both, true-is-not-false, and-no, and-yes, not-no, not-yes}
-use Rattle.journal.specs.State.{ask, ifZero}
-use Rattle.journal.specs.TakeOver.{equal}
+use borrow.Author.Tests.{not-true, not-false, lt-ltb, le-ltb, le-leb, lt-leb, eq-eqb, ne-eqb}
+use Rattle.primitives.specs.Questions.{ask, ifZero}
+
+-- ---- a conjunction
+
+pub true-is-not-false {ℓ} : {X : Type ℓ} → false ≡ true → X
+true-is-not-false e = absurd (subst f e tt)
+  where
+    f : Bool → Type 0
+    f true = ⊥
+    f false = Unit {0}
+
+pub both : (a b : Bool) → a && b ≡ true → (a ≡ true) × (b ≡ true)
+both true b e = (refl, e)
+both false b e = true-is-not-false e
+
+pub and-no : (a b : Bool) → a ≡ false → false ≡ a && b
+and-no a b e = rw e
+
+pub and-yes : (a b x : Bool) → a ≡ true → x ≡ b → x ≡ a && b
+and-yes a b x e q = rw e q
+
+pub not-no : (b x : Bool) → b ≡ x → not b ≡ true → x ≡ false
+not-no b x e q = sym e ∙ not-true b q
+
+pub not-yes : (b x : Bool) → b ≡ x → not b ≡ false → x ≡ true
+not-yes b x e q = sym e ∙ not-false b q
+
+-- for `search`
+pub ruleset asks = (and-no, and-yes, not-no, not-yes, lt-ltb, le-ltb, le-leb, lt-leb, eq-eqb, ne-eqb)
+
+-- ---- questions in a row
 
 -- before a 0 every answer was yes
 pub ask-zero : (b : Bool) (n rest : ℕ) → ask b (suc n) rest ≡ 0 → (b ≡ true) × (rest ≡ 0)
@@ -43,20 +69,3 @@ pub yes-is : (b : Bool) (n rest x : ℕ) → b ≡ true → x ≡ rest → x ≡
 yes-is b n rest x e q = q ∙ sym (ask-yes n rest e)
 
 pub ruleset rows = (no-is, yes-is, and-no, and-yes, not-no, not-yes, lt-ltb, le-ltb, le-leb, lt-leb, eq-eqb, ne-eqb)
-
--- ---- equal numbers
-
-same-le : (m n : ℕ) → leb m n && leb n m ≡ true → m ≡ n
-same-le m n e = let p = both (leb m n) (leb n m) e in omega (arith, leb-true m n (p .0), leb-true n m (p .1))
-
-pub equal-true : (a b : ℤ) → equal a b ≡ true → a ≡ b
-unfolding equal
-equal-true (pos m) (pos n) e = ap pos (same-le m n e)
-equal-true (pos m) (negsuc n) e = true-is-not-false e
-equal-true (negsuc m) (pos n) e = true-is-not-false e
-equal-true (negsuc m) (negsuc n) e = ap negsuc (sym (same-le n m e))
-
-pub equal-refl : (a : ℤ) → equal a a ≡ true
-unfolding equal
-equal-refl (pos m) = rw (le-leb m m (omega arith))
-equal-refl (negsuc m) = rw (le-leb m m (omega arith))
