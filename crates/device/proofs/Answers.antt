@@ -21,10 +21,10 @@ use Rattle.receipt.specs.declared.details.Details.{Details}
 use Rattle.primitives.specs.declared.answer.Answer.{Answer}
 use Rattle.receipt.proofs.Entries.{length-array}
 use Rattle.primitives.proofs.Rows.{true-is-not-false, ask-zero, ifZero-yes, ifZero-no}
-use Rattle.journal.specs.Open.{opened, openBuffer}
-use Rattle.journal.specs.Prepare.{prepareAnswer, prepareBuffer}
-use Rattle.journal.specs.Issue.{issued, issueBuffer}
-use Rattle.journal.specs.TakeOver.{takeOver}
+use Rattle.journal.specs.Opening.{opened, openBuffer}
+use Rattle.journal.specs.Preparing.{prepareAnswer, prepareBuffer}
+use Rattle.journal.specs.Issuing.{issued, issueBuffer}
+use Rattle.journal.specs.Checking.{takeOver}
 use Rattle.journal.specs.declared.state.State.{State}
 use Rattle.journal.specs.declared.state.Opened.{Opened}
 use Rattle.journal.specs.declared.state.Issued.{Issued}

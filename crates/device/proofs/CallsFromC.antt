@@ -21,9 +21,9 @@ use Rattle.receipt.specs.declared.details.Details.{Details}
 use Rattle.receipt.specs.declared.entry.Entry.{Entry}
 use Rattle.receipt.proofs.Names.{good-settings}
 use Rattle.journal.specs.State.{unopened, TypedRegister, TypedState}
-use Rattle.journal.specs.Open.{openNumber, opened}
-use Rattle.journal.specs.Issue.{issueNumber, issued, issueBuffer}
-use Rattle.journal.specs.TakeOver.{accepted, takeOver}
+use Rattle.journal.specs.Opening.{openNumber, opened}
+use Rattle.journal.specs.Issuing.{issueNumber, issued, issueBuffer}
+use Rattle.journal.specs.Checking.{accepted, takeOver}
 use Rattle.journal.specs.Calls.{Call, TypedCall, TypedCalls, none, more, Register, journalOf, opening, numberOf, numbersOf, call, calls}
 use Rattle.journal.specs.Demands.{Written}
 use Rattle.journal.specs.declared.state.State.{State}

@@ -17,7 +17,8 @@ use Rattle.primitives.proofs.Twos.{fits-wide, counter-back, counter-whole, leng
 use Rattle.receipt.specs.declared.settings.Name.{Name}
 use Rattle.receipt.specs.declared.settings.Settings.{Settings}
 use Rattle.receipt.specs.declared.details.Details.{Details}
-use Rattle.journal.specs.Issue.{issueNumber, next, textOf, issued}
+use Rattle.journal.specs.Issuing.{issueNumber, textOf, issued}
+use Rattle.journal.specs.Step.{next}
 use Rattle.journal.specs.declared.state.State.{State}
 use Rattle.primitives.proofs.Rows.{ifZero-no}
 use Rattle.journal.proofs.Places.{part-at, count-in, part-length, count-bytes}

@@ -8,9 +8,10 @@ use Rattle.primitives.specs.Counter.{widthGood, half, fitsIn, counterFits, twos
 use Rattle.receipt.specs.Settings.{between, cspGood, settingsGood}
 use Rattle.journal.specs.State.{unopened}
 use Rattle.primitives.specs.Questions.{ask}
-use Rattle.journal.specs.Open.{openNumber}
-use Rattle.journal.specs.Issue.{soundAlone, sound, numberAbove, detailsNumber, issueNumber}
-use Rattle.journal.specs.Prepare.{prepareNumber}
+use Rattle.journal.specs.Opening.{openNumber}
+use Rattle.journal.specs.Step.{soundAlone, sound, numberAbove, detailsNumber}
+use Rattle.journal.specs.Issuing.{issueNumber}
+use Rattle.journal.specs.Preparing.{prepareNumber}
 use Rattle.device.specs.Layout.{settingsBytes, figuresBytes, stateBytes, noSettings}
 use Rattle.device.specs.Calls.{noDetails}
 use Rattle.device.specs.Laws.{UnopenedIsZero, NoSettingsGetOne, UnopenedGetsSix, NoKindGetsSeven}

@@ -14,8 +14,8 @@ use Rattle.receipt.specs.declared.details.Kind.the-variants.{Standard, Cancella
 use Rattle.receipt.specs.declared.details.Details.{Details}
 use Rattle.journal.specs.State.{unopened}
 use Rattle.primitives.specs.Questions.{ask, ifZero}
-use Rattle.journal.specs.Open.{opened, openBuffer}
-use Rattle.journal.specs.TakeOver.{takeOver}
+use Rattle.journal.specs.Opening.{opened, openBuffer}
+use Rattle.journal.specs.Checking.{takeOver}
 use Rattle.journal.specs.declared.state.Opened.{Opened}
 use Rattle.journal.specs.declared.state.TakenOver.{TakenOver}
 use Rattle.device.specs.Layout.{settingsBytes, settingsOf, widthOf, keyOf}

@@ -5,7 +5,7 @@ use mathlib.Core.List.{List, [], _∷_, map}
 use lib.IntN.{ℤ}
 use lib.ListN.{length, take}
 use Rattle.primitives.specs.Bytes.{AllBytes}
-use Rattle.journal.specs.Issue.{issued, issueBuffer}
+use Rattle.journal.specs.Issuing.{issued, issueBuffer}
 use Rattle.journal.specs.Receipts.{sum}
 use Rattle.journal.specs.Calls.{Call, Register, opening, numbersOf, receiptsOf}
 use Rattle.device.specs.Layout.{settingsOf, widthOf, keyOf, stateOf, kept}

@@ -10,9 +10,10 @@ use Rattle.receipt.specs.declared.settings.Settings.{Settings}
 use Rattle.receipt.specs.declared.details.Details.{Details}
 use Rattle.journal.specs.State.{unopened}
 use Rattle.receipt.specs.Settings.{TypedSettings}
-use Rattle.journal.specs.Open.{openNumber}
-use Rattle.journal.specs.Prepare.{prepareNumber}
-use Rattle.journal.specs.Issue.{detailsNumber, issueNumber, issued}
+use Rattle.journal.specs.Opening.{openNumber}
+use Rattle.journal.specs.Preparing.{prepareNumber}
+use Rattle.journal.specs.Step.{detailsNumber}
+use Rattle.journal.specs.Issuing.{issueNumber, issued}
 use Rattle.journal.specs.declared.state.State.{State}
 use Rattle.device.specs.Layout.{settingsBytes, stateBytes, noSettings, settingsOf, widthOf, keyOf, stateOf, kept}
 use Rattle.device.specs.Calls.{noDetails}

@@ -13,8 +13,8 @@ use receipt::Kind;
 use receipt::Settings;
 ghost use mathlib.Core.Path.{_≡_};
 ghost use lib.ListN.{length};
-ghost use Rattle.journal.specs.Issue.{issued, issueBuffer};
-ghost use Rattle.journal.specs.Prepare.{prepareAnswer, prepareBuffer};
+ghost use Rattle.journal.specs.Issuing.{issued, issueBuffer};
+ghost use Rattle.journal.specs.Preparing.{prepareAnswer, prepareBuffer};
 ghost use Rattle.device.specs.Layout.{stateOf, kept};
 ghost use Rattle.device.specs.Calls.{cspOf, settingsFrom, keyFrom, widthWith, settingsNumber, settingsBuffer, openAnswer, openJournal, noDetails, detailsWith, ofKind, dateOf, detailsOf, takeOverAnswer};
 

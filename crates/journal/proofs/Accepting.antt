@@ -1,38 +1,56 @@
 -- Take over accepts just the valid journals.
-use Prim.Native.Nat.{ℕ, zero, suc, _<_}
+use Prim.Native.Nat.{ℕ, zero, suc, _≤_, _<_}
 use mathlib.Core.Path.{_≡_, refl, sym, ap, _∙_, subst, transport}
 use mathlib.Core.Bool.{true}
 use mathlib.Core.List.{List, _∷_, _++_}
 use native.Mathlib.Nat.{zero-add}
 use native.Mathlib.Omega.{arith}
 use lib.IntN.{+ℤ-idl}
-use lib.ListN.{length, drop}
+use lib.ListN.{length, drop, length-append}
 use Rattle.primitives.specs.Bytes.{AllBytes}
 use Rattle.primitives.specs.Counter.{widthGood}
 use Rattle.receipt.specs.Settings.{nameText, settingsGood, TypedSettings}
 use Rattle.receipt.specs.Chain.{chainValue}
 use Rattle.receipt.specs.declared.settings.Settings.{Settings}
 use Rattle.receipt.specs.declared.entry.Entry.{Entry}
-use Rattle.journal.specs.Head.{head, headLength}
-use Rattle.journal.specs.State.{fresh}
+use Rattle.journal.specs.Head.{head, headLength, headSettings, headGood, countPlace, countPlaceIn}
+use Rattle.journal.specs.Step.{fresh}
 use Rattle.primitives.specs.Questions.{ask, ifZero}
-use Rattle.journal.specs.TakeOver.{settingsOf, countOf, headGood, headNumber, refused, accepted, checkFrom, takeOver}
+use Rattle.journal.specs.Checking.{headNumber, refused, accepted, takeOver, answerOf, steps}
+use Rattle.journal.proofs.Remaining.{checkFrom, steps-check}
 use Rattle.journal.specs.Receipts.{receiptsIn, sum}
 use Rattle.journal.specs.Valid.{Right, RightBehind, Valid, texts, lastOf, chainOf}
 use Rattle.journal.specs.declared.state.State.{State}
 use Rattle.journal.specs.declared.state.TakenOver.{TakenOver}
 use Rattle.primitives.proofs.Rows.{ask-zero}
-use Rattle.journal.proofs.Heads.{length-head, read-settings, read-count, head-good, good-head, read-typed, read-few, read-back}
+use Rattle.journal.proofs.Heads.{length-head, read-settings, head-good, good-head, read-typed, read-few, read-back, countOf, read-count-at, read-place-is, read-length}
 use Rattle.journal.proofs.Check.{RightFrom, AllRight, run, complete, Reads, sound-from, all-each, each-all}
+use Rattle.primitives.specs.Number.{countAt}
+use Rattle.primitives.specs.Aes.{keySchedule}
+
+head-some : (s : Settings) → 0 < headLength s
+unfolding headLength
+head-some s = omega arith
 
 -- ---- a journal of right entries is accepted, with the state behind them
 
 module _ (s : Settings) (key : List ℕ) (n : ℕ) where
+  -- from the fresh state on, as many steps as the journal has bytes check the entries that its count says
+  pub fresh-check : (k : ℕ) (j : List ℕ) → countAt j (countPlace s) 4 ≡ k → headLength s ≤ length j
+      → answerOf (steps (keySchedule key) (length j) (fresh s n key) j) ≡ checkFrom k (fresh s n key) j
+  unfolding fresh
+  fresh-check k j e h =
+      let m = head-some s in
+      steps-check (keySchedule key) j (length j) k (fresh s n key) refl (e ∙ sym (zero-add k)) h (omega arith)
+
   pub head-passes : (k : ℕ) (more : List ℕ) → TypedSettings s → settingsGood s ≡ true → widthGood n ≡ true → k < 4294967296
       → takeOver (head s k ++ more) key n ≡ checkFrom k (fresh s n key) (head s k ++ more)
   unfolding takeOver headNumber ask ifZero
   head-passes k more t g w f =
-      rw (w, head-good s (t .lengths) g k f more, read-settings s (t .lengths) g k f more, read-count s (t .lengths) g k f more)
+      let l = length-append (head s k) more in
+      let m = length-head s (t .lengths) g k in
+      rw (w, head-good s (t .lengths) g k f more, read-settings s (t .lengths) g k f more)
+      (fresh-check k (head s k ++ more) (read-count-at s (t .lengths) g k f more) (omega arith))
 
   fresh-complete : (es : List Entry) → TypedSettings s → settingsGood s ≡ true → AllRight (fresh s n key) es
       → checkFrom (length es) (fresh s n key) (head s (length es) ++ texts s n es) ≡ accepted (run (fresh s n key) es)
@@ -85,6 +103,16 @@ fresh-bytes : (s : Settings) (n k : ℕ) (key j : List ℕ) (r : Reads k (fresh 
 unfolding fresh
 fresh-bytes s n k key j r = r .bytes
 
+-- a good head, and then the entries that it says
+pub head-checks : (j key : List ℕ) (n : ℕ) → AllBytes j → headGood j ≡ true
+    → answerOf (steps (keySchedule key) (length j) (fresh (headSettings j) n key) j) ≡ checkFrom (countOf j) (fresh (headSettings j) n key) j
+unfolding countOf
+head-checks j key n b h =
+    let p = read-place-is j b h in
+    let l = read-length j b h in
+    let r = good-head j b h .room in
+    fresh-check (headSettings j) key n (countAt j (countPlaceIn j) 4) j (ap (λ (x : ℕ). countAt j x 4) p) (omega arith)
+
 head-number : (m : ℕ) (t : TakenOver) → ifZero m t (refused m 0) .number ≡ 0 → (m ≡ 0) × (t .number ≡ 0)
 unfolding ifZero refused
 head-number zero t z = (refl, z)
@@ -100,8 +128,8 @@ accepted-valid j key n b z =
     let p = head-number (headNumber j n) _ z in
     let q = head-answers j n (p .0) in
     let h = q .1 in
-    let s = settingsOf j in
-    let r = sound-from (countOf j) (fresh s n key) j (subst TypedSettings (sym (fresh-settings s n key)) (read-typed j b h)) b (p .1) in
+    let s = headSettings j in
+    let r = sound-from (countOf j) (fresh s n key) j (subst TypedSettings (sym (fresh-settings s n key)) (read-typed j b h)) b (sym (ap (λ (t : TakenOver). t .number) (head-checks j key n b h)) ∙ p .1) in
     record {
       width = q .0;
       settings = s;

@@ -27,11 +27,12 @@ use Rattle.receipt.specs.declared.entry.Found.{Found}
 use Rattle.primitives.proofs.Rows.{both, ask-zero, ifZero-yes}
 use Rattle.receipt.proofs.Counting.{Added, after-yes, after-fits}
 use Rattle.receipt.proofs.ExactEntry.{back, compact-short, exact}
-use Rattle.journal.specs.Head.{entryText}
+use Rattle.journal.specs.Head.{entryText, lengthAt, textAt}
 use Rattle.receipt.specs.Settings.{TypedSettings}
 use Rattle.primitives.specs.Questions.{ask, ifZero}
-use Rattle.journal.specs.Issue.{numberAbove, firstGood, newCounter, next}
-use Rattle.journal.specs.TakeOver.{lengthAt, textAt, found, equal, counterRight, fieldsNumber, entryNumber, after, stepNumber, refused, accepted, checkFrom}
+use Rattle.journal.specs.Step.{numberAbove, firstGood, newCounter, next}
+use Rattle.journal.specs.Checking.{found, equal, counterRight, contextNumber, textNumber, after, entryNumber, refused, accepted}
+use Rattle.journal.proofs.Remaining.{checkFrom, scheduleOf}
 use Rattle.journal.specs.Receipts.{receiptOf, receiptsIn, sum}
 use Rattle.journal.specs.Valid.{Right, texts, lastOf, chainOf}
 use Rattle.journal.specs.declared.state.State.{State}
@@ -102,7 +103,7 @@ decryptedIn st f = decryptedCounter (keySchedule (st .key)) (st .settings .id) (
 
 module _ (st : State) (f : PayloadFields) where
   pub right-yes : newCounter st (f .details) ≡ record { fits = true; counter = st .counter +ℤ counted (f .details) }
-      → (f .details .kind ≡ Standard → decryptedIn st f ≡ st .counter +ℤ counted (f .details)) → counterRight st f ≡ true
+      → (f .details .kind ≡ Standard → decryptedIn st f ≡ st .counter +ℤ counted (f .details)) → counterRight (scheduleOf st) st f ≡ true
   unfolding counterRight
   right-yes n h = rw n (go (standard (f .details .kind)) refl)
     where
@@ -110,11 +111,11 @@ module _ (st : State) (f : PayloadFields) where
       go true e = ap (λ (z : ℤ). equal z (st .counter +ℤ counted (f .details))) (h (standard-is (f .details .kind) e)) ∙ equal-refl (st .counter +ℤ counted (f .details))
       go false e = refl
 
-  pub right-fits : counterRight st f ≡ true → newCounter st (f .details) .fits ≡ true
+  pub right-fits : counterRight (scheduleOf st) st f ≡ true → newCounter st (f .details) .fits ≡ true
   unfolding counterRight
   right-fits e = both _ _ e .0
 
-  pub right-true : counterRight st f ≡ true → f .details .kind ≡ Standard → decryptedIn st f ≡ st .counter +ℤ counted (f .details)
+  pub right-true : counterRight (scheduleOf st) st f ≡ true → f .details .kind ≡ Standard → decryptedIn st f ≡ st .counter +ℤ counted (f .details)
   unfolding counterRight
   right-true e k =
       let q : not (standard (f .details .kind)) || equal (decryptedIn st f) (newCounter st (f .details) .counter) ≡ true = both (newCounter st (f .details) .fits) _ e .1 in
@@ -132,8 +133,8 @@ unfolding found
 found-is st e ts h = back (st .settings) (st .width) e (ts .lengths) (ts .bytes) (h .typed) (h .spelled)
 
 -- the text of a right entry passes
-pub right-passes : (st : State) (e : Entry) → TypedSettings (st .settings) → RightAt st e → entryNumber st (textIn st e) ≡ 0
-unfolding entryNumber fieldsNumber ask
+pub right-passes : (st : State) (e : Entry) → TypedSettings (st .settings) → RightAt st e → textNumber (scheduleOf st) st (textIn st e) ≡ 0
+unfolding textNumber contextNumber ask
 right-passes st e ts h =
     rw (found-is st e ts h, above-yes st (e .fields .details) (h .above), right-yes st (e .fields) (right-new st e h) (h .counter .decrypted), first-yes st (e .fields .details) (h .first), h .chained, same-refl (st .chain))
 
@@ -144,8 +145,8 @@ pub record Passed (st : State) (text : List ℕ) : Type 0 where
   pub found : found st text ≡ record { ok = true; entry = entry }
   pub right : RightAt st entry
 
-right-from : (st : State) (e : Entry) → TypedEntry e → spellable (st .settings) (st .width) e ≡ true → fieldsNumber st (e .fields) ≡ 0 → RightAt st e
-unfolding fieldsNumber
+right-from : (st : State) (e : Entry) → TypedEntry e → spellable (st .settings) (st .width) e ≡ true → contextNumber (scheduleOf st) st (e .fields) ≡ 0 → RightAt st e
+unfolding contextNumber
 right-from st e te g z =
     let p₁ = ask-zero _ _ _ z in
     let p₂ = ask-zero _ _ _ (p₁ .1) in
@@ -160,14 +161,14 @@ right-from st e te g z =
       counter = record { fits = new-fits st (e .fields .details) (right-fits st (e .fields) (p₄ .0)) .fits; decrypted = right-true st (e .fields) (p₄ .0) };
     }
 
-pub passes-right : (st : State) (text : List ℕ) → TypedSettings (st .settings) → AllBytes text → entryNumber st text ≡ 0 → Passed st text
-unfolding entryNumber found
+pub passes-right : (st : State) (text : List ℕ) → TypedSettings (st .settings) → AllBytes text → textNumber (scheduleOf st) st text ≡ 0 → Passed st text
+unfolding textNumber found
 passes-right st text ts b z =
     let p = ask-zero _ _ _ z in
     let x = exact (st .settings) (st .width) text (ts .lengths) (ts .bytes) b in
     let w : Spelled (st .settings) (st .width) text = x .0 (p .0) in
     let f : readEntry (st .settings) (st .width) text ≡ record { ok = true; entry = w .entry } = x .1 w in
-    let q : fieldsNumber st (w .entry .fields) ≡ 0 = ap (λ (r : Found). fieldsNumber st (r .entry .fields)) (sym f) ∙ p .1 in
+    let q : contextNumber (scheduleOf st) st (w .entry .fields) ≡ 0 = ap (λ (r : Found). contextNumber (scheduleOf st) st (r .entry .fields)) (sym f) ∙ p .1 in
     record { entry = w .entry; is = w .is; found = f; right = right-from st (w .entry) (w .typed) (w .spellable) q }
 
 -- ---- one step
@@ -177,8 +178,8 @@ pub text-small : (st : State) (e : Entry) → TypedSettings (st .settings) → R
 text-small st e ts h = omega (arith, compact-short (st .settings) (st .width) e (ts .lengths) (h .typed) (h .spelled))
 
 module _ (st : State) (e : Entry) (p rest : List ℕ) (at : length p ≡ st .length) (ts : TypedSettings (st .settings)) (h : RightAt st e) where
-  pub step-zero : stepNumber st (p ++ (entryText (textIn st e) ++ rest)) ≡ 0
-  unfolding stepNumber ask
+  pub step-zero : entryNumber (scheduleOf st) st (p ++ (entryText (textIn st e) ++ rest)) ≡ 0
+  unfolding entryNumber ask
   step-zero =
       rw (there-at p (textIn st e) rest (st .length) at (text-small st e ts h), text-at p (textIn st e) rest (st .length) at (text-small st e ts h))
       (right-passes st e ts h)
@@ -202,7 +203,7 @@ unfolding next
 step-texts st e es = refl
 
 -- one turn, and the end
-turn : (m : ℕ) (st : State) (j : List ℕ) → stepNumber st j ≡ 0 → checkFrom (suc m) st j ≡ checkFrom m (after st (textAt j (st .length))) j
+turn : (m : ℕ) (st : State) (j : List ℕ) → entryNumber (scheduleOf st) st j ≡ 0 → checkFrom (suc m) st j ≡ checkFrom m (after st (textAt j (st .length))) j
 unfolding checkFrom
 turn m st j z = ifZero-yes _ _ z
 
@@ -230,7 +231,7 @@ passed (e ∷ es) m st p rest j at ts (more h hs) q =
     let q₂ : j ≡ (p ++ entryText t) ++ (texts (step st e .settings) (step st e .width) es ++ rest) =
     q₁ ∙ (sym (append-assoc p (entryText t) (u ++ rest)) ∙ ap (λ (l : List ℕ). (p ++ entryText t) ++ (l ++ rest)) (sym (step-texts st e es))) in
     let at′ : length (p ++ entryText t) ≡ step st e .length = length-append p (entryText t) ∙ (ap (λ (k : ℕ). k + length (entryText t)) at ∙ sym (step-length st e)) in
-    let z : stepNumber st j ≡ 0 = ap (stepNumber st) q₁ ∙ step-zero st e p (u ++ rest) at ts h in
+    let z : entryNumber (scheduleOf st) st j ≡ 0 = ap (entryNumber (scheduleOf st) st) q₁ ∙ step-zero st e p (u ++ rest) at ts h in
     let a : after st (textAt j (st .length)) ≡ step st e = ap (λ (l : List ℕ). after st (textAt l (st .length))) q₁ ∙ after-is st e p (u ++ rest) at ts h in
     ap (λ (k : ℕ). checkFrom k st j) k ∙ (turn (length es + m) st j z ∙ (ap (λ (x : State). checkFrom (length es + m) x j) a
     ∙ passed es m (step st e) (p ++ entryText t) rest j at′ (subst TypedSettings (sym (step-settings st e)) ts) hs q₂))
@@ -259,8 +260,8 @@ pub after-passed : (st : State) (text : List ℕ) (w : Passed st text) → after
 unfolding after
 after-passed st text w = rw (w .found) (ap (next st (w .entry .fields .details)) (w .is))
 
-first-of : (n : ℕ) (st : State) (j : List ℕ) → TypedSettings (st .settings) → AllBytes j → Reads n (after st (textAt j (st .length))) j → stepNumber st j ≡ 0 → Reads (suc n) st j
-unfolding stepNumber texts
+first-of : (n : ℕ) (st : State) (j : List ℕ) → TypedSettings (st .settings) → AllBytes j → Reads n (after st (textAt j (st .length))) j → entryNumber (scheduleOf st) st j ≡ 0 → Reads (suc n) st j
+unfolding entryNumber texts
 first-of n st j ts b r z =
     let q = ask-zero _ _ _ z in
     let t = textAt j (st .length) in
@@ -282,9 +283,9 @@ sound-step : (n : ℕ) (st : State) (j : List ℕ) → TypedSettings (st .settin
     → (checkFrom n (after st (textAt j (st .length))) j .number ≡ 0 → Reads n (after st (textAt j (st .length))) j)
     → checkFrom (suc n) st j .number ≡ 0 → Reads (suc n) st j
 unfolding checkFrom ifZero refused
-sound-step n st j ts b rec z = go (stepNumber st j) refl z
+sound-step n st j ts b rec z = go (entryNumber (scheduleOf st) st j) refl z
   where
-    go : (k : ℕ) → stepNumber st j ≡ k
+    go : (k : ℕ) → entryNumber (scheduleOf st) st j ≡ k
         → ifZero k (checkFrom n (after st (textAt j (st .length))) j) (refused k (st .issued)) .number ≡ 0 → Reads (suc n) st j
     go zero e z′ = first-of n st j ts b (rec z′) e
     go (suc k) e z′ = absurd (omega arith)

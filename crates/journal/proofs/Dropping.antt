@@ -13,13 +13,12 @@ use Rattle.receipt.proofs.Chains.{input-same}
 use Rattle.receipt.specs.declared.settings.Settings.{Settings}
 use Rattle.receipt.specs.declared.entry.Entry.{Entry}
 use Rattle.receipt.specs.Compact.{compact}
-use Rattle.journal.specs.Head.{head, headLength, countPlace, entryText}
-use Rattle.journal.specs.State.{fresh}
-use Rattle.journal.specs.Issue.{next}
+use Rattle.journal.specs.Head.{head, headLength, countPlace, entryText, front}
+use Rattle.journal.specs.Step.{fresh, next}
 use Rattle.journal.specs.Valid.{Valid, texts}
 use Rattle.journal.specs.Demands.{ValidWith, Dropping, InputsDiffer}
 use Rattle.journal.specs.declared.state.State.{State}
-use Rattle.journal.proofs.Heads.{front, head-front, front-place, length-head}
+use Rattle.journal.proofs.Heads.{head-front, front-place, length-head}
 use Rattle.journal.proofs.Check.{step, AllRight, more}
 use Rattle.journal.proofs.Accepting.{valid-right}
 

@@ -7,7 +7,7 @@ use borrow.Author.Tests.{leb-true, le-leb}
 use lib.Dec.{leb}
 use lib.IntN.{ℤ, pos, negsuc}
 use Rattle.primitives.proofs.Rows.{both, true-is-not-false}
-use Rattle.journal.specs.TakeOver.{equal}
+use Rattle.journal.specs.Checking.{equal}
 
 same-le : (m n : ℕ) → leb m n && leb n m ≡ true → m ≡ n
 same-le m n e = let p = both (leb m n) (leb n m) e in omega (arith, leb-true m n (p .0), leb-true n m (p .1))

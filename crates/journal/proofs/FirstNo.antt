@@ -15,11 +15,11 @@ use Rattle.receipt.specs.declared.settings.Settings.{Settings}
 use Rattle.receipt.specs.declared.entry.Entry.{Entry}
 use Rattle.receipt.specs.declared.entry.Found.{Found}
 use Rattle.receipt.proofs.ExactEntry.{back, exact}
-use Rattle.journal.specs.Head.{head, headLength, entryText}
-use Rattle.journal.specs.State.{fresh}
+use Rattle.journal.specs.Head.{head, headLength, entryText, headSettings, headGood, there, textAt}
+use Rattle.journal.specs.Step.{fresh, numberAbove, firstGood}
 use Rattle.primitives.specs.Questions.{ask, ifZero}
-use Rattle.journal.specs.Issue.{numberAbove, firstGood}
-use Rattle.journal.specs.TakeOver.{settingsOf, countOf, headGood, headNumber, there, textAt, found, counterRight, fieldsNumber, entryNumber, stepNumber, refused, accepted, checkFrom, takeOver}
+use Rattle.journal.specs.Checking.{headNumber, found, counterRight, contextNumber, textNumber, entryNumber, refused, accepted, takeOver}
+use Rattle.journal.proofs.Remaining.{checkFrom, scheduleOf}
 use Rattle.journal.specs.Receipts.{receiptsIn, sum}
 use Rattle.journal.specs.Valid.{Counted, texts}
 use Rattle.journal.specs.FirstNo.{Headed, SoFar, EntryThere, Spells, Above, StartFirst, Chained, Next, NoAt, no-width, no-head, not-there, not-spelled, not-above, not-start, not-chained, not-counted, bytes-left}
@@ -27,11 +27,11 @@ use Rattle.journal.specs.Demands.{FirstNo}
 use Rattle.journal.specs.declared.state.State.{State}
 use Rattle.primitives.proofs.Rows.{ifZero-no}
 use Rattle.journal.proofs.Places.{text-at, there-entry, text-short}
-use Rattle.journal.proofs.Heads.{length-head, good-head, read-typed, read-few, read-back}
+use Rattle.journal.proofs.Heads.{length-head, good-head, read-typed, read-few, read-back, countOf}
 use Rattle.journal.proofs.Check.{AllRight, run, passed, bytes-text}
 use Rattle.journal.proofs.Accepting.{head-passes, each-fresh}
 use Rattle.journal.proofs.Registers.{run-behind}
-use Rattle.journal.proofs.Refused.{there-yes, found-here, d-above, above-d, d-start, start-d, d-chain, chain-d, d-counter, step-15, step-there-is, entry-16, entry-fields, fields-17, fields-18, fields-19, fields-20, take-no}
+use Rattle.journal.proofs.FirstRefusal.{there-yes, found-here, d-above, above-d, d-start, start-d, d-chain, chain-d, d-counter, step-15, step-there-is, entry-16, entry-fields, fields-17, fields-18, fields-19, fields-20, take-no}
 
 bool-no : (q : Bool) → (q ≡ true → ⊥) → q ≡ false
 bool-no true h = absurd (h refl)
@@ -78,12 +78,12 @@ module _ (j key : List ℕ) (n : ℕ) (b : AllBytes j) (s : Settings) (k : ℕ) 
   issued-is = run-behind s n key es .issued
 
   -- a step that is refused
-  stopped : length es < k → (x : ℕ) → stepNumber state j ≡ suc x → takeOver j key n ≡ refused (suc x) (length es)
+  stopped : length es < k → (x : ℕ) → entryNumber (scheduleOf state) state j ≡ suc x → takeOver j key n ≡ refused (suc x) (length es)
   unfolding checkFrom
   stopped l x q =
       let m = k - suc (length es) in
       let e : k ≡ length es + suc (k - suc (length es)) = omega arith in
-      reached (suc m) e ∙ (ifZero-no (stepNumber state j) _ _ (λ z. omega (arith, q, z)) ∙ (λ i. refused (q i) (issued-is i)))
+      reached (suc m) e ∙ (ifZero-no (entryNumber (scheduleOf state) state j) _ _ (λ z. omega (arith, q, z)) ∙ (λ i. refused (q i) (issued-is i)))
 
   -- the section above, at this place
   there-far : (text more : List ℕ) → EntryThere rest text more → there j (state .length) ≡ true
@@ -113,8 +113,8 @@ module _ (j key : List ℕ) (n : ℕ) (b : AllBytes j) (s : Settings) (k : ℕ) 
 
   -- 15 was answered by yes
   module _ (l : length es < k) (text more : List ℕ) (x : EntryThere rest text more) where
-    step-text : stepNumber state j ≡ entryNumber state text
-    step-text = step-there-is state j (there-far text more x) ∙ ap (entryNumber state) (text-far text more x)
+    step-text : entryNumber (scheduleOf state) state j ≡ textNumber (scheduleOf state) state text
+    step-text = step-there-is state j (there-far text more x) ∙ ap (textNumber (scheduleOf state) state) (text-far text more x)
 
     bytes-text′ : AllBytes text
     bytes-text′ = subst AllBytes (text-far text more x) (bytes-text j (state .length) b)
@@ -132,7 +132,7 @@ module _ (j key : List ℕ) (n : ℕ) (b : AllBytes j) (s : Settings) (k : ℕ) 
       found-e =
           found-far text ∙ (ap (readEntry s n) (p .is) ∙ back s n e (far .headed .typed .lengths) (far .headed .typed .bytes) (p .typed) (p .spelled))
 
-      step-fields : stepNumber state j ≡ fieldsNumber state (e .fields)
+      step-fields : entryNumber (scheduleOf state) state j ≡ contextNumber (scheduleOf state) state (e .fields)
       step-fields = step-text ∙ entry-fields state text e found-e
 
 -- 15 and 16 were answered by yes: the numbers of 17 to 20
@@ -143,7 +143,7 @@ module _ (j key : List ℕ) (n : ℕ) (b : AllBytes j) (es : List Entry) (s : Se
   far : SoFar j key n s (x .count) es (x .rest)
   far = x .so-far
 
-  ended : (m : ℕ) → fieldsNumber st (e .fields) ≡ suc m → takeOver j key n ≡ refused (suc m) (length es)
+  ended : (m : ℕ) → contextNumber (scheduleOf st) st (e .fields) ≡ suc m → takeOver j key n ≡ refused (suc m) (length es)
   unfolding st state far
   ended m q =
       stopped j key n b s (x .count) es (x .rest) (x .so-far) (x .left) m
@@ -180,7 +180,7 @@ module _ (j key : List ℕ) (n : ℕ) (b : AllBytes j) (es : List Entry) (s : Se
   unfolding st
   chain-yes q = chain-d j key n b (far .width) s (far .headed .typed) (far .headed .good) (x .count) (far .headed .few) es here whole e x q
 
-  counter-is : counterRight st (e .fields) ≡ true → Counted s key n (sum (receiptsIn es)) e
+  counter-is : counterRight (scheduleOf st) st (e .fields) ≡ true → Counted s key n (sum (receiptsIn es)) e
   unfolding st
   counter-is q = d-counter j key n b (far .width) s (far .headed .typed) (far .headed .good) (x .count) (far .headed .few) es here whole e x q
 
@@ -217,7 +217,7 @@ module _ (j key : List ℕ) (n : ℕ) (b : AllBytes j) where
   unfolding takeOver headNumber ask ifZero
   answer-14 w h =
       let q : headGood j ≡ false =
-      bool-no (headGood j) (λ g. h (settingsOf j) (countOf j) (drop (headLength (settingsOf j)) j) (record { typed = read-typed j b g; good = good-head j b g .good; few = read-few j b g; bytes = read-back j b g })) in
+      bool-no (headGood j) (λ g. h (headSettings j) (countOf j) (drop (headLength (headSettings j)) j) (record { typed = read-typed j b g; good = good-head j b g .good; few = read-few j b g; bytes = read-back j b g })) in
       rw (w, q)
 
   answer : (m i : ℕ) → NoAt j key n m i → takeOver j key n ≡ refused m i

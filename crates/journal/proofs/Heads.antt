@@ -1,33 +1,32 @@
--- The head of a journal: what is read in it, and that it is written so.
+-- The head of a journal: what is read in it, and that a good head was written so.
 use Prim.Native.Nat.{ℕ, _+_, _≤_, _<_}
 use mathlib.Core.Path.{_≡_, refl, sym, ap, _∙_}
 use mathlib.Core.Bool.{true}
 use mathlib.Core.List.{List, [], _++_, append-assoc}
 use native.Mathlib.Omega.{arith}
 use borrow.Author.Tests.{leb-true, le-leb, eqb-true}
-use lib.ListN.{length, take, drop, length-append}
+use lib.ListN.{length, drop, length-append}
 use lib.Seq.{drop-at}
 use Rattle.primitives.specs.Bytes.{AllBytes}
 use Rattle.primitives.specs.Number.{bytesOf, countAt}
-use Rattle.primitives.proofs.ByteLists.{bytes-take, bytes-drop}
 use Rattle.primitives.proofs.Numbers.{length-bytesOf}
+use Rattle.primitives.proofs.Rows.{both}
 use Rattle.receipt.specs.Settings.{nameText, nameOf, settingsGood, SettingsLengths, TypedSettings}
 use Rattle.receipt.specs.declared.settings.Name.{Name}
 use Rattle.receipt.specs.declared.settings.Settings.{Settings}
 use Rattle.receipt.specs.declared.settings.Letters.the-variants.{Id, Serial}
-use Rattle.primitives.proofs.Rows.{both}
 use Rattle.receipt.proofs.Names.{GoodSettings, good-settings, length-text, text-of, name-of}
-use Rattle.journal.specs.Head.{head, headLength, countPlace}
-use Rattle.journal.specs.TakeOver.{idLength, serialLength, settingsOf, countOf, headGood}
 use Rattle.receipt.proofs.Entries.{len-of, length-array, bytes-array, settings-all}
-use Rattle.journal.proofs.Places.{part-at, count-in, cut, part-length, count-bytes, count-lt}
+use Rattle.journal.specs.Head.{section, sectionText, sectionEnd, front, head, headLength, countPlace, serialPlace, countPlaceIn, headSettings, headGood}
+use Rattle.journal.proofs.Places.{count-in, cut, count-bytes, count-lt}
+use Rattle.journal.proofs.Sections.{length-section, section-count, section-text, section-end, text-length, text-bytes, section-there}
 
--- what stands before the receipts count
-unfoldable pub front : Settings → List ℕ
-front s = bytesOf 4 3 ++ s .csp ++ bytesOf 4 (s .id .len) ++ nameText (s .id) ++ bytesOf 4 (s .serial .len) ++ nameText (s .serial)
+-- the receipts count
+unfoldable pub countOf : List ℕ → ℕ
+countOf j = countAt j (countPlaceIn j) 4
 
 pub head-front : (s : Settings) (k : ℕ) → head s k ≡ front s ++ bytesOf 4 k
-unfolding head front
+unfolding head
 head-front s k = refl
 
 module _ (s : Settings) (t : SettingsLengths s) (g : settingsGood s ≡ true) where
@@ -40,26 +39,17 @@ module _ (s : Settings) (t : SettingsLengths s) (g : settingsGood s ≡ true) wh
   serial-long : length (nameText (s .serial)) ≡ s .serial .len
   serial-long = length-text (s .serial) (t .serial) (names .serial .most)
 
-  -- the length of what stands before the names
-  before-id : length (bytesOf 4 3 ++ s .csp) ≡ 7
-  before-id = length-append (bytesOf 4 3) (s .csp) ∙ omega (arith, length-bytesOf 4 3, t .csp)
+  csp-end : length (section (s .csp)) ≡ 7
+  csp-end = omega (arith, length-section (s .csp), t .csp)
 
-  behind-id : length (bytesOf 4 3 ++ s .csp ++ bytesOf 4 (s .id .len)) ≡ 11
-  behind-id = length-append (bytesOf 4 3 ++ s .csp) (bytesOf 4 (s .id .len)) ∙ omega (arith, before-id, length-bytesOf 4 (s .id .len))
+  id-end : length (section (s .csp) ++ section (nameText (s .id))) ≡ 11 + s .id .len
+  id-end = length-append (section (s .csp)) (section (nameText (s .id))) ∙ omega (arith, csp-end, length-section (nameText (s .id)), id-long)
 
-  before-serial : length (bytesOf 4 3 ++ s .csp ++ bytesOf 4 (s .id .len) ++ nameText (s .id)) ≡ 11 + s .id .len
-  before-serial = length-append (bytesOf 4 3 ++ s .csp ++ bytesOf 4 (s .id .len)) (nameText (s .id)) ∙ omega (arith, behind-id, id-long)
-
-  behind-serial : length (bytesOf 4 3 ++ s .csp ++ bytesOf 4 (s .id .len) ++ nameText (s .id) ++ bytesOf 4 (s .serial .len)) ≡ 15 + s .id .len
-  behind-serial =
-      length-append (bytesOf 4 3 ++ s .csp ++ bytesOf 4 (s .id .len) ++ nameText (s .id)) (bytesOf 4 (s .serial .len))
-      ∙ omega (arith, before-serial, length-bytesOf 4 (s .serial .len))
-
-  front-long : length (front s) ≡ 15 + s .id .len + s .serial .len
+  pub front-long : length (front s) ≡ 15 + s .id .len + s .serial .len
   unfolding front
   front-long =
-      length-append (bytesOf 4 3 ++ s .csp ++ bytesOf 4 (s .id .len) ++ nameText (s .id) ++ bytesOf 4 (s .serial .len)) (nameText (s .serial))
-      ∙ omega (arith, behind-serial, serial-long)
+      length-append (section (s .csp) ++ section (nameText (s .id))) (section (nameText (s .serial)))
+      ∙ omega (arith, id-end, length-section (nameText (s .serial)), serial-long)
 
   pub front-place : length (front s) ≡ countPlace s
   unfolding countPlace headLength
@@ -69,115 +59,102 @@ module _ (s : Settings) (t : SettingsLengths s) (g : settingsGood s ≡ true) wh
   unfolding headLength
   length-head k = ap length (head-front s k) ∙ length-append (front s) (bytesOf 4 k) ∙ omega (arith, front-long, length-bytesOf 4 k)
 
-  -- ---- reading it back, whatever stands behind it
+  -- ---- reading it back, whatever follows it
 
   module _ (k : ℕ) (few : k < 4294967296) (more : List ℕ) where
-    first-count : countAt (head s k ++ more) 0 4 ≡ 3
-    unfolding head
-    first-count =
-        let q = s .csp ++ (bytesOf 4 (s .id .len) ++ (nameText (s .id) ++ (bytesOf 4 (s .serial .len) ++ (nameText (s .serial) ++ (bytesOf 4 k ++ more))))) in
-        let e : head s k ++ more ≡ [] ++ (bytesOf 4 3 ++ q) = simp append-assoc in
-        ap (λ (j : List ℕ). countAt j 0 4) e ∙ count-in [] q 0 4 3 refl (omega arith)
+    rest : List ℕ
+    rest = bytesOf 4 k ++ more
 
-    read-csp : take 3 (drop 4 (head s k ++ more)) ≡ s .csp
+    first : head s k ++ more ≡ [] ++ (section (s .csp) ++ (section (nameText (s .id)) ++ (section (nameText (s .serial)) ++ rest)))
+    unfolding head front rest
+    first = simp append-assoc
+
+    second : head s k ++ more ≡ section (s .csp) ++ (section (nameText (s .id)) ++ (section (nameText (s .serial)) ++ rest))
+    second = first
+
+    third : head s k ++ more ≡ (section (s .csp) ++ section (nameText (s .id))) ++ (section (nameText (s .serial)) ++ rest)
+    third = first ∙ sym (append-assoc (section (s .csp)) (section (nameText (s .id))) (section (nameText (s .serial)) ++ rest))
+
+    fourth : head s k ++ more ≡ front s ++ (bytesOf 4 k ++ more)
     unfolding head
+    fourth = append-assoc (front s) (bytesOf 4 k) more
+
+    read-three : countAt (head s k ++ more) 0 4 ≡ 3
+    read-three =
+        ap (λ (j : List ℕ). countAt j 0 4) first
+        ∙ section-count [] (s .csp) (section (nameText (s .id)) ++ (section (nameText (s .serial)) ++ rest)) 0 refl (omega (arith, t .csp)) ∙ t .csp
+
+    read-csp : sectionText (head s k ++ more) 0 ≡ s .csp
     read-csp =
-        let q = bytesOf 4 (s .id .len) ++ (nameText (s .id) ++ (bytesOf 4 (s .serial .len) ++ (nameText (s .serial) ++ (bytesOf 4 k ++ more)))) in
-        let e : head s k ++ more ≡ bytesOf 4 3 ++ (s .csp ++ q) = simp append-assoc in
-        ap (λ (j : List ℕ). take 3 (drop 4 j)) e ∙ part-at (bytesOf 4 3) (s .csp) q 4 3 (length-bytesOf 4 3) (t .csp)
+        ap (λ (j : List ℕ). sectionText j 0) first
+        ∙ section-text [] (s .csp) (section (nameText (s .id)) ++ (section (nameText (s .serial)) ++ rest)) 0 refl (omega (arith, t .csp))
 
-    pub read-id : idLength (head s k ++ more) ≡ s .id .len
-    unfolding head idLength
+    read-id : sectionText (head s k ++ more) 7 ≡ nameText (s .id)
     read-id =
-        let q = nameText (s .id) ++ (bytesOf 4 (s .serial .len) ++ (nameText (s .serial) ++ (bytesOf 4 k ++ more))) in
-        let e : head s k ++ more ≡ (bytesOf 4 3 ++ s .csp) ++ (bytesOf 4 (s .id .len) ++ q) = simp append-assoc in
-        ap (λ (j : List ℕ). countAt j 7 4) e ∙ count-in (bytesOf 4 3 ++ s .csp) q 7 4 (s .id .len) before-id (omega (arith, names .id .most))
+        ap (λ (j : List ℕ). sectionText j 7) second
+        ∙ section-text (section (s .csp)) (nameText (s .id)) (section (nameText (s .serial)) ++ rest) 7 csp-end (omega (arith, id-long, names .id .most))
 
-    read-id-text : take (s .id .len) (drop 11 (head s k ++ more)) ≡ nameText (s .id)
-    unfolding head
-    read-id-text =
-        let q = bytesOf 4 (s .serial .len) ++ (nameText (s .serial) ++ (bytesOf 4 k ++ more)) in
-        let e : head s k ++ more ≡ (bytesOf 4 3 ++ s .csp ++ bytesOf 4 (s .id .len)) ++ (nameText (s .id) ++ q) = simp append-assoc in
-        ap (λ (j : List ℕ). take (s .id .len) (drop 11 j)) e
-        ∙ part-at (bytesOf 4 3 ++ s .csp ++ bytesOf 4 (s .id .len)) (nameText (s .id)) q 11 (s .id .len) behind-id id-long
+    read-serial-place : serialPlace (head s k ++ more) ≡ 11 + s .id .len
+    unfolding serialPlace
+    read-serial-place =
+        ap (λ (j : List ℕ). sectionEnd j 7) second
+        ∙ section-end (section (s .csp)) (nameText (s .id)) (section (nameText (s .serial)) ++ rest) 7 csp-end (omega (arith, id-long, names .id .most))
+        ∙ omega (arith, id-long)
 
-    pub read-serial : serialLength (head s k ++ more) ≡ s .serial .len
-    unfolding head serialLength
+    serial-short : length (nameText (s .serial)) < 4294967296
+    serial-short = omega (arith, serial-long, names .serial .most)
+
+    read-serial : sectionText (head s k ++ more) (serialPlace (head s k ++ more)) ≡ nameText (s .serial)
     read-serial =
-        let q = nameText (s .serial) ++ (bytesOf 4 k ++ more) in
-        let e : head s k ++ more ≡ (bytesOf 4 3 ++ s .csp ++ bytesOf 4 (s .id .len) ++ nameText (s .id)) ++ (bytesOf 4 (s .serial .len) ++ q) = simp append-assoc in
-        ap (λ (i : ℕ). countAt (head s k ++ more) (11 + i) 4) read-id
-        ∙ ap (λ (j : List ℕ). countAt j (11 + s .id .len) 4) e
-        ∙ count-in (bytesOf 4 3 ++ s .csp ++ bytesOf 4 (s .id .len) ++ nameText (s .id)) q (11 + s .id .len) 4 (s .serial .len) before-serial (omega (arith, names .serial .most))
+        ap (sectionText (head s k ++ more)) read-serial-place ∙ ap (λ (j : List ℕ). sectionText j (11 + s .id .len)) third
+        ∙ section-text (section (s .csp) ++ section (nameText (s .id))) (nameText (s .serial)) rest (11 + s .id .len) id-end serial-short
 
-    read-serial-text : take (s .serial .len) (drop (15 + s .id .len) (head s k ++ more)) ≡ nameText (s .serial)
-    unfolding head
-    read-serial-text =
-        let q = bytesOf 4 k ++ more in
-        let e : head s k ++ more ≡ (bytesOf 4 3 ++ s .csp ++ bytesOf 4 (s .id .len) ++ nameText (s .id) ++ bytesOf 4 (s .serial .len)) ++ (nameText (s .serial) ++ q) = simp append-assoc in
-        ap (λ (j : List ℕ). take (s .serial .len) (drop (15 + s .id .len) j)) e
-        ∙ part-at (bytesOf 4 3 ++ s .csp ++ bytesOf 4 (s .id .len) ++ nameText (s .id) ++ bytesOf 4 (s .serial .len)) (nameText (s .serial)) q (15 + s .id .len) (s .serial .len) behind-serial serial-long
+    pub read-place : countPlaceIn (head s k ++ more) ≡ countPlace s
+    unfolding countPlaceIn countPlace headLength
+    read-place =
+        ap (sectionEnd (head s k ++ more)) read-serial-place ∙ ap (λ (j : List ℕ). sectionEnd j (11 + s .id .len)) third
+        ∙ section-end (section (s .csp) ++ section (nameText (s .id))) (nameText (s .serial)) rest (11 + s .id .len) id-end serial-short
+        ∙ omega (arith, serial-long)
+
+    -- at the place that the settings say
+    pub read-count-at : countAt (head s k ++ more) (countPlace s) 4 ≡ k
+    read-count-at = ap (λ (j : List ℕ). countAt j (countPlace s) 4) fourth ∙ count-in (front s) more (countPlace s) 4 k front-place (omega arith)
 
     pub read-count : countOf (head s k ++ more) ≡ k
     unfolding countOf
-    read-count =
-        let e : head s k ++ more ≡ front s ++ (bytesOf 4 k ++ more) = ap (λ (l : List ℕ). l ++ more) (head-front s k) ∙ append-assoc (front s) (bytesOf 4 k) more in
-        (λ i. countAt (e i) (15 + read-id i + read-serial i) 4)
-        ∙ count-in (front s) more (15 + s .id .len + s .serial .len) 4 k front-long (omega arith)
+    read-count = ap (λ (p : ℕ). countAt (head s k ++ more) p 4) read-place ∙ read-count-at
 
-    pub read-settings : settingsOf (head s k ++ more) ≡ s
-    unfolding settingsOf
+    pub read-settings : headSettings (head s k ++ more) ≡ s
+    unfolding headSettings
     read-settings =
         let a = settings-all s g in
-        let j = head s k ++ more in
-        let i₁ : take (idLength j) (drop 11 j) ≡ nameText (s .id) = ap (λ (n : ℕ). take n (drop 11 j)) read-id ∙ read-id-text in
-        let i₂ : take (serialLength j) (drop (15 + idLength j) j) ≡ nameText (s .serial) = (λ i. take (read-serial i) (drop (15 + read-id i) j)) ∙ read-serial-text in
         λ i. record {
           csp = read-csp i;
-          id = (ap nameOf i₁ ∙ name-of Id (s .id) (t .id) (a .id)) i;
-          serial = (ap nameOf i₂ ∙ name-of Serial (s .serial) (t .serial) (a .serial)) i;
+          id = (ap nameOf read-id ∙ name-of Id (s .id) (t .id) (a .id)) i;
+          serial = (ap nameOf read-serial ∙ name-of Serial (s .serial) (t .serial) (a .serial)) i;
         }
 
+    place-four : countPlaceIn (head s k ++ more) + 4 ≡ headLength s
+    unfolding countPlace headLength
+    place-four = omega (arith, read-place)
+
     pub head-good : headGood (head s k ++ more) ≡ true
-    unfolding headGood headLength
+    unfolding headGood
     head-good =
         let l = length-append (head s k) more in
         let m = length-head k in
-        rw (first-count, read-id, read-serial, read-settings, le-leb (19 + s .id .len + s .serial .len) (length (head s k ++ more)) (omega arith)) g
+        rw (read-three, read-settings, le-leb (countPlaceIn (head s k ++ more) + 4) (length (head s k ++ more)) (omega (arith, place-four))) g
 
     pub behind-head : drop (headLength s) (head s k ++ more) ≡ more
     behind-head = drop-at (head s k) more (headLength s) (length-head k)
 
 -- ---- a good head is the head of what was read in it
 
--- seven parts and the rest
-seven : (j : List ℕ) (x y : ℕ)
-    → j ≡ take 4 (drop 0 j) ++ take 3 (drop 4 j) ++ take 4 (drop 7 j) ++ take x (drop 11 j) ++ take 4 (drop (11 + x) j) ++ take y (drop (15 + x) j)
-    ++ take 4 (drop (15 + x + y) j) ++ drop (19 + x + y) j
-seven j x y =
-    let e₁ : 11 + x + 4 ≡ 15 + x = omega arith in
-    let e₂ : 15 + x + y + 4 ≡ 19 + x + y = omega arith in
-    let c₁ : j ≡ take 4 (drop 0 j) ++ drop 4 j = cut j 0 4 in
-    let c₂ : drop 4 j ≡ take 3 (drop 4 j) ++ drop 7 j = cut j 4 3 in
-    let c₃ : drop 7 j ≡ take 4 (drop 7 j) ++ drop 11 j = cut j 7 4 in
-    let c₄ : drop 11 j ≡ take x (drop 11 j) ++ drop (11 + x) j = cut j 11 x in
-    let c₅ : drop (11 + x) j ≡ take 4 (drop (11 + x) j) ++ drop (15 + x) j = cut j (11 + x) 4 ∙ ap (λ (n : ℕ). take 4 (drop (11 + x) j) ++ drop n j) e₁ in
-    let c₆ : drop (15 + x) j ≡ take y (drop (15 + x) j) ++ drop (15 + x + y) j = cut j (15 + x) y in
-    let c₇ : drop (15 + x + y) j ≡ take 4 (drop (15 + x + y) j) ++ drop (19 + x + y) j = cut j (15 + x + y) 4 ∙ ap (λ (n : ℕ). take 4 (drop (15 + x + y) j) ++ drop n j) e₂ in
-    c₁
-    ∙ ap (λ (l : List ℕ). take 4 (drop 0 j) ++ l) (c₂
-    ∙ ap (λ (l : List ℕ). take 3 (drop 4 j) ++ l) (c₃
-    ∙ ap (λ (l : List ℕ). take 4 (drop 7 j) ++ l) (c₄
-    ∙ ap (λ (l : List ℕ). take x (drop 11 j) ++ l) (c₅
-    ∙ ap (λ (l : List ℕ). take 4 (drop (11 + x) j) ++ l) (c₆
-    ∙ ap (λ (l : List ℕ). take y (drop (15 + x) j) ++ l) c₇)))))
-    ∙ simp append-assoc
-
 module _ (j : List ℕ) (b : AllBytes j) (h : headGood j ≡ true) where
   pub record GoodHead : Type 0 where
     pub three : countAt j 0 4 ≡ 3
-    pub room : 19 + idLength j + serialLength j ≤ length j
-    pub good : settingsGood (settingsOf j) ≡ true
+    pub room : countPlaceIn j + 4 ≤ length j
+    pub good : settingsGood (headSettings j) ≡ true
 
   pub good-head : GoodHead
   unfolding headGood
@@ -186,81 +163,94 @@ module _ (j : List ℕ) (b : AllBytes j) (h : headGood j ≡ true) where
       let q = both _ _ (p .1) in
       record { three = eqb-true _ _ (p .0); room = leb-true _ _ (q .0); good = q .1 }
 
-  id-text : List ℕ
-  id-text = take (idLength j) (drop 11 j)
+  -- the sections are all there
+  csp-after : sectionEnd j 0 ≡ 7
+  unfolding sectionEnd
+  csp-after = omega (arith, good-head .three)
 
-  serial-text : List ℕ
-  serial-text = take (serialLength j) (drop (15 + idLength j) j)
+  serial-there : sectionEnd j (serialPlace j) ≤ length j
+  unfolding countPlaceIn
+  serial-there = let r = good-head .room in omega arith
 
-  id-is : settingsOf j .id ≡ nameOf id-text
-  unfolding settingsOf id-text
+  id-there : sectionEnd j 7 ≤ length j
+  unfolding serialPlace sectionEnd
+  id-there = let r = serial-there in omega arith
+
+  csp-there : sectionEnd j 0 ≤ length j
+  unfolding sectionEnd
+  csp-there = let r = id-there in let e = csp-after in omega arith
+
+  csp-is : headSettings j .csp ≡ sectionText j 0
+  unfolding headSettings
+  csp-is = refl
+
+  id-is : headSettings j .id ≡ nameOf (sectionText j 7)
+  unfolding headSettings
   id-is = refl
 
-  serial-is : settingsOf j .serial ≡ nameOf serial-text
-  unfolding settingsOf serial-text
+  serial-is : headSettings j .serial ≡ nameOf (sectionText j (serialPlace j))
+  unfolding headSettings
   serial-is = refl
 
-  length-id : length id-text ≡ idLength j
-  unfolding id-text
-  length-id = part-length j b 11 (idLength j) (omega (arith, good-head .room))
-
-  length-serial : length serial-text ≡ serialLength j
-  unfolding serial-text
-  length-serial = part-length j b (15 + idLength j) (serialLength j) (omega (arith, good-head .room))
-
-  id-len : settingsOf j .id .len ≡ idLength j
-  id-len = ap (λ (n : Name). n .len) id-is ∙ len-of id-text ∙ length-id
-
-  serial-len : settingsOf j .serial .len ≡ serialLength j
-  serial-len = ap (λ (n : Name). n .len) serial-is ∙ len-of serial-text ∙ length-serial
-
-  pub read-typed : TypedSettings (settingsOf j)
-  unfolding settingsOf
+  pub read-typed : TypedSettings (headSettings j)
+  unfolding headSettings
   read-typed =
       record {
-        lengths = record { csp = part-length j b 4 3 (omega (arith, good-head .room)); id = length-array (take (idLength j) (drop 11 j)); serial = length-array (take (serialLength j) (drop (15 + idLength j) j)) };
-        bytes = record { csp = bytes-take 3 (bytes-drop 4 b); id = bytes-array (bytes-take (idLength j) (bytes-drop 11 b)); serial = bytes-array (bytes-take (serialLength j) (bytes-drop (15 + idLength j) b)) };
+        lengths = record { csp = text-length j b 0 csp-there ∙ good-head .three; id = length-array (sectionText j 7); serial = length-array (sectionText j (serialPlace j)) };
+        bytes = record { csp = text-bytes j b 0 csp-there; id = bytes-array (text-bytes j b 7 id-there); serial = bytes-array (text-bytes j b (serialPlace j) serial-there) };
       }
+
+  id-len : headSettings j .id .len ≡ countAt j 7 4
+  id-len = ap (λ (n : Name). n .len) id-is ∙ len-of (sectionText j 7) ∙ text-length j b 7 id-there
+
+  serial-len : headSettings j .serial .len ≡ countAt j (serialPlace j) 4
+  serial-len = ap (λ (n : Name). n .len) serial-is ∙ len-of (sectionText j (serialPlace j)) ∙ text-length j b (serialPlace j) serial-there
+
+  pub read-length : headLength (headSettings j) ≡ countPlaceIn j + 4
+  unfolding headLength countPlaceIn serialPlace sectionEnd
+  read-length = omega (arith, id-len, serial-len)
+
+  pub read-place-is : countPlace (headSettings j) ≡ countPlaceIn j
+  unfolding countPlace
+  read-place-is = omega (arith, read-length)
 
   pub read-few : countOf j < 4294967296
   unfolding countOf
-  read-few = count-lt j b (15 + idLength j + serialLength j) 4 (omega (arith, good-head .room))
+  read-few = count-lt j b (countPlaceIn j) 4 (good-head .room)
 
-  pub read-length : headLength (settingsOf j) ≡ 19 + idLength j + serialLength j
-  unfolding headLength
-  read-length = λ i. 19 + id-len i + serial-len i
-
-  id-bytes : take 4 (drop 7 j) ≡ bytesOf 4 (settingsOf j .id .len)
-  unfolding idLength
-  id-bytes = sym (count-bytes j b 7 4 (omega (arith, good-head .room))) ∙ ap (bytesOf 4) (sym id-len)
-
-  serial-bytes : take 4 (drop (11 + idLength j) j) ≡ bytesOf 4 (settingsOf j .serial .len)
-  unfolding serialLength
-  serial-bytes = sym (count-bytes j b (11 + idLength j) 4 (omega (arith, good-head .room))) ∙ ap (bytesOf 4) (sym serial-len)
-
-  count-is : take 4 (drop (15 + idLength j + serialLength j) j) ≡ bytesOf 4 (countOf j)
-  unfolding countOf
-  count-is = sym (count-bytes j b (15 + idLength j + serialLength j) 4 (omega (arith, good-head .room)))
-
-  first-is : take 4 (drop 0 j) ≡ bytesOf 4 3
-  first-is = sym (count-bytes j b 0 4 (omega (arith, good-head .room))) ∙ ap (bytesOf 4) (good-head .three)
-
-  id-name : id-text ≡ nameText (settingsOf j .id)
+  id-name : sectionText j 7 ≡ nameText (headSettings j .id)
   id-name =
-      let n = good-settings (settingsOf j) (good-head .good) in
-      sym (text-of id-text (omega (arith, n .id .most, id-len, length-id))) ∙ ap nameText (sym id-is)
+      let n = good-settings (headSettings j) (good-head .good) in
+      sym (text-of (sectionText j 7) (omega (arith, n .id .most, id-len, text-length j b 7 id-there))) ∙ ap nameText (sym id-is)
 
-  serial-name : serial-text ≡ nameText (settingsOf j .serial)
+  serial-name : sectionText j (serialPlace j) ≡ nameText (headSettings j .serial)
   serial-name =
-      let n = good-settings (settingsOf j) (good-head .good) in
-      sym (text-of serial-text (omega (arith, n .serial .most, serial-len, length-serial))) ∙ ap nameText (sym serial-is)
+      let n = good-settings (headSettings j) (good-head .good) in
+      sym (text-of (sectionText j (serialPlace j)) (omega (arith, n .serial .most, serial-len, text-length j b (serialPlace j) serial-there)))
+      ∙ ap nameText (sym serial-is)
 
-  csp-is : take 3 (drop 4 j) ≡ settingsOf j .csp
-  unfolding settingsOf
-  csp-is = refl
+  first-part : j ≡ section (headSettings j .csp) ++ drop 7 j
+  first-part = section-there j b 0 csp-there ∙ (λ i. section (sym csp-is i) ++ drop (csp-after i) j)
 
-  pub read-back : j ≡ head (settingsOf j) (countOf j) ++ drop (headLength (settingsOf j)) j
-  unfolding head id-text serial-text
+  second-part : drop 7 j ≡ section (nameText (headSettings j .id)) ++ drop (serialPlace j) j
+  unfolding serialPlace
+  second-part = section-there j b 7 id-there ∙ ap (λ (l : List ℕ). section l ++ drop (sectionEnd j 7) j) id-name
+
+  third-part : drop (serialPlace j) j ≡ section (nameText (headSettings j .serial)) ++ drop (countPlaceIn j) j
+  unfolding countPlaceIn
+  third-part =
+      section-there j b (serialPlace j) serial-there ∙ ap (λ (l : List ℕ). section l ++ drop (sectionEnd j (serialPlace j)) j) serial-name
+
+  fourth-part : drop (countPlaceIn j) j ≡ bytesOf 4 (countOf j) ++ drop (headLength (headSettings j)) j
+  unfolding countOf
+  fourth-part =
+      cut j (countPlaceIn j) 4 ∙ (λ i. sym (count-bytes j b (countPlaceIn j) 4 (good-head .room)) i ++ drop (sym read-length i) j)
+
+  pub read-back : j ≡ head (headSettings j) (countOf j) ++ drop (headLength (headSettings j)) j
+  unfolding head front
   read-back =
-      seven j (idLength j) (serialLength j)
-      ∙ (λ i. first-is i ++ csp-is i ++ id-bytes i ++ id-name i ++ serial-bytes i ++ serial-name i ++ count-is i ++ drop (sym read-length i) j)
+      first-part
+      ∙ ap (λ (l : List ℕ). section (headSettings j .csp) ++ l)
+      (second-part ∙ ap (λ (l : List ℕ). section (nameText (headSettings j .id)) ++ l)
+      (third-part ∙ ap (λ (l : List ℕ). section (nameText (headSettings j .serial)) ++ l) fourth-part))
+      ∙ simp append-assoc

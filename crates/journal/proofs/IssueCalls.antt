@@ -34,11 +34,12 @@ use Rattle.receipt.proofs.EntryCalls.{spellable-true, preparable-made, spelled-
 use Rattle.receipt.proofs.ExactEntry.{compact-signed}
 use Rattle.journal.specs.Head.{headLength, countPlace, entryText}
 use Rattle.primitives.specs.Questions.{ask, ifZero}
-use Rattle.journal.specs.Issue.{soundAlone, sound, newCounter, signatureSized, detailsNumber, fieldsOf, givenSignature, entryOf, textOf, entryFits, issueNumber, next, issued, written, issueBuffer}
-use Rattle.journal.specs.Prepare.{preparedText, prepareNumber, prepareAnswer, prepareBuffer}
+use Rattle.journal.specs.Step.{soundAlone, sound, newCounter, detailsNumber, fieldsOf, next}
+use Rattle.journal.specs.Issuing.{signatureSized, givenSignature, entryOf, textOf, entryFits, issueNumber, issued, written, issueBuffer}
+use Rattle.journal.specs.Preparing.{preparedText, prepareNumber, prepareAnswer, prepareBuffer}
 use Rattle.journal.specs.declared.state.State.{State}
 use Rattle.journal.proofs.Places.{length-entry}
-use Rattle.journal.proofs.Lists.{sound-true, details-zero, details-yes, details-then, sized-cases, call-spellable}
+use Rattle.journal.proofs.CallLists.{sound-true, details-zero, details-yes, details-then, sized-cases, call-spellable}
 
 -- ---- the questions 7 to 11, and then the rest
 

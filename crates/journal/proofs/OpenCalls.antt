@@ -2,7 +2,7 @@
 use Prim.Native.Nat.{ℕ, _+_, _-_, _≤_}
 use mathlib.Core.Path.{_≡_, sym, ap, _∙_}
 use mathlib.Core.Bool.{true}
-use mathlib.Core.List.{List, _++_, append-assoc}
+use mathlib.Core.List.{List, _++_}
 use native.Mathlib.Omega.{arith}
 use lib.ListN.{length, take, length-append}
 use Rattle.primitives.specs.Place.{overwrite, placed}
@@ -13,12 +13,14 @@ use Rattle.receipt.specs.Settings.{nameText, settingsGood, SettingsLengths}
 use Rattle.receipt.specs.declared.settings.Settings.{Settings}
 use Rattle.receipt.proofs.Names.{good-settings, length-text}
 use Rattle.receipt.proofs.Entries.{lent-name}
-use Rattle.journal.specs.Head.{head, headLength, countPlace}
-use Rattle.journal.specs.State.{unopened, fresh}
-use Rattle.journal.specs.Open.{openNumber, opened, openBuffer}
+use Rattle.journal.specs.Head.{head, headLength, countPlace, front, section}
+use Rattle.journal.specs.State.{unopened}
+use Rattle.journal.specs.Step.{fresh}
+use Rattle.journal.specs.Opening.{openNumber, opened, openBuffer}
 use Rattle.journal.specs.declared.state.State.{State}
 use Rattle.primitives.proofs.Rows.{ifZero-yes, ifZero-no}
-use Rattle.journal.proofs.Heads.{front, head-front, front-place}
+use Rattle.journal.proofs.Heads.{front-place}
+use Rattle.journal.proofs.Sections.{length-section}
 
 -- ---- writers in a row
 
@@ -35,77 +37,64 @@ pub head-least : (s : Settings) → 19 ≤ headLength s
 unfolding headLength
 head-least s = omega arith
 
-module _ (s : Settings) (t : SettingsLengths s) (b : List ℕ) where
-  csp-long : length (bytesOf 4 3 ++ s .csp) ≡ 7
-  csp-long = length-append (bytesOf 4 3) (s .csp) ∙ omega (arith, length-bytesOf 4 3, t .csp)
+pub put-section : (text b : List ℕ) (at : ℕ) {b₁ b₂ : List ℕ} → at + 4 + length text ≤ length b → b₁ ≡ placed b at (bytesOf 4 (length text)) → b₂ ≡ placed b₁ (at + 4) text
+    → b₂ ≡ overwrite b at (section text)
+unfolding section
+put-section text b at h e₁ e₂ =
+    let l = length-bytesOf 4 (length text) in
+    then-placed b (bytesOf 4 (length text)) text at (at + 4) (e₁ ∙ placed-room b at (bytesOf 4 (length text)) (omega arith)) e₂ (omega arith) (omega arith)
 
-  text-long : length (bytesOf 4 3 ++ s .csp ++ bytesOf 4 (s .id .len)) ≡ 11
-  text-long = length-append (bytesOf 4 3 ++ s .csp) (bytesOf 4 (s .id .len)) ∙ omega (arith, csp-long, length-bytesOf 4 (s .id .len))
+module _ (s : Settings) (t : SettingsLengths s) (b : List ℕ) (good : settingsGood s ≡ true) (h : headLength s ≤ length b) where
+  id-long : length (nameText (s .id)) ≡ s .id .len
+  id-long = length-text (s .id) (t .id) (good-settings s good .id .most)
 
-  pub put-csp : {b₁ b₂ b₃ : List ℕ} → 11 ≤ length b → b₁ ≡ placed b 0 (bytesOf 4 3) → b₂ ≡ placed b₁ 4 (s .csp) → b₃ ≡ placed b₂ 7 (bytesOf 4 (s .id .len))
-      → b₃ ≡ overwrite b 0 (bytesOf 4 3 ++ s .csp ++ bytesOf 4 (s .id .len))
-  put-csp h e₁ e₂ e₃ =
-      let l₁ = length-bytesOf 4 3 in
-      let l₂ = t .csp in
-      let l₃ = length-bytesOf 4 (s .id .len) in
-      let l₄ = csp-long in
-      let w₁ = e₁ ∙ placed-room b 0 (bytesOf 4 3) (omega arith) in
-      let w₂ = then-placed b (bytesOf 4 3) (s .csp) 0 4 w₁ e₂ (omega arith) (omega arith) in
-      then-placed b (bytesOf 4 3 ++ s .csp) (bytesOf 4 (s .id .len)) 0 7 w₂ e₃ (omega arith) (omega arith)
+  serial-long : length (nameText (s .serial)) ≡ s .serial .len
+  serial-long = length-text (s .serial) (t .serial) (good-settings s good .serial .most)
 
-  module _ (good : settingsGood s ≡ true) (h : headLength s ≤ length b) where
-    id-long : length (nameText (s .id)) ≡ s .id .len
-    id-long = length-text (s .id) (t .id) (good-settings s good .id .most)
+  room : 19 + s .id .len + s .serial .len ≤ length b
+  unfolding headLength
+  room = h
 
-    serial-long : length (nameText (s .serial)) ≡ s .serial .len
-    serial-long = length-text (s .serial) (t .serial) (good-settings s good .serial .most)
+  -- what is lent of a name
+  lent-long : (length (take (s .id .len - 0) (s .id .bytes)) ≡ s .id .len) × (length (take (s .serial .len - 0) (s .serial .bytes)) ≡ s .serial .len)
+  lent-long = (ap length (lent-name (s .id)) ∙ id-long, ap length (lent-name (s .serial)) ∙ serial-long)
 
-    names-long : length (nameText (s .id) ++ bytesOf 4 (s .serial .len)) ≡ s .id .len + 4
-    names-long = length-append (nameText (s .id)) (bytesOf 4 (s .serial .len)) ∙ omega (arith, id-long, length-bytesOf 4 (s .serial .len))
+  pub csp-room : 0 + 4 + length (s .csp) ≤ length b
+  csp-room = omega (arith, room, t .csp)
 
-    room : 19 + s .id .len + s .serial .len ≤ length b
-    unfolding headLength
-    room = h
+  pub id-room : (b₁ : List ℕ) → length b₁ ≡ length b → 7 + 4 + length (take (s .id .len - 0) (s .id .bytes)) ≤ length b₁
+  id-room b₁ e = omega (arith, room, lent-long .0, e)
 
-    pub put-names : {b₁ b₂ b₃ : List ℕ} → b₁ ≡ placed b 11 (take (s .id .len - 0) (s .id .bytes)) → b₂ ≡ placed b₁ (11 + s .id .len) (bytesOf 4 (s .serial .len))
-        → b₃ ≡ placed b₂ (15 + s .id .len) (take (s .serial .len - 0) (s .serial .bytes))
-        → b₃ ≡ overwrite b 11 (nameText (s .id) ++ bytesOf 4 (s .serial .len) ++ nameText (s .serial))
-    put-names {b₁} {b₂} e₁ e₂ e₃ =
-        let l₁ = id-long in
-        let l₂ = serial-long in
-        let l₃ = length-bytesOf 4 (s .serial .len) in
-        let l₄ = names-long in
-        let r = room in
-        let w₁ = e₁ ∙ ap (placed b 11) (lent-name (s .id)) ∙ placed-room b 11 (nameText (s .id)) (omega arith) in
-        let w₂ = then-placed b (nameText (s .id)) (bytesOf 4 (s .serial .len)) 11 (11 + s .id .len) w₁ e₂ (omega arith) (omega arith) in
-        then-placed b (nameText (s .id) ++ bytesOf 4 (s .serial .len)) (nameText (s .serial)) 11 (15 + s .id .len) w₂
-        (e₃ ∙ ap (placed b₂ (15 + s .id .len)) (lent-name (s .serial))) (omega arith) (omega arith)
+  pub serial-room : (b₁ : List ℕ) → length b₁ ≡ length b → 11 + s .id .len + 4 + length (take (s .serial .len - 0) (s .serial .bytes)) ≤ length b₁
+  serial-room b₁ e = omega (arith, room, lent-long .1, e)
 
-    front-is : (bytesOf 4 3 ++ s .csp ++ bytesOf 4 (s .id .len)) ++ (nameText (s .id) ++ bytesOf 4 (s .serial .len) ++ nameText (s .serial)) ≡ front s
-    unfolding front
-    front-is = simp append-assoc
+  pub put-head : {b₁ b₂ b₃ b₄ : List ℕ} → b₁ ≡ overwrite b 0 (section (s .csp)) → b₂ ≡ overwrite b₁ 7 (section (take (s .id .len - 0) (s .id .bytes)))
+      → b₃ ≡ overwrite b₂ (11 + s .id .len) (section (take (s .serial .len - 0) (s .serial .bytes))) → b₄ ≡ overwrite b₃ (countPlace s) (bytesOf 4 0)
+      → b₄ ≡ overwrite b 0 (head s 0)
+  unfolding head front
+  put-head {b₁} {b₂} e₁ e₂ e₃ e₄ =
+      let c = section (s .csp) in
+      let i = section (nameText (s .id)) in
+      let n = section (nameText (s .serial)) in
+      let lc : length c ≡ 7 = omega (arith, length-section (s .csp), t .csp) in
+      let li : length i ≡ 4 + s .id .len = length-section (nameText (s .id)) ∙ ap (λ (k : ℕ). 4 + k) id-long in
+      let ln : length n ≡ 4 + s .serial .len = length-section (nameText (s .serial)) ∙ ap (λ (k : ℕ). 4 + k) serial-long in
+      let lci : length (c ++ i) ≡ 11 + s .id .len = length-append c i ∙ omega arith in
+      let lf : length (c ++ i ++ n) ≡ countPlace s = front-place s t good in
+      let r = room in
+      let lh : length (c ++ i ++ n) ≡ 15 + s .id .len + s .serial .len = length-append (c ++ i) n ∙ omega arith in
+      let l4 = length-bytesOf 4 0 in
+      let w₂ = then b c i 0 7 e₁ (e₂ ∙ ap (λ (l : List ℕ). overwrite b₁ 7 (section l)) (lent-name (s .id))) (omega arith) (omega arith) in
+      let w₃ = then b (c ++ i) n 0 (11 + s .id .len) w₂ (e₃ ∙ ap (λ (l : List ℕ). overwrite b₂ (11 + s .id .len) (section l)) (lent-name (s .serial))) (omega arith) (omega arith) in
+      then b (c ++ i ++ n) (bytesOf 4 0) 0 (countPlace s) w₃ e₄ (omega arith) (omega arith)
 
-    pub put-head : {b₁ b₂ b₃ : List ℕ} → b₁ ≡ overwrite b 0 (bytesOf 4 3 ++ s .csp ++ bytesOf 4 (s .id .len))
-        → b₂ ≡ overwrite b₁ 11 (nameText (s .id) ++ bytesOf 4 (s .serial .len) ++ nameText (s .serial))
-        → b₃ ≡ overwrite b₂ (countPlace s) (bytesOf 4 0)
-        → b₃ ≡ overwrite b 0 (head s 0)
-    unfolding countPlace headLength
-    put-head {b₁} {b₂} e₁ e₂ e₃ =
-        let p = front-place s t good in
-        let l = text-long in
-        let r = room in
-        let w : b₂ ≡ overwrite b 0 (front s) =
-        then b (bytesOf 4 3 ++ s .csp ++ bytesOf 4 (s .id .len)) (nameText (s .id) ++ bytesOf 4 (s .serial .len) ++ nameText (s .serial)) 0 11 e₁ e₂ (omega arith) (omega arith)
-        ∙ ap (overwrite b 0) front-is in
-        then b (front s) (bytesOf 4 0) 0 (countPlace s) w e₃ (omega arith) (omega arith) ∙ ap (overwrite b 0) (sym (head-front s 0))
-
-pub put-count : (s : Settings) (count : ℕ) (b : List ℕ) {k : ℕ} {b₁ : List ℕ} → headLength s ≤ length b → k ≡ headLength s → b₁ ≡ placed b (k - 4) (bytesOf 4 count)
+pub put-count : (s : Settings) (count : ℕ) (b : List ℕ) {k : ℕ} {b₁ : List ℕ} → headLength s ≤ length b → k ≡ countPlace s → b₁ ≡ placed b k (bytesOf 4 count)
     → b₁ ≡ overwrite b (countPlace s) (bytesOf 4 count)
 unfolding countPlace
 put-count s count b {k} h e q =
     let l = length-bytesOf 4 count in
     let m = head-least s in
-    q ∙ (λ i. placed b (e i - 4) (bytesOf 4 count)) ∙ placed-room b (headLength s - 4) (bytesOf 4 count) (omega arith)
+    q ∙ (λ i. placed b (e i) (bytesOf 4 count)) ∙ placed-room b (headLength s - 4) (bytesOf 4 count) (omega arith)
 
 -- ---- the answers
 

@@ -12,8 +12,7 @@ use Rattle.primitives.specs.Number.{bytesOf, valueOf, countAt}
 use Rattle.primitives.proofs.ByteLists.{bytes-take, bytes-drop}
 use Rattle.primitives.proofs.Numbers.{length-bytesOf, value-bytesOf, bytesOf-value, value-lt}
 use Rattle.primitives.proofs.Rows.{both}
-use Rattle.journal.specs.Head.{entryText}
-use Rattle.journal.specs.TakeOver.{lengthAt, there, textAt}
+use Rattle.journal.specs.Head.{entryText, lengthAt, there, textAt}
 
 -- ---- what stands in the middle
 

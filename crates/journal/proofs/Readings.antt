@@ -1,11 +1,11 @@
 -- What the counts and parts that are read in a head come to.
 use Prim.Native.Nat.{ℕ, _+_, _-_, _≤_, _<_}
-use mathlib.Core.Path.{_≡_, refl, sym, ap, _∙_}
+use mathlib.Core.Path.{_≡_, refl, sym, ap, _∙_, subst}
 use mathlib.Core.Bool.{Bool, true, false, _&&_, and-false}
 use mathlib.Core.List.{List, [], _∷_}
 use native.Mathlib.Nat.{pow-le-pow-right}
 use native.Mathlib.Omega.{arith}
-use borrow.Author.Tests.{leb-true, leb-false, le-leb, lt-leb, eq-eqb, ne-eqb}
+use borrow.Author.Tests.{leb-true, leb-false, le-leb, lt-leb, eq-eqb, ne-eqb, eqb-true}
 use lib.Dec.{leb, eqb, lit<}
 use lib.ListN.{length, take, drop, getD}
 use lib.Seq.{drop-cons}
@@ -17,7 +17,7 @@ use Rattle.receipt.specs.Settings.{nameOf, settingsGood}
 use Rattle.receipt.specs.declared.settings.Name.{Name}
 use Rattle.receipt.specs.declared.settings.Settings.{Settings}
 use Rattle.primitives.proofs.Rows.{both, and-no, and-yes}
-use Rattle.journal.specs.TakeOver.{idLength, serialLength, settingsOf, countOf, headGood}
+use Rattle.journal.specs.Head.{headSettings, headGood, sectionText, sectionEnd, serialPlace, countPlaceIn}
 
 -- ---- a count
 
@@ -44,13 +44,24 @@ leb-moved a b len h = go (leb b (len - a)) refl
     go true e = let l = leb-true b (len - a) e in sym (le-leb (a + b) len (omega arith))
     go false e = let l = leb-false b (len - a) e in sym (lt-leb (a + b) len (omega arith))
 
+-- the lengths of ID and serial, as they are counted
+abbrev idLength : List ℕ → ℕ
+idLength j = countAt j 7 4
+
+abbrev serialLength : List ℕ → ℕ
+serialLength j = countAt j (11 + idLength j) 4
+
 module _ (j : List ℕ) where
+  place-is : countPlaceIn j + 4 ≡ 19 + idLength j + serialLength j
+  unfolding countPlaceIn serialPlace sectionEnd
+  place-is = omega arith
+
   -- the first count is 3, and the head is all there
   abbrev pub whole : Bool
-  whole = eqb (countAt j 0 4) 3 && leb (19 + idLength j + serialLength j) (length j)
+  whole = eqb (countAt j 0 4) 3 && leb (countPlaceIn j + 4) (length j)
 
   short-no : length j < 19 + idLength j + serialLength j → false ≡ whole
-  short-no h = sym (rw (lt-leb (19 + idLength j + serialLength j) (length j) h, and-false))
+  short-no h = sym (rw (lt-leb (countPlaceIn j + 4) (length j) (omega (arith, place-is)), and-false))
 
   pub whole-short : length j < 19 → false ≡ whole
   whole-short h = short-no (omega arith)
@@ -59,68 +70,89 @@ module _ (j : List ℕ) where
   whole-other e h = and-no _ _ (ne-eqb (countAt j 0 4) 3 (λ q. h (e ∙ q)))
 
   module _ {a : ℕ} (ea : a ≡ countAt j 7 4) where
-    pub id-read : a ≡ idLength j
-    unfolding idLength
-    id-read = ea
-
     pub whole-long : length j - 19 < a → false ≡ whole
-    whole-long h = let e = id-read in short-no (omega arith)
+    whole-long h = short-no (omega arith)
 
     module _ {b : ℕ} (eb : b ≡ countAt j (11 + a) 4) where
-      pub serial-read : b ≡ serialLength j
-      unfolding serialLength
-      serial-read = eb ∙ ap (λ (k : ℕ). countAt j (11 + k) 4) id-read
-
-      pub count-read : {c : ℕ} → c ≡ countAt j (15 + a + b) 4 → c ≡ countOf j
-      unfolding countOf
-      count-read e = e ∙ (λ i. countAt j (15 + id-read i + serial-read i) 4)
+      serial-read : b ≡ serialLength j
+      serial-read = eb ∙ ap (λ (k : ℕ). countAt j (11 + k) 4) ea
 
       pub whole-is : {v : ℕ} → v ≡ countAt j 0 4 → v ≡ 3 → 19 ≤ length j → a ≤ length j - 19 → leb b (length j - 19 - a) ≡ whole
       whole-is e three h l =
           let m : length j - 19 - a ≡ length j - (19 + a) = omega arith in
+          let n : 19 + a + b ≡ countPlaceIn j + 4 = omega (arith, place-is, serial-read, ea) in
           and-yes _ _ _ (eq-eqb (countAt j 0 4) 3 (sym e ∙ three))
-          (ap (leb b) m ∙ leb-moved (19 + a) b (length j) (omega arith) ∙ (λ i. leb (19 + id-read i + serial-read i) (length j)))
+          (ap (leb b) m ∙ leb-moved (19 + a) b (length j) (omega arith) ∙ ap (λ (k : ℕ). leb k (length j)) n)
 
-      -- what is read as the settings
-      module _ {id serial : Name} (room : 19 + idLength j + serialLength j ≤ length j)
-          (ei : id ≡ nameOf (take (11 + a - 11) (drop 11 j)))
-          (es : serial ≡ nameOf (take (11 + a + 4 + b - (11 + a + 4)) (drop (11 + a + 4) j))) where
-        three : take 3 (drop 4 j) ≡ getD j 4 0 ∷ getD j 5 0 ∷ getD j 6 0 ∷ []
-        three =
-            let e₁ : drop 4 j ≡ getD j 4 0 ∷ drop 5 j = drop-cons j 4 0 (omega arith) in
-            let e₂ : drop 5 j ≡ getD j 5 0 ∷ drop 6 j = drop-cons j 5 0 (omega arith) in
-            let e₃ : drop 6 j ≡ getD j 6 0 ∷ drop 7 j = drop-cons j 6 0 (omega arith) in
-            ap (take 3) (e₁ ∙ ap (λ (l : List ℕ). getD j 4 0 ∷ l) (e₂ ∙ ap (λ (l : List ℕ). getD j 5 0 ∷ l) e₃))
+  -- ---- the settings of a whole head
 
-        id-is : id ≡ nameOf (take (idLength j) (drop 11 j))
-        id-is =
-            let k : 11 + a - 11 ≡ idLength j = omega (arith, id-read) in
-            ei ∙ ap (λ (m : ℕ). nameOf (take m (drop 11 j))) k
+  module _ (three : countAt j 0 4 ≡ 3) (room : countPlaceIn j + 4 ≤ length j) where
+    pub serial-room : sectionEnd j (serialPlace j) ≤ length j
+    unfolding countPlaceIn
+    serial-room = omega (arith, room)
 
-        serial-is : serial ≡ nameOf (take (serialLength j) (drop (15 + idLength j) j))
-        serial-is =
-            let k : 11 + a + 4 + b - (11 + a + 4) ≡ serialLength j = omega (arith, serial-read) in
-            let p : 11 + a + 4 ≡ 15 + idLength j = omega (arith, id-read) in
-            es ∙ (λ i. nameOf (take (k i) (drop (p i) j)))
+    pub id-room : sectionEnd j 7 ≤ length j
+    unfolding serialPlace sectionEnd
+    id-room = let r = serial-room in omega arith
 
-        pub settings-read : _≡_ {A = Settings} (record { csp = getD j 4 0 ∷ getD j 5 0 ∷ getD j 6 0 ∷ []; id = id; serial = serial }) (settingsOf j)
-        unfolding settingsOf
-        settings-read = λ i. record { csp = sym three i; id = id-is i; serial = serial-is i }
+    module _ {a b : ℕ} (ea : a ≡ sectionEnd j 7) (eb : b ≡ sectionEnd j a) where
+      at-serial : a ≡ serialPlace j
+      unfolding serialPlace
+      at-serial = ea
+
+      pub second-room : sectionEnd j a ≤ length j
+      second-room = subst (λ (k : ℕ). sectionEnd j k ≤ length j) (sym at-serial) serial-room
+
+      pub id-ends : (11 ≤ a) × (a ≤ length j)
+      unfolding sectionEnd
+      id-ends = let r = id-room in (omega (arith, ea), omega (arith, ea))
+
+      pub serial-ends : (a + 4 ≤ b) × (b ≤ length j)
+      unfolding sectionEnd
+      serial-ends = let r = second-room in (omega (arith, eb), omega (arith, eb))
+
+      csp-is : sectionText j 0 ≡ getD j 4 0 ∷ getD j 5 0 ∷ getD j 6 0 ∷ []
+      unfolding sectionText
+      csp-is =
+          let r = id-ends in
+          let e₁ : drop 4 j ≡ getD j 4 0 ∷ drop 5 j = drop-cons j 4 0 (omega arith) in
+          let e₂ : drop 5 j ≡ getD j 5 0 ∷ drop 6 j = drop-cons j 5 0 (omega arith) in
+          let e₃ : drop 6 j ≡ getD j 6 0 ∷ drop 7 j = drop-cons j 6 0 (omega arith) in
+          ap (λ (n : ℕ). take n (drop 4 j)) three ∙ ap (take 3) (e₁ ∙ ap (λ (l : List ℕ). getD j 4 0 ∷ l) (e₂ ∙ ap (λ (l : List ℕ). getD j 5 0 ∷ l) e₃))
+
+      id-text : take (a - 11) (drop 11 j) ≡ sectionText j 7
+      unfolding sectionText sectionEnd
+      id-text =
+          let k : a - 11 ≡ countAt j 7 4 = omega (arith, ea) in
+          ap (λ (n : ℕ). take n (drop 11 j)) k
+
+      serial-text : take (b - (a + 4)) (drop (a + 4) j) ≡ sectionText j (serialPlace j)
+      unfolding sectionText sectionEnd
+      serial-text =
+          let k : b - (a + 4) ≡ countAt j a 4 = omega (arith, eb) in
+          ap (λ (n : ℕ). take n (drop (a + 4) j)) k ∙ ap (λ (p : ℕ). take (countAt j p 4) (drop (p + 4) j)) at-serial
+
+      pub settings-read : {id serial : Name} → id ≡ nameOf (take (a - 11) (drop 11 j)) → serial ≡ nameOf (take (b - (a + 4)) (drop (a + 4) j))
+          → _≡_ {A = Settings} (record { csp = getD j 4 0 ∷ getD j 5 0 ∷ getD j 6 0 ∷ []; id = id; serial = serial }) (headSettings j)
+      unfolding headSettings
+      settings-read ei es = λ i. record { csp = sym csp-is i; id = (ei ∙ ap nameOf id-text) i; serial = (es ∙ ap nameOf serial-text) i }
 
   -- ---- question 14
 
   pub head-no : whole ≡ false → headGood j ≡ false
   unfolding headGood
-  head-no e = go (eqb (countAt j 0 4) 3) (leb (19 + idLength j + serialLength j) (length j)) e
+  head-no e = go (eqb (countAt j 0 4) 3) (leb (countPlaceIn j + 4) (length j)) e
     where
-      go : (t u : Bool) → t && u ≡ false → t && (u && settingsGood (settingsOf j)) ≡ false
+      go : (t u : Bool) → t && u ≡ false → t && (u && settingsGood (headSettings j)) ≡ false
       go true true e = absurd (let z : _≡_ {A = ℕ} 0 1 = cc in omega arith)
       go true false e = refl
       go false u e = refl
 
-  pub head-is : whole ≡ true → headGood j ≡ settingsGood (settingsOf j)
+  pub head-is : whole ≡ true → headGood j ≡ settingsGood (headSettings j)
   unfolding headGood
-  head-is e = let p = both (eqb (countAt j 0 4) 3) (leb (19 + idLength j + serialLength j) (length j)) e in rw (p .0, p .1)
+  head-is e = let p = both (eqb (countAt j 0 4) 3) (leb (countPlaceIn j + 4) (length j)) e in rw (p .0, p .1)
 
-  pub whole-room : whole ≡ true → 19 + idLength j + serialLength j ≤ length j
-  whole-room e = leb-true (19 + idLength j + serialLength j) (length j) (both (eqb (countAt j 0 4) 3) (leb (19 + idLength j + serialLength j) (length j)) e .1)
+  pub whole-room : whole ≡ true → (countAt j 0 4 ≡ 3) × (countPlaceIn j + 4 ≤ length j)
+  whole-room e =
+      let p = both (eqb (countAt j 0 4) 3) (leb (countPlaceIn j + 4) (length j)) e in
+      (eqb-true (countAt j 0 4) 3 (p .0), leb-true (countPlaceIn j + 4) (length j) (p .1))

@@ -1,22 +1,24 @@
 -- What a refused call leaves.
 use Prim.Native.Nat.{ℕ, zero, suc}
 use mathlib.Core.Path.{_≡_, refl}
-use mathlib.Core.Bool.{Bool, true, false, cond}
 use mathlib.Core.List.{List}
-use lib.Dec.{leb}
 use lib.ListN.{length}
 use Rattle.receipt.specs.declared.settings.Settings.{Settings}
 use Rattle.receipt.specs.declared.details.Details.{Details}
-use Rattle.journal.specs.State.{unopened, fresh}
+use Rattle.journal.specs.State.{unopened}
+use Rattle.journal.specs.Step.{fresh}
 use Rattle.primitives.specs.Questions.{ifZero}
-use Rattle.journal.specs.Open.{openNumber, opened, openBuffer}
-use Rattle.journal.specs.Issue.{issueNumber, issued, issueBuffer}
-use Rattle.journal.specs.Prepare.{prepareNumber, prepareAnswer, prepareBuffer}
-use Rattle.journal.specs.TakeOver.{settingsOf, countOf, headNumber, textAt, stepNumber, after, refused, accepted, checkFrom, takeOver}
+use Rattle.journal.specs.Opening.{openNumber, opened, openBuffer}
+use Rattle.journal.specs.Issuing.{issueNumber, issued, issueBuffer}
+use Rattle.journal.specs.Preparing.{prepareNumber, prepareAnswer, prepareBuffer}
+use Rattle.journal.specs.Checking.{headNumber, refused, accepted, takeOver, answerOf, steps}
+use Rattle.journal.specs.Head.{headSettings}
 use Rattle.journal.specs.Demands.{RefusedChangesNothing}
 use Rattle.journal.specs.declared.state.State.{State}
 use Rattle.journal.specs.declared.state.TakenOver.{TakenOver}
 use Rattle.primitives.proofs.Rows.{ifZero-no}
+use Rattle.journal.specs.declared.checking.Step.{Step}
+use Rattle.primitives.specs.Aes.{keySchedule}
 
 open-refused : (s : Settings) (key : List ℕ) (n : ℕ) (buf : List ℕ) → (opened s key n (length buf) .number ≡ 0 → ⊥)
     → (opened s key n (length buf) .state ≡ unopened) × (openBuffer s n buf ≡ buf)
@@ -48,20 +50,15 @@ zero-number : (st : State) → accepted st .number ≡ 0
 unfolding accepted
 zero-number st = refl
 
-check-refused : (m : ℕ) (st : State) (j : List ℕ) → (checkFrom m st j .number ≡ 0 → ⊥) → checkFrom m st j .state ≡ unopened
-unfolding checkFrom
-check-refused zero st j h = go (leb (length j) (st .length)) h
-  where
-    go : (t : Bool) → (cond t (accepted st) (refused 21 (st .issued)) .number ≡ 0 → ⊥) → cond t (accepted st) (refused 21 (st .issued)) .state ≡ unopened
-    go true h = absurd (h (zero-number st))
-    go false h = refused-state 21 (st .issued)
-check-refused (suc m) st j h =
-    pick (stepNumber st j) (st .issued) (checkFrom m (after st (textAt j (st .length))) j) (check-refused m (after st (textAt j (st .length))) j) h
+answer-refused : (s : Step) → (answerOf s .number ≡ 0 → ⊥) → answerOf s .state ≡ unopened
+unfolding answerOf
+answer-refused s = pick (s .number) (s .state .issued) (accepted (s .state)) (λ h. absurd (h (zero-number (s .state))))
 
 take-refused : (j key : List ℕ) (n : ℕ) → (takeOver j key n .number ≡ 0 → ⊥) → takeOver j key n .state ≡ unopened
 unfolding takeOver
-take-refused j key n h =
-    pick (headNumber j n) 0 (checkFrom (countOf j) (fresh (settingsOf j) n key) j) (check-refused (countOf j) (fresh (settingsOf j) n key) j) h
+take-refused j key n =
+    let s = steps (keySchedule key) (length j) (fresh (headSettings j) n key) j in
+    pick (headNumber j n) 0 (answerOf s) (answer-refused s)
 
 pub refused-changes-nothing : RefusedChangesNothing
 refused-changes-nothing = record { opens = open-refused; issues = issue-refused; prepares = prepare-refused; takes = take-refused }

@@ -20,10 +20,11 @@ use Rattle.receipt.specs.Compact.{compact}
 use Rattle.receipt.specs.declared.settings.Settings.{Settings}
 use Rattle.receipt.specs.declared.entry.Entry.{Entry}
 use Rattle.journal.specs.Head.{head, headLength, countPlace, entryText}
-use Rattle.journal.specs.State.{unopened, fresh}
+use Rattle.journal.specs.State.{unopened}
+use Rattle.journal.specs.Step.{fresh, fieldsOf, next}
 use Rattle.primitives.specs.Questions.{ifZero}
-use Rattle.journal.specs.Open.{openNumber, opened, openBuffer}
-use Rattle.journal.specs.Issue.{fieldsOf, entryOf, textOf, issueNumber, next, issued, written, issueBuffer}
+use Rattle.journal.specs.Opening.{openNumber, opened, openBuffer}
+use Rattle.journal.specs.Issuing.{entryOf, textOf, issueNumber, issued, written, issueBuffer}
 use Rattle.journal.specs.Receipts.{receiptOf, receiptsIn, sum}
 use Rattle.journal.specs.Valid.{texts}
 use Rattle.journal.specs.Calls.{Call, TypedCall, TypedCalls, none, more, Register, opening, numberOf, call, calls, receiptOfCall, receiptsOf}
@@ -33,7 +34,7 @@ use Rattle.receipt.proofs.Entries.{all-settings}
 use Rattle.journal.proofs.Heads.{front-place, length-head}
 use Rattle.journal.proofs.Check as check
 use Rattle.journal.proofs.Check.{RightAt, textIn, step, AllRight, run, step-length}
-use Rattle.journal.proofs.Lists.{run-snoc, texts-snoc, right-snoc, Eight, chain-eight, kept, Bounds, bounds, run-sum, written-bytes, written-length, Answered, issue-zero, right-call}
+use Rattle.journal.proofs.CallLists.{run-snoc, texts-snoc, right-snoc, Eight, chain-eight, kept, Bounds, bounds, run-sum, written-bytes, written-length, Answered, issue-zero, right-call}
 
 -- ---- the fresh state
 

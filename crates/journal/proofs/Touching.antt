@@ -16,11 +16,11 @@ use Rattle.receipt.specs.declared.settings.Settings.{Settings}
 use Rattle.receipt.specs.declared.details.Details.{Details}
 use Rattle.journal.specs.Head.{headLength, countPlace, entryText}
 use Rattle.primitives.specs.Questions.{ifZero}
-use Rattle.journal.specs.Issue.{textOf, issueNumber, written, issueBuffer}
+use Rattle.journal.specs.Issuing.{textOf, issueNumber, written, issueBuffer}
 use Rattle.journal.specs.Demands.{TouchesNoOther}
 use Rattle.journal.specs.declared.state.State.{State}
 use Rattle.primitives.proofs.Rows.{ifZero-yes, ifZero-no}
-use Rattle.journal.proofs.Lists.{issue-zero}
+use Rattle.journal.proofs.CallLists.{issue-zero}
 
 -- a byte outside of what is written
 outside : (xs : List ℕ) (at : ℕ) (ys : List ℕ) (i : ℕ) → at + length ys ≤ length xs → (at ≤ i → i < at + length ys → ⊥) → getD (overwrite xs at ys) i 0 ≡ getD xs i 0

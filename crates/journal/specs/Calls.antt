@@ -9,8 +9,8 @@ use Rattle.receipt.specs.declared.settings.Settings.{Settings}
 use Rattle.receipt.specs.declared.details.Details.{Details}
 use Rattle.receipt.specs.declared.entry.Entry.{Entry}
 use Rattle.primitives.specs.Questions.{ifZero}
-use Rattle.journal.specs.Open.{opened, openBuffer}
-use Rattle.journal.specs.Issue.{issueNumber, issued, issueBuffer, givenSignature}
+use Rattle.journal.specs.Opening.{opened, openBuffer}
+use Rattle.journal.specs.Issuing.{issueNumber, issued, issueBuffer, givenSignature}
 use Rattle.journal.specs.Receipts.{Receipt}
 use Rattle.journal.specs.declared.state.State.{State}
 

@@ -11,13 +11,13 @@ use Rattle.receipt.specs.Form.{secondDot}
 use Rattle.receipt.specs.declared.settings.Settings.{Settings}
 use Rattle.receipt.specs.declared.details.Details.{Details}
 use Rattle.receipt.specs.declared.entry.Entry.{Entry}
-use Rattle.journal.specs.Head.{headLength, countPlace, entryText}
+use Rattle.journal.specs.Head.{headLength, countPlace, entryText, headSettings}
 use Rattle.journal.specs.State.{unopened}
 use Rattle.receipt.specs.Settings.{TypedSettings}
-use Rattle.journal.specs.Open.{openNumber, opened, openBuffer}
-use Rattle.journal.specs.Issue.{textOf, issueNumber, issued, issueBuffer}
-use Rattle.journal.specs.Prepare.{preparedText, prepareNumber, prepareAnswer, prepareBuffer}
-use Rattle.journal.specs.TakeOver.{settingsOf, refused, accepted, takeOver}
+use Rattle.journal.specs.Opening.{openNumber, opened, openBuffer}
+use Rattle.journal.specs.Issuing.{textOf, issueNumber, issued, issueBuffer}
+use Rattle.journal.specs.Preparing.{preparedText, prepareNumber, prepareAnswer, prepareBuffer}
+use Rattle.journal.specs.Checking.{refused, accepted, takeOver}
 use Rattle.journal.specs.Receipts.{receiptsIn, sum}
 use Rattle.journal.specs.Valid.{Valid, texts}
 use Rattle.journal.specs.FirstNo.{NoAt}
@@ -54,14 +54,14 @@ Forth =
 -- what holds where the entries es of the journal j are issued anew
 pub record Again (j key : List ℕ) (n : ℕ) (es : List Entry) (buf : List ℕ) : Type 0 where
   -- "Open with the CSP, ID and serial of its head, the key and N under which it was accepted": not refused
-  pub opened : openNumber (settingsOf j) n (length buf) ≡ 0
+  pub opened : openNumber (headSettings j) n (length buf) ≡ 0
   -- one call for each entry, such as the code's types allow: none is refused
   pub typed : TypedCalls (callsOf es)
-  pub none : numbersOf (opening (settingsOf j) key n buf) (callsOf es) ≡ replicate (length es) 0
+  pub none : numbersOf (opening (headSettings j) key n buf) (callsOf es) ≡ replicate (length es) 0
   -- the buffer is the journal, byte by byte
-  pub journal : calls (opening (settingsOf j) key n buf) (callsOf es) .buf ≡ j
+  pub journal : calls (opening (headSettings j) key n buf) (callsOf es) .buf ≡ j
   -- under the state that taking over gave
-  pub state : calls (opening (settingsOf j) key n buf) (callsOf es) .state ≡ takeOver j key n .state
+  pub state : calls (opening (headSettings j) key n buf) (callsOf es) .state ≡ takeOver j key n .state
   pub counter : takeOver j key n .state .counter ≡ sum (receiptsIn es)
 
 -- for every accepted journal, "and any buffer of its length"

@@ -1,11 +1,12 @@
 pub mod Calls
+pub mod Checking
 pub mod Demands
 pub mod FirstNo
 pub mod Head
-pub mod Issue
-pub mod Open
-pub mod Prepare
+pub mod Issuing
+pub mod Opening
+pub mod Preparing
 pub mod Receipts
 pub mod State
-pub mod TakeOver
+pub mod Step
 pub mod Valid

@@ -7,11 +7,9 @@ use lib.IntN.{pos}
 use lib.ListN.{length, replicate}
 use Rattle.primitives.specs.Bytes.{AllBytes}
 use Rattle.primitives.specs.Counter.{fitsIn}
-use Rattle.receipt.specs.Settings.{nameText, SettingsLengths}
-use Rattle.receipt.specs.Chain.{chainValue}
+use Rattle.receipt.specs.Settings.{SettingsLengths}
 use Rattle.receipt.specs.declared.settings.Name.{Name}
 use Rattle.receipt.specs.declared.settings.Settings.{Settings}
-use Rattle.journal.specs.Head.{headLength}
 use Rattle.journal.specs.declared.state.State.{State}
 
 -- ---- states
@@ -31,20 +29,6 @@ unopened =
       issued = 0;
       chain = replicate 8 0;
       length = 0;
-    }
-
--- "counter, last number and receipts issued 0, the chain bytes of the ID and the head's length as journal length"
-unfoldable pub fresh : Settings → ℕ → List ℕ → State
-fresh s n key =
-    record {
-      settings = s;
-      width = n;
-      key = key;
-      counter = pos 0;
-      last = 0;
-      issued = 0;
-      chain = chainValue (nameText (s .id));
-      length = headLength s;
     }
 
 -- ---- what the code's types say

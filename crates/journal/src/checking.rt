@@ -1,38 +1,31 @@
-// Taking over a journal: its head, and entry by entry.
-use super::issuing::next;
-use super::questions::first_good;
-use super::reading::count_at;
-use super::reading::head_whole;
-use super::reading::receipts_count;
-use super::reading::settings_at;
-use super::register::fresh;
-use super::register::unopened;
+// Taking over a journal: its head, and step by step.
+use super::head::count_at;
+use super::head::count_place;
+use super::head::head_settings;
+use super::head::head_whole;
+use super::head::there;
 use super::state::State;
 use super::state::TakenOver;
-use receipt::Details;
+use super::state::unopened;
+use super::step::first_good;
+use super::step::fresh;
+use super::step::next;
+use super::step::sound;
+use super::step::sound_alone;
+use receipt::Found;
 use receipt::Kind;
 use receipt::PayloadFields;
 ghost use mathlib.Core.Path.{_≡_};
+ghost use mathlib.Core.Bool.{true, false};
 ghost use Prim.Native.Nat.{_+_, _≤_, _<_};
 ghost use lib.ListN.{length};
 ghost use Rattle.primitives.specs.Bytes.{same};
-ghost use Rattle.primitives.specs.Aes.{keySchedule};
+ghost use Rattle.receipt.specs.Settings.{settingsGood};
 ghost use Rattle.receipt.specs.Chain.{decryptedCounter};
-ghost use Rattle.primitives.specs.Questions.{ifZero};
-ghost use Rattle.journal.specs.TakeOver.{there, textAt, equal, counterRight, fieldsNumber, entryNumber, after, stepNumber, refused, checkFrom, takeOver};
+ghost use Rattle.journal.specs.Head.{headLength};
+ghost use Rattle.journal.specs.Checking.{equal, counterRight, contextNumber, full, stopped, textChecked, placeChecked, endChecked, oneStep, steps, refused, answerOf, takeOver, entryReady, entryChecked, stepChecked};
 
 // ---- one entry
-
-// 15: the length and the bytes are all there.
-fn there(j: &[u8], at: usize) -> bool
-    ensures { λ r. ⌜ r ≡ there (now (j .entry)) at ⌝ }
-{
-    if !receipt::has_room(j.len(), at, 2) {
-        return false;
-    }
-    let n = count_at(j, at, 2);
-    receipt::has_room(j.len(), at + 2, n)
-}
 
 // 19: the chain field is that of the state.
 fn chain_right(st: State, f: PayloadFields) -> bool
@@ -56,8 +49,7 @@ fn decrypts_to(schedule: &[[u8; 4]; 60], st: State, f: PayloadFields, z: i64) ->
 
 // 20: the new counter fits, and a standard receipt has it.
 fn counter_right(schedule: &[[u8; 4]; 60], st: State, f: PayloadFields) -> bool
-    requires { ⌜ now schedule ≡ keySchedule (st .key) ⌝ }
-    ensures { λ r. ⌜ r ≡ counterRight st f ⌝ }
+    ensures { λ r. ⌜ r ≡ counterRight (now (schedule .entry)) st f ⌝ }
 {
     let d = f.details;
     let new = receipt::counter_after(st.width, st.counter, d);
@@ -73,9 +65,8 @@ fn counter_right(schedule: &[[u8; 4]; 60], st: State, f: PayloadFields) -> bool
 }
 
 // 17 to 20.
-fn fields_number(schedule: &[[u8; 4]; 60], st: State, f: PayloadFields) -> u32
-    requires { ⌜ now schedule ≡ keySchedule (st .key) ⌝ }
-    ensures { λ r. ⌜ r ≡ fieldsNumber st f ⌝ }
+fn context_number(schedule: &[[u8; 4]; 60], st: State, f: PayloadFields) -> u32
+    ensures { λ r. ⌜ r ≡ contextNumber (now (schedule .entry)) st f ⌝ }
 {
     let d = f.details;
     if d.number <= st.last {
@@ -93,54 +84,138 @@ fn fields_number(schedule: &[[u8; 4]; 60], st: State, f: PayloadFields) -> u32
     0
 }
 
-// The number of an entry, and the state behind it where the number is 0.
+// What a step answers: the number of the question with "no" and the state that it was given; or 0, what it read and the state after it.
+// After the last entry nothing is read, and the state stays.
+pub struct Checked {
+    pub number: u32,
+    pub found: Found,
+    pub state: State,
+}
+
+// A step that is refused.
+fn stopped(number: u32, st: State) -> Checked
+    ensures { λ r. ⌜ r ≡ stopped number st ⌝ }
+{
+    let found = receipt::no_entry();
+    Checked {
+        number,
+        found: found,
+        state: st,
+    }
+}
+
+// 16 to 20, of the bytes of one entry.
+fn check_text(schedule: &[[u8; 4]; 60], st: State, text: &[u8]) -> Checked
+    requires { ⌜ (st .issued ≤ st .last) × (st .length + 2 + length (now text) < 18446744073709551616) ⌝ }
+    ensures { λ r. ⌜ r ≡ textChecked (now (schedule .entry)) st (now (text .entry)) ⌝ }
+{
+    let settings = st.settings;
+    let found = receipt::read_entry(settings, st.width, text);
+    if !found.ok {
+        return stopped(16, st);
+    }
+    let entry = found.entry;
+    let f = entry.fields;
+    let number = context_number(schedule, st, f);
+    if number != 0 {
+        return stopped(number, st);
+    }
+    let d = f.details;
+    let state = next(st, d, text);
+    Checked {
+        number: 0,
+        found: found,
+        state: state,
+    }
+}
+
+// 15 to 20, of the entry at the state's place.
+fn check_place(schedule: &[[u8; 4]; 60], st: State, j: &[u8]) -> Checked
+    requires { ⌜ st .issued ≤ st .last ⌝ }
+    ensures { λ r. ⌜ r ≡ placeChecked (now (schedule .entry)) st (now (j .entry)) ⌝ }
+{
+    let at = st.length;
+    if !there(j, at) {
+        return stopped(15, st);
+    }
+    let a = at + 2;
+    let e = a + count_at(j, at, 2);
+    check_text(schedule, st, &j[a..e])
+}
+
+// ---- one step
+
+// As many entries were read as the count at the state's place says.
+fn full(st: State, j: &[u8]) -> bool
+    requires { ⌜ (settingsGood (st .settings) ≡ true) × (headLength (st .settings) ≤ length (now j)) ⌝ }
+    ensures { λ r. ⌜ r ≡ full st (now (j .entry)) ⌝ }
+{
+    let settings = st.settings;
+    let place = count_place(settings);
+    count_at(j, place, 4) <= st.issued as usize
+}
+
+// After the last entry: no byte left? 21.
+fn check_end(st: State, j: &[u8]) -> Checked
+    ensures { λ r. ⌜ r ≡ endChecked st (now (j .entry)) ⌝ }
+{
+    if st.length < j.len() {
+        return stopped(21, st);
+    }
+    stopped(0, st)
+}
+
+// An entry where the count says one more, and else the end.
+fn take_step(schedule: &[[u8; 4]; 60], st: State, j: &[u8]) -> Checked
+    requires { ⌜ (st .issued ≤ st .last) × (settingsGood (st .settings) ≡ true) × (headLength (st .settings) ≤ length (now j)) ⌝ }
+    ensures { λ r. ⌜ r ≡ oneStep (now (schedule .entry)) st (now (j .entry)) ⌝ }
+{
+    if full(st, j) {
+        return check_end(st, j);
+    }
+    check_place(schedule, st, j)
+}
+
+// ---- all steps
+
+// The number of the step that was refused, and the state before it; or 0, and the state after the last step.
 struct Step {
     number: u32,
     state: State,
 }
 
-// 16 to 20, of the bytes of one entry.
-fn read_entry(schedule: &[[u8; 4]; 60], st: State, text: &[u8]) -> Step
-    requires { ⌜ (now schedule ≡ keySchedule (st .key)) × (st .issued ≤ st .last) × (st .length + 2 + length (now text) < 18446744073709551616) ⌝ }
-    ensures { λ r. ⌜ (r .number ≡ entryNumber st (now (text .entry))) × (r .state ≡ ifZero (entryNumber st (now (text .entry))) (after st (now (text .entry))) st) ⌝ }
+// So many steps, up to the first that is refused. Where a step reads nothing, so do all that follow.
+fn steps(schedule: &[[u8; 4]; 60], n: usize, start: State, j: &[u8]) -> Step
+    requires { ⌜ (start .issued ≤ start .last) × (settingsGood (start .settings) ≡ true) × (headLength (start .settings) ≤ length (now j)) ⌝ }
+    ensures { λ r. ⌜ r ≡ steps (now (schedule .entry)) n start (now (j .entry)) ⌝ }
 {
-    let settings = st.settings;
-    let found = receipt::read_entry(settings, st.width, text);
-    if !found.ok {
-        return Step {
-            number: 16,
-            state: st,
-        };
+    let mut st = start;
+    let mut left = n;
+    while 0 < left {
+        let s = take_step(schedule, st, j);
+        if s.number != 0 {
+            return Step {
+                number: s.number,
+                state: st,
+            };
+        }
+        let found = s.found;
+        if !found.ok {
+            return Step {
+                number: 0,
+                state: st,
+            };
+        }
+        st = s.state;
+        left -= 1;
     }
-    let entry = found.entry;
-    let f = entry.fields;
-    let number = fields_number(schedule, st, f);
-    if number != 0 {
-        return Step { number, state: st };
+    Step {
+        number: 0,
+        state: st,
     }
-    let d = f.details;
-    let state = next(st, d, text);
-    Step { number: 0, state }
 }
 
-// 15 to 20, of the entry at the state's length.
-fn next_entry(schedule: &[[u8; 4]; 60], st: State, j: &[u8]) -> Step
-    requires { ⌜ (now schedule ≡ keySchedule (st .key)) × (st .issued ≤ st .last) ⌝ }
-    ensures { λ r. ⌜ (r .number ≡ stepNumber st (now (j .entry))) × (r .state ≡ ifZero (stepNumber st (now (j .entry))) (after st (textAt (now (j .entry)) (st .length))) st) ⌝ }
-{
-    let at = st.length;
-    if !there(j, at) {
-        return Step {
-            number: 15,
-            state: st,
-        };
-    }
-    let a = at + 2;
-    let e = a + count_at(j, at, 2);
-    read_entry(schedule, st, &j[a..e])
-}
-
-// ---- all entries
+// ---- the journal
 
 fn refused(number: u32, index: u32) -> TakenOver
     ensures { λ r. ⌜ r ≡ refused number index ⌝ }
@@ -153,23 +228,12 @@ fn refused(number: u32, index: u32) -> TakenOver
     }
 }
 
-// So many entries from a state on, and nothing behind them: 15 to 21.
-fn check_from(schedule: &[[u8; 4]; 60], count: usize, start: State, j: &[u8]) -> TakenOver
-    requires { ⌜ (now schedule ≡ keySchedule (start .key)) × (start .issued ≤ start .last) ⌝ }
-    ensures { λ r. ⌜ r ≡ checkFrom count start (now (j .entry)) ⌝ }
+fn answer_of(s: Step) -> TakenOver
+    ensures { λ r. ⌜ r ≡ answerOf s ⌝ }
 {
-    let mut st = start;
-    let mut left = count;
-    while 0 < left {
-        let s = next_entry(schedule, st, j);
-        if s.number != 0 {
-            return refused(s.number, st.issued);
-        }
-        st = s.state;
-        left -= 1;
-    }
-    if st.length < j.len() {
-        return refused(21, st.issued);
+    let st = s.state;
+    if s.number != 0 {
+        return refused(s.number, st.issued);
     }
     TakenOver {
         number: 0,
@@ -178,9 +242,7 @@ fn check_from(schedule: &[[u8; 4]; 60], count: usize, start: State, j: &[u8]) ->
     }
 }
 
-// ---- the journal
-
-// The state behind a journal, or the number of the first question with the answer no, the index of its entry and the unopened state.
+// The state after a journal, or the number of the first question with the answer no, the index of its entry and the unopened state.
 pub fn take_over(j: &[u8], key: [u8; 32], n: usize) -> TakenOver
     ensures { λ r. ⌜ r ≡ takeOver (now (j .entry)) key n ⌝ }
 {
@@ -190,11 +252,43 @@ pub fn take_over(j: &[u8], key: [u8; 32], n: usize) -> TakenOver
     if !head_whole(j) {
         return refused(14, 0);
     }
-    let settings = settings_at(j);
+    let settings = head_settings(j);
     if !receipt::settings_good(settings) {
         return refused(14, 0);
     }
     let schedule = receipt::counter_key(key);
     let st = fresh(settings, n, key);
-    check_from(&schedule, receipts_count(j), st, j)
+    answer_of(steps(&schedule, j.len(), st, j))
+}
+
+// ---- steps for other readers
+
+// The length after an entry is a number of 64 bits.
+fn entry_ready(st: State, text: &[u8]) -> bool
+    ensures { λ r. ⌜ r ≡ entryReady st (now (text .entry)) ⌝ }
+{
+    if !sound_alone(st) {
+        return false;
+    }
+    receipt::has_room(18446744073709551613, st.length, text.len())
+}
+
+// Reads one entry from its bytes, under the key's schedule. State sound? 6. Then questions 16 to 20.
+pub fn check_entry(schedule: &[[u8; 4]; 60], st: State, text: &[u8]) -> Checked
+    ensures { λ r. ⌜ r ≡ entryChecked (now (schedule .entry)) st (now (text .entry)) ⌝ }
+{
+    if !entry_ready(st, text) {
+        return stopped(6, st);
+    }
+    check_text(schedule, st, text)
+}
+
+// One step of a take-over, from the state's place in a journal. State sound for this journal? 6. Then questions 15 to 20, or 21 after the last entry.
+pub fn check_step(schedule: &[[u8; 4]; 60], st: State, j: &[u8]) -> Checked
+    ensures { λ r. ⌜ r ≡ stepChecked (now (schedule .entry)) st (now (j .entry)) ⌝ }
+{
+    if !sound(st, j.len()) {
+        return stopped(6, st);
+    }
+    take_step(schedule, st, j)
 }

@@ -1,17 +1,21 @@
 // The journal of a register: opened, written receipt by receipt, and taken over.
 mod checking;
+mod head;
 mod issuing;
-mod questions;
-mod reading;
-mod register;
+mod opening;
+mod preparing;
 mod state;
+mod step;
 
+pub use checking::Checked;
+pub use checking::check_entry;
+pub use checking::check_step;
 pub use checking::take_over;
 pub use issuing::issue;
-pub use issuing::prepare;
-pub use register::open;
-pub use register::unopened;
+pub use opening::open;
+pub use preparing::prepare;
 pub use state::Issued;
 pub use state::Opened;
 pub use state::State;
 pub use state::TakenOver;
+pub use state::unopened;

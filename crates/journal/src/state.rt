@@ -1,5 +1,8 @@
 // The state of a register, and the answers of the calls that carry one.
+use receipt::Name;
 use receipt::Settings;
+ghost use mathlib.Core.Path.{_≡_};
+ghost use Rattle.journal.specs.State.{unopened};
 
 // What a register keeps between calls. Its journal is its buffer up to the length.
 pub struct State {
@@ -29,4 +32,30 @@ pub struct TakenOver {
     pub number: u32,
     pub index: u32,
     pub state: State,
+}
+
+// The unopened state, which is all zero.
+pub fn unopened() -> State
+    ensures { λ r. ⌜ r ≡ unopened ⌝ }
+{
+    State {
+        settings: Settings {
+            csp: [0u8; 3],
+            id: Name {
+                bytes: [0u8; 32],
+                len: 0,
+            },
+            serial: Name {
+                bytes: [0u8; 32],
+                len: 0,
+            },
+        },
+        width: 0,
+        key: [0u8; 32],
+        counter: 0,
+        last: 0,
+        issued: 0,
+        chain: [0u8; 8],
+        length: 0,
+    }
 }

@@ -170,7 +170,7 @@ fn signature_of(bytes: [u8; 64], m: usize) -> Signature
     }
 }
 
-fn no_entry() -> Found
+pub fn no_entry() -> Found
     ensures { λ r. ⌜ r ≡ noEntry ⌝ }
 {
     let fields = blank();

@@ -29,6 +29,7 @@ pub use details::start_good;
 pub use entry::Entry;
 pub use entry::Found;
 pub use entry::Signature;
+pub use entry::no_entry;
 pub use entry::put_compact;
 pub use entry::put_signing_input;
 pub use entry::read_entry;

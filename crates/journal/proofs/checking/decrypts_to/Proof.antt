@@ -1,7 +1,7 @@
 -- Two numbers with the same bits.
 use mir.Syntax.{w64}
 use mir.Val.{SFits}
-use Rattle.journal.proofs.Steps.{bits-equal}
+use Rattle.journal.proofs.CheckCalls.{bits-equal}
 use borrow.Author.Needs.{needs}
 use Rattle.journal.proofs.checking.decrypts_to.Statement.{statement}
 use Rattle.journal.proofs.checking.decrypts_to.Tie as tie

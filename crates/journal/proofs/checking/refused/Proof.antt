@@ -1,5 +1,5 @@
 -- The unopened state beside a number and an index.
-use Rattle.journal.specs.TakeOver.{refused}
+use Rattle.journal.specs.Checking.{refused}
 use borrow.Author.Needs.{needs}
 use Rattle.journal.proofs.checking.refused.Statement.{statement}
 use Rattle.journal.proofs.checking.refused.Tie as tie

@@ -1,5 +1,5 @@
 -- `issuing::entry_of` meets its contract.
-use Rattle.journal.specs.Issue.{entryOf}
+use Rattle.journal.specs.Issuing.{entryOf}
 use borrow.Author.Needs.{needs}
 use Rattle.journal.proofs.issuing.entry_of.Statement.{statement}
 use Rattle.journal.proofs.issuing.entry_of.Tie as tie

@@ -1,0 +1,361 @@
+-- What the functions of a take-over show at their returns, over plain variables.
+use Prim.Native.Nat.{ℕ, suc, _+_, _-_, _≤_, _<_, zero}
+use mathlib.Core.Path.{_≡_, refl, sym, ap, _∙_, subst}
+use mathlib.Core.Bool.{Bool, true, false, not}
+use mathlib.Core.List.{List}
+use native.Mathlib.Omega.{arith}
+use borrow.Author.Tests.{leb-true, le-leb, lt-leb, eqb-true, eq-eqb, leb-false}
+use lib.Dec.{leb, eqb}
+use lib.IntN.{ℤ}
+use mir.Syntax.{w64}
+use mir.Val.{SFits, toZ, ofZ}
+use mir.Facts.{toZ-ofZ}
+use lib.ListN.{length, take, drop, length-take}
+use Rattle.primitives.specs.Counter.{widthGood}
+use Rattle.primitives.specs.Aes.{keySchedule}
+use Rattle.receipt.specs.Details.{standard, counterAfter}
+use Rattle.receipt.specs.Chain.{decryptedCounter}
+use Rattle.receipt.specs.Compact.{readEntry, noEntry}
+use Rattle.receipt.specs.declared.details.Details.{Details}
+use Rattle.receipt.specs.declared.details.After.{After}
+use Rattle.receipt.specs.declared.payload.PayloadFields.{PayloadFields}
+use Rattle.receipt.specs.declared.entry.Found.{Found}
+use Rattle.receipt.specs.declared.settings.Settings.{Settings}
+use Rattle.primitives.proofs.Zlaws.{same-bits}
+use Rattle.primitives.proofs.Rows.{both, true-is-not-false, and-no, and-yes, not-yes, ask-zero, ask-yes, ask-no, ifZero-yes, ifZero-no}
+use Rattle.journal.specs.Step.{fresh, newCounter, next, soundAlone, sound}
+use Rattle.primitives.specs.Questions.{ask, ifZero}
+use Rattle.primitives.specs.Number.{countAt}
+use Rattle.journal.specs.Head.{headSettings, headGood, lengthAt, there, textAt, countPlace, headLength, entryText}
+use Rattle.journal.proofs.Remaining.{step-end, step-entry, idle, passed-step, after-settings, after-below}
+use Rattle.journal.specs.Checking.{headNumber, found, equal, counterRight, contextNumber, textNumber, after, entryNumber, refused, accepted, takeOver, checked, stopped, textChecked, placeChecked, endChecked, oneStep, steps, answerOf, entryReady, entryChecked, stepChecked, full}
+use Rattle.journal.specs.declared.state.State.{State}
+use Rattle.journal.proofs.Equal.{equal-true, equal-refl}
+use Rattle.journal.specs.declared.state.TakenOver.{TakenOver}
+use Rattle.journal.proofs.Check.{above-true}
+use Rattle.journal.specs.declared.checking.Checked.{Checked}
+use Rattle.journal.specs.declared.checking.Step.{Step}
+use Rattle.journal.proofs.Places.{length-entry}
+use Rattle.receipt.specs.Settings.{settingsGood}
+use Rattle.journal.proofs.CallLists.{sound-true}
+
+-- ---- the bytes of an entry
+
+module _ (j : List ℕ) (at : ℕ) where
+  pub there-is : {t : Bool} {n : ℕ} → leb (at + 2) (length j) ≡ true → n ≡ countAt j at 2 → t ≡ leb (at + 2 + n) (length j) → t ≡ there j at
+  unfolding there lengthAt
+  there-is a e q = and-yes _ _ _ a (q ∙ ap (λ (k : ℕ). leb (at + 2 + k) (length j)) e)
+
+  pub room-yes : {t : Bool} → t ≡ leb (at + 2) (length j) → not t ≡ false → at + 2 ≤ length j
+  room-yes e h = leb-true (at + 2) (length j) (not-yes _ _ e h)
+
+  pub record Room (n : ℕ) : Type 0 where
+    pub count : at + 2 ≤ length j
+    pub all : at + 2 + n ≤ length j
+    pub is : take (at + 2 + n - (at + 2)) (drop (at + 2) j) ≡ textAt j at
+    pub upto : at + 2 + length (take (at + 2 + n - (at + 2)) (drop (at + 2) j)) ≤ length j
+
+  pub there-count : there j at ≡ true → at + 2 ≤ length j
+  unfolding there
+  there-count h = leb-true _ _ (both _ _ h .0)
+
+  pub there-room : {n : ℕ} → there j at ≡ true → n ≡ countAt j at 2 → Room n
+  unfolding there textAt lengthAt
+  there-room {n} h e =
+      let p = both (leb (at + 2) (length j)) (leb (at + 2 + countAt j at 2) (length j)) h in
+      let a = leb-true (at + 2 + countAt j at 2) (length j) (p .1) in
+      let k : at + 2 + n - (at + 2) ≡ countAt j at 2 = omega (arith, e) in
+      record {
+        count = leb-true (at + 2) (length j) (p .0);
+        all = omega (arith, e, a);
+        is = ap (λ (m : ℕ). take m (drop (at + 2) j)) k;
+        upto = omega (arith, e, a, length-take (at + 2 + n - (at + 2)) (drop (at + 2) j));
+      }
+
+-- ---- the questions of an entry
+
+pub equal-no : (a b : ℤ) → (a ≡ b → ⊥) → equal a b ≡ false
+equal-no a b h = go (equal a b) refl
+  where
+    go : (t : Bool) → equal a b ≡ t → t ≡ false
+    go true e = absurd (h (equal-true a b e))
+    go false e = refl
+
+pub equal-yes : (a b : ℤ) → a ≡ b → equal a b ≡ true
+equal-yes a b e = ap (equal a) (sym e) ∙ equal-refl a
+
+-- a test of the bits of two numbers
+pub bits-equal : {x y z : ℤ} → SFits w64 x → SFits w64 y → x ≡ z → eqb (ofZ w64 x) (ofZ w64 y) ≡ equal z y
+bits-equal {x} {y} {z} f g e = go (eqb (ofZ w64 x) (ofZ w64 y)) refl
+  where
+    go : (t : Bool) → eqb (ofZ w64 x) (ofZ w64 y) ≡ t → t ≡ equal z y
+    go true q = sym (equal-yes z y (sym e ∙ same-bits x y f g (eqb-true (ofZ w64 x) (ofZ w64 y) q)))
+    go false q = sym (equal-no z y (λ r. true-is-not-false (sym q ∙ eq-eqb (ofZ w64 x) (ofZ w64 y) (ap (ofZ w64) (e ∙ r)))))
+
+-- the machine's number is the state's
+pub after-back : (st : State) (d : Details) {a : After} → SFits w64 (st .counter) → a ≡ counterAfter (st .width) (toZ w64 (ofZ w64 (st .counter))) d
+    → a ≡ counterAfter (st .width) (st .counter) d
+after-back st d f e = e ∙ ap (λ (z : ℤ). counterAfter (st .width) z d) (toZ-ofZ f)
+
+module _ (k : List (List ℕ)) (st : State) (f : PayloadFields) {a : After} (e : a ≡ counterAfter (st .width) (st .counter) (f .details)) where
+  new-is : a ≡ newCounter st (f .details)
+  unfolding newCounter
+  new-is = e
+
+  pub counter-no : a .fits ≡ false → false ≡ counterRight k st f
+  unfolding counterRight
+  counter-no h = and-no _ _ (ap (λ (x : After). x .fits) (sym new-is) ∙ h)
+
+  module _ (h : a .fits ≡ true) where
+    fits : newCounter st (f .details) .fits ≡ true
+    fits = ap (λ (x : After). x .fits) (sym new-is) ∙ h
+
+    pub counter-other : standard (f .details .kind) ≡ false → true ≡ counterRight k st f
+    unfolding counterRight
+    counter-other q = and-yes _ _ _ fits (sym (rw q))
+
+    pub counter-standard : {t : Bool} → standard (f .details .kind) ≡ true → SFits w64 (a .counter)
+        → t ≡ equal (decryptedCounter k (st .settings .id) (f .details .number) (st .width) (f .counter)) (toZ w64 (ofZ w64 (a .counter)))
+        → t ≡ counterRight k st f
+    unfolding counterRight
+    counter-standard s g q =
+        and-yes _ _ _ fits
+        (q ∙ ap (equal _) (toZ-ofZ g) ∙ (λ i. equal (decryptedCounter k (st .settings .id) (f .details .number) (st .width) (f .counter)) (new-is i .counter)) ∙ sym (rw s))
+
+pub above-of : (k : List (List ℕ)) (st : State) (f : PayloadFields) → contextNumber k st f ≡ 0 → st .last < f .details .number
+unfolding contextNumber
+above-of k st f z = above-true st (f .details) (ask-zero _ _ _ z .0)
+
+-- ---- one entry
+
+module _ (k : List (List ℕ)) (st : State) (text : List ℕ) {r : Found} (e : r ≡ readEntry (st .settings) (st .width) text) where
+  found-is : r ≡ found st text
+  unfolding found
+  found-is = e
+
+  found-ok : {t : Bool} → r .ok ≡ t → found st text .ok ≡ t
+  found-ok h = ap (λ (x : Found). x .ok) (sym found-is) ∙ h
+
+  number-16 : r .ok ≡ false → textNumber k st text ≡ 16
+  unfolding textNumber
+  number-16 h = ask-no 16 _ (found-ok h)
+
+  number-is : r .ok ≡ true → textNumber k st text ≡ contextNumber k st (r .entry .fields)
+  unfolding textNumber
+  number-is h = ask-yes 16 _ (found-ok h) ∙ ap (λ (x : Found). contextNumber k st (x .entry .fields)) (sym found-is)
+
+  pub text-unread : {c : Checked} → r .ok ≡ false → c ≡ stopped 16 st → c ≡ textChecked k st text
+  unfolding textChecked checked
+  text-unread h q =
+      let n = number-16 h in
+      q ∙ (ap (λ (m : ℕ). stopped m st) (sym n) ∙ sym (ifZero-no (textNumber k st text) _ _ (λ z. omega (arith, n, z))))
+
+  module _ (h : r .ok ≡ true) {n : ℕ} (q : n ≡ contextNumber k st (r .entry .fields)) where
+    pub text-refused : {c : Checked} → (n ≡ 0 → ⊥) → c ≡ stopped n st → c ≡ textChecked k st text
+    unfolding textChecked checked
+    text-refused g p =
+        let m : textNumber k st text ≡ n = number-is h ∙ sym q in
+        p ∙ (ap (λ (x : ℕ). stopped x st) (sym m) ∙ sym (ifZero-no (textNumber k st text) _ _ (λ z. g (sym m ∙ z))))
+
+    pub text-passed : {x : State} → n ≡ 0 → x ≡ next st (r .entry .fields .details) text
+        → record { number = 0; found = r; state = x } ≡ textChecked k st text
+    unfolding textChecked checked after
+    text-passed z p =
+        let m : textNumber k st text ≡ 0 = number-is h ∙ (sym q ∙ z) in
+        (λ i. record { number = 0; found = found-is i; state = (p ∙ ap (λ (y : Found). next st (y .entry .fields .details) text) found-is) i })
+        ∙ sym (ifZero-yes _ _ m)
+
+-- ---- the end of a journal
+
+module _ (st : State) (j : List ℕ) where
+  pub full-is : {count place : ℕ} → place ≡ countPlace (st .settings) → count ≡ countAt j place 4 → leb count (st .issued) ≡ full st j
+  unfolding full
+  full-is p q = ap (λ (n : ℕ). leb n (st .issued)) (q ∙ ap (λ (x : ℕ). countAt j x 4) p)
+
+  pub end-left : {c : Checked} → st .length < length j → c ≡ stopped 21 st → c ≡ endChecked st j
+  unfolding endChecked
+  end-left h q = q ∙ ap (λ (n : ℕ). stopped n st) (sym (ask-no 21 0 (lt-leb (length j) (st .length) h)))
+
+  pub end-none : {c : Checked} → length j ≤ st .length → c ≡ stopped 0 st → c ≡ endChecked st j
+  unfolding endChecked
+  end-none h q = q ∙ ap (λ (n : ℕ). stopped n st) (sym (ask-yes 21 0 (le-leb (length j) (st .length) h)))
+
+-- ---- one step
+
+module _ (k : List (List ℕ)) (st : State) (j : List ℕ) where
+  pub place-none : {c : Checked} → there j (st .length) ≡ false → c ≡ stopped 15 st → c ≡ placeChecked k st j
+  unfolding placeChecked checked entryNumber
+  place-none h q =
+      let n = ask-no 15 (textNumber k st (textAt j (st .length))) h in
+      q ∙ (ap (λ (m : ℕ). stopped m st) (sym n) ∙ sym (ifZero-no (ask (there j (st .length)) 15 (textNumber k st (textAt j (st .length)))) _ _ (λ z. omega (arith, n, z))))
+
+  pub place-is : {t : List ℕ} {c : Checked} → there j (st .length) ≡ true → t ≡ textAt j (st .length) → c ≡ textChecked k st t → c ≡ placeChecked k st j
+  unfolding placeChecked textChecked entryNumber
+  place-is h e q =
+      q ∙ (ap (textChecked k st) e ∙ ap (λ (m : ℕ). checked m st (textAt j (st .length))) (sym (ask-yes 15 _ h)))
+      -- ---- a turn
+
+  -- a step that read an entry, or nothing
+  pub data Turned (c : Checked) : Type 0 where
+    nothing : c ≡ stopped 0 st → Turned c
+    an-entry : full st j ≡ false → entryNumber k st j ≡ 0 → c .state ≡ after st (textAt j (st .length)) → Turned c
+
+  zero-found : entryNumber k st j ≡ 0 → found st (textAt j (st .length)) .ok ≡ true
+  unfolding entryNumber textNumber
+  zero-found z = ask-zero _ _ _ (ask-zero _ _ _ z .1) .0
+
+  zero-fields : entryNumber k st j ≡ 0 → contextNumber k st (found st (textAt j (st .length)) .entry .fields) ≡ 0
+  unfolding entryNumber textNumber
+  zero-fields z = ask-zero _ _ _ (ask-zero _ _ _ z .1) .1
+
+  module _ {c : Checked} (e : c ≡ oneStep k st j) where
+    number-of : c .number ≡ oneStep k st j .number
+    number-of = ap (λ (x : Checked). x .number) e
+
+    pub turn-no : (left : ℕ) → 0 < left → (c .number ≡ 0 → ⊥) → steps k left st j ≡ record { number = c .number; state = st }
+    unfolding steps
+    turn-no left some h =
+        let l : left ≡ suc (left - 1) = omega arith in
+        ap (λ (m : ℕ). steps k m st j) l ∙ (ifZero-no (oneStep k st j .number) _ _ (λ z. h (number-of ∙ z)) ∙ (λ i. record { number = sym number-of i; state = st }))
+
+    -- what a step that is not refused has read
+    ended : full st j ≡ true → c .number ≡ 0 → (c ≡ stopped 0 st) × (c .found .ok ≡ false)
+    unfolding endChecked stopped noEntry
+    ended f z =
+        let q : c ≡ endChecked st j = e ∙ step-end k st j f in
+        let m : ask (leb (length j) (st .length)) 21 0 ≡ 0 = sym (ap (λ (x : Checked). x .number) q) ∙ z in
+        (q ∙ ap (λ (n : ℕ). stopped n st) m, ap (λ (x : Checked). x .found .ok) q)
+
+    read : full st j ≡ false → c .number ≡ 0 → (entryNumber k st j ≡ 0) × (c .state ≡ after st (textAt j (st .length))) × (c .found .ok ≡ true)
+    unfolding placeChecked checked stopped
+    read f z = go (entryNumber k st j) refl
+      where
+        q : c ≡ placeChecked k st j
+        q = e ∙ step-entry k st j f
+
+        go : (n : ℕ) → entryNumber k st j ≡ n → (entryNumber k st j ≡ 0) × (c .state ≡ after st (textAt j (st .length))) × (c .found .ok ≡ true)
+        go zero y =
+            let p : c ≡ record { number = 0; found = found st (textAt j (st .length)); state = after st (textAt j (st .length)) } = q ∙ ifZero-yes _ _ y in
+            (y, ap (λ (x : Checked). x .state) p, ap (λ (x : Checked). x .found .ok) p ∙ zero-found y)
+        go (suc n) y =
+            let p : c ≡ stopped (entryNumber k st j) st = q ∙ ifZero-no (entryNumber k st j) _ _ (λ w. omega (arith, w, y)) in
+            absurd (omega (arith, ap (λ (x : Checked). x .number) p, z, y))
+
+    module _ (z : c .number ≡ 0) where
+      pub turn-idle : (left : ℕ) → c .found .ok ≡ false → steps k left st j ≡ record { number = 0; state = st }
+      turn-idle left o = go (full st j) refl
+        where
+          go : (t : Bool) → full st j ≡ t → steps k left st j ≡ record { number = 0; state = st }
+          go true f = idle k j left st (sym e ∙ ended f z .0)
+          go false f = true-is-not-false (sym o ∙ read f z .2)
+
+      module _ (o : c .found .ok ≡ true) where
+        moved : (entryNumber k st j ≡ 0) × (c .state ≡ after st (textAt j (st .length)))
+        moved = go (full st j) refl
+          where
+            go : (t : Bool) → full st j ≡ t → (entryNumber k st j ≡ 0) × (c .state ≡ after st (textAt j (st .length)))
+            go true f = true-is-not-false (sym (ended f z .1) ∙ o)
+            go false f = let r = read f z in (r .0, r .1)
+
+        pub turn-yes : (left : ℕ) → 0 < left → steps k left st j ≡ steps k (left - 1) (c .state) j
+        turn-yes left some =
+            let l : left ≡ suc (left - 1) = omega arith in
+            ap (λ (m : ℕ). steps k m st j) l ∙ passed-step k j (left - 1) st (sym number-of ∙ z) (ap (λ (x : Checked). x .state) (sym e))
+
+        pub turn-settings : c .state .settings ≡ st .settings
+        turn-settings = ap (λ (x : State). x .settings) (moved .1) ∙ after-settings st (textAt j (st .length))
+
+        pub turn-below : st .issued ≤ st .last → c .state .issued ≤ c .state .last
+        turn-below h = subst (λ (x : State). x .issued ≤ x .last) (sym (moved .1)) (after-below k st (textAt j (st .length)) (zero-fields (moved .0)) h)
+
+-- ---- the journal
+
+pub answer-refused : (s : Step) {r : TakenOver} → (s .number ≡ 0 → ⊥) → r ≡ refused (s .number) (s .state .issued) → r ≡ answerOf s
+unfolding answerOf
+answer-refused s h q = q ∙ sym (ifZero-no (s .number) _ _ h)
+
+pub answer-accepted : (s : Step) → s .number ≡ 0 → record { number = 0; index = 0; state = s .state } ≡ answerOf s
+unfolding answerOf accepted
+answer-accepted s z = sym (ifZero-yes _ _ z)
+
+module _ (j key : List ℕ) (n : ℕ) where
+  pub over-width : widthGood n ≡ false → takeOver j key n ≡ refused 4 0
+  unfolding takeOver headNumber ask ifZero
+  over-width w = rw w
+
+  module _ (w : widthGood n ≡ true) where
+    pub over-head : headGood j ≡ false → takeOver j key n ≡ refused 14 0
+    unfolding takeOver headNumber ask ifZero
+    over-head h = rw (w, h)
+
+    over-yes : headGood j ≡ true → takeOver j key n ≡ answerOf (steps (keySchedule key) (length j) (fresh (headSettings j) n key) j)
+    unfolding takeOver headNumber ask ifZero
+    over-yes h = rw (w, h)
+
+-- what is called, one after the other
+module _ (j key : List ℕ) (n : ℕ) (s : Settings) {st : State} (e : st ≡ fresh s n key) where
+  pub over-read : {schedule : List (List ℕ)} {x : Step} {r : TakenOver} → widthGood n ≡ true → headGood j ≡ true → s ≡ headSettings j → schedule ≡ keySchedule key
+      → x ≡ steps schedule (length j) st j → r ≡ answerOf x → r ≡ takeOver j key n
+  over-read w h es ek ex er =
+      er ∙ ap answerOf (ex ∙ (λ i. steps (ek i) (length j) ((e ∙ ap (λ (y : Settings). fresh y n key) es) i) j)) ∙ sym (over-yes j key n w h)
+
+  fresh-keeps : (fresh s n key .issued ≤ fresh s n key .last) × (fresh s n key .settings ≡ s)
+  unfolding fresh
+  fresh-keeps = (omega arith, refl)
+
+  pub fresh-starts : settingsGood s ≡ true → headLength s ≤ length j
+      → (st .issued ≤ st .last) × (settingsGood (st .settings) ≡ true) × (headLength (st .settings) ≤ length j)
+  fresh-starts g h =
+      let q : st .settings ≡ s = ap (λ (x : State). x .settings) e ∙ fresh-keeps .1 in
+      (subst (λ (x : State). x .issued ≤ x .last) (sym e) (fresh-keeps .0), ap settingsGood q ∙ g, subst (λ (x : Settings). headLength x ≤ length j) (sym q) h)
+
+-- ---- steps for other readers
+
+module _ (st : State) (text : List ℕ) where
+  pub ready-no : soundAlone st ≡ false → false ≡ entryReady st text
+  unfolding entryReady
+  ready-no h = and-no _ _ h
+
+  pub ready-is : {t : Bool} → soundAlone st ≡ true → t ≡ leb (st .length + length text) 18446744073709551613 → t ≡ entryReady st text
+  unfolding entryReady
+  ready-is {t} h q = and-yes _ _ _ h (q ∙ go (leb (st .length + length text) 18446744073709551613) refl)
+    where
+      go : (u : Bool) → leb (st .length + length text) 18446744073709551613 ≡ u → u ≡ leb (st .length + length (entryText text)) 18446744073709551615
+      go true w = sym (le-leb (st .length + length (entryText text)) 18446744073709551615 (omega (arith, length-entry text, leb-true (st .length + length text) 18446744073709551613 w)))
+      go false w = sym (lt-leb (st .length + length (entryText text)) 18446744073709551615 (omega (arith, length-entry text, leb-false (st .length + length text) 18446744073709551613 w)))
+
+  pub ready-true : entryReady st text ≡ true → (st .issued ≤ st .last) × (st .length + 2 + length text < 18446744073709551616)
+  unfolding entryReady
+  ready-true h =
+      let p = both _ _ h in
+      let l = length-entry text in
+      let m = leb-true (st .length + length (entryText text)) 18446744073709551615 (p .1) in
+      (sound-true st (p .0) .issued, omega arith)
+
+  pub entry-asked : (k : List (List ℕ)) {c : Checked} → entryReady st text ≡ false → c ≡ stopped 6 st → c ≡ entryChecked k st text
+  unfolding entryChecked
+  entry-asked k h q = q ∙ sym (rw h)
+
+  pub entry-checked : (k : List (List ℕ)) {c : Checked} → entryReady st text ≡ true → c ≡ textChecked k st text → c ≡ entryChecked k st text
+  unfolding entryChecked
+  entry-checked k h q = q ∙ sym (rw h)
+
+module _ (st : State) (j : List ℕ) where
+  pub step-asked : (k : List (List ℕ)) {c : Checked} → sound st (length j) ≡ false → c ≡ stopped 6 st → c ≡ stepChecked k st j
+  unfolding stepChecked
+  step-asked k h q = q ∙ sym (rw h)
+
+  pub step-checked : (k : List (List ℕ)) {c : Checked} → sound st (length j) ≡ true → c ≡ oneStep k st j → c ≡ stepChecked k st j
+  unfolding stepChecked
+  step-checked k h q = q ∙ sym (rw h)
+
+  pub sound-step : sound st (length j) ≡ true → (st .issued ≤ st .last) × (settingsGood (st .settings) ≡ true) × (headLength (st .settings) ≤ length j)
+  unfolding sound
+  sound-step h =
+      let p = both _ _ h in
+      let s = sound-true st (p .0) in
+      (s .issued, s .settings, omega (arith, s .head, leb-true (st .length) (length j) (p .1)))
+
+pub steps-none : (k : List (List ℕ)) (left : ℕ) (st : State) (j : List ℕ) → left ≡ 0 → steps k left st j ≡ record { number = 0; state = st }
+unfolding steps
+steps-none k left st j z = rw z

@@ -1,0 +1,20 @@
+-- `checking::answer_of` meets its contract.
+use borrow.Author.Needs.{needs}
+use Rattle.journal.proofs.checking.answer_of.Statement.{statement}
+use Rattle.journal.proofs.checking.answer_of.Tie as tie
+use Rattle.journal.proofs.checking.answer_of.Reads as reads
+use Rattle.journal.proofs.checking.answer_of.Lts as lts
+use Rattle.journal.proofs.checking.refused.Reads as refused-reads
+use Rattle.journal.proofs.CheckCalls.{answer-refused, answer-accepted}
+
+refused-requires : tie.Need-refused-requires
+refused-requires c κs = search needs
+
+returns : tie.Need-returns
+returns c = answer-refused (c .before .before .before .before .args .s) (c .before .if1 .taken) (c .refused .ensures)
+
+returns-2 : tie.Need-returns-2
+returns-2 c = answer-accepted (c .before .before .before .args .s) (c .if1 .left)
+
+pub answer-of-spec : {M : Type 1} → statement M
+answer-of-spec = tie.close (tie.spec refused-requires returns returns-2)

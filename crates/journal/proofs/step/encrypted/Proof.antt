@@ -1,0 +1,28 @@
+-- `step::encrypted` meets its contract.
+use Rattle.journal.proofs.IssueCalls.{encrypted-is}
+use mir.Syntax.{w64}
+use mir.Val.{SFits}
+use mir.ValLaws.{toZ-ofZ}
+use borrow.Author.Needs.{needs}
+use Rattle.journal.proofs.step.encrypted.Statement.{statement}
+use Rattle.journal.proofs.step.encrypted.Tie as tie
+
+new-counter-requires : tie.Need-new-counter-requires
+new-counter-requires c κs = search needs
+
+counter-key-requires : tie.Need-counter-key-requires
+counter-key-requires c κs = search needs
+
+encrypt-counter-requires : tie.Need-encrypt-counter-requires
+encrypt-counter-requires c κs = search needs
+
+returns : tie.Need-returns
+returns c =
+    let s = c .before .before .before .before .before .before .before .before .args in
+    let z = c .before .before .before .before .new-counter .result .counter in
+    let f : SFits w64 z = search needs in
+    encrypted-is (s .st) (s .d) (c .before .before .before .counter-key .ensures) (c .before .before .before .before .new-counter .ensures) (toZ-ofZ w64 z f) (c .encrypt-counter .ensures)
+
+pub encrypted-spec : {M : Type 1} → statement M
+encrypted-spec =
+    tie.close (tie.spec new-counter-requires counter-key-requires encrypt-counter-requires returns)

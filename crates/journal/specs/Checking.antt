@@ -1,0 +1,126 @@
+-- Take over: "(journal, key, N) returns the state, or a number, the index of the entry from 0 and the unopened state".
+use Prim.Native.Nat.{ℕ, zero, suc, _+_}
+use mathlib.Core.Bool.{Bool, cond, not, _&&_, _||_}
+use mathlib.Core.List.{List}
+use lib.Dec.{leb}
+use lib.IntN.{ℤ}
+use lib.Signed.{leZ}
+use lib.ListN.{length}
+use Rattle.primitives.specs.Bytes.{same}
+use Rattle.primitives.specs.Number.{countAt}
+use Rattle.primitives.specs.Counter.{widthGood}
+use Rattle.primitives.specs.Aes.{keySchedule}
+use Rattle.receipt.specs.Details.{standard}
+use Rattle.receipt.specs.Chain.{decryptedCounter}
+use Rattle.receipt.specs.Compact.{noEntry, readEntry}
+use Rattle.receipt.specs.declared.payload.PayloadFields.{PayloadFields}
+use Rattle.receipt.specs.declared.entry.Found.{Found}
+use Rattle.journal.specs.State.{unopened}
+use Rattle.journal.specs.Head.{countPlace, headSettings, headGood, entryText, there, textAt}
+use Rattle.journal.specs.Step.{fresh, soundAlone, sound, numberAbove, firstGood, newCounter, next}
+use Rattle.primitives.specs.Questions.{ask, ifZero}
+use Rattle.journal.specs.declared.state.State.{State}
+use Rattle.journal.specs.declared.state.TakenOver.{TakenOver}
+use Rattle.journal.specs.declared.checking.Checked.{Checked}
+use Rattle.journal.specs.declared.checking.Step.{Step}
+
+-- 16: "spelled as above, with the head's CSP, ID and serial, number, date with its time and amounts within limits, a counter field of U1RP, VFJB or N bytes, a chain field of 8 bytes?"
+unfoldable pub found : State → List ℕ → Found
+found st text = readEntry (st .settings) (st .width) text
+
+-- the same number: neither is below the other
+unfoldable pub equal : ℤ → ℤ → Bool
+equal a b = leZ a b && leZ b a
+
+-- 20: "Running sum fits N bytes, and on a standard receipt equals the decrypted counter?", under the key's schedule
+unfoldable pub counterRight : List (List ℕ) → State → PayloadFields → Bool
+counterRight schedule st f =
+    newCounter st (f .details) .fits
+    && (not (standard (f .details .kind))
+    || equal (decryptedCounter schedule (st .settings .id) (f .details .number) (st .width) (f .counter)) (newCounter st (f .details) .counter))
+
+-- 17: "Number above the last?" 18: "First one standard with five zeros?" 19: "Chain field right?" 20
+unfoldable pub contextNumber : List (List ℕ) → State → PayloadFields → ℕ
+contextNumber schedule st f =
+    ask (numberAbove st (f .details)) 17
+    (ask (firstGood st (f .details)) 18 (ask (same (f .chain) (st .chain)) 19 (ask (counterRight schedule st f) 20 0)))
+
+-- 16 to 20, of a state and the bytes of one entry
+unfoldable pub textNumber : List (List ℕ) → State → List ℕ → ℕ
+textNumber schedule st text = ask (found st text .ok) 16 (contextNumber schedule st (found st text .entry .fields))
+
+-- the state after an entry
+unfoldable pub after : State → List ℕ → State
+after st text = next st (found st text .entry .fields .details) text
+
+-- ---- one step: the state's journal length is the place, its receipts issued are the index
+
+-- 15 to 20, of the entry at the state's place
+unfoldable pub entryNumber : List (List ℕ) → State → List ℕ → ℕ
+entryNumber schedule st j = ask (there j (st .length)) 15 (textNumber schedule st (textAt j (st .length)))
+
+-- a step that is refused, or that reads nothing
+unfoldable pub stopped : ℕ → State → Checked
+stopped number st = record { number = number; found = noEntry; state = st }
+
+-- what a text gives under this number
+unfoldable pub checked : ℕ → State → List ℕ → Checked
+checked number st text = ifZero number (record { number = 0; found = found st text; state = after st text }) (stopped number st)
+
+unfoldable pub textChecked : List (List ℕ) → State → List ℕ → Checked
+textChecked schedule st text = checked (textNumber schedule st text) st text
+
+unfoldable pub placeChecked : List (List ℕ) → State → List ℕ → Checked
+placeChecked schedule st j = checked (entryNumber schedule st j) st (textAt j (st .length))
+
+-- "After the last: no byte left? 21"
+unfoldable pub endChecked : State → List ℕ → Checked
+endChecked st j = stopped (ask (leb (length j) (st .length)) 21 0) st
+
+-- as many entries were read as the count at the state's place says
+unfoldable pub full : State → List ℕ → Bool
+full st j = leb (countAt j (countPlace (st .settings)) 4) (st .issued)
+
+unfoldable pub oneStep : List (List ℕ) → State → List ℕ → Checked
+oneStep schedule st j = cond (full st j) (endChecked st j) (placeChecked schedule st j)
+
+-- so many steps, up to the first that is refused: its number, and the state before it
+unfoldable pub steps : List (List ℕ) → ℕ → State → List ℕ → Step
+steps schedule zero st j = record { number = 0; state = st }
+steps schedule (suc n) st j =
+    ifZero (oneStep schedule st j .number) (steps schedule n (oneStep schedule st j .state) j)
+    (record { number = oneStep schedule st j .number; state = st })
+
+-- ---- the call
+
+unfoldable pub refused : ℕ → ℕ → TakenOver
+refused number index = record { number = number; index = index; state = unopened }
+
+-- the index beside an accepted journal is free in the paper: it is 0
+unfoldable pub accepted : State → TakenOver
+accepted st = record { number = 0; index = 0; state = st }
+
+-- the index of a refusal is that of its entry: so many receipts stand before it
+unfoldable pub answerOf : Step → TakenOver
+answerOf s = ifZero (s .number) (accepted (s .state)) (refused (s .number) (s .state .issued))
+
+-- "N from 5 to 8? 4. Head whole and good by 1 to 3? 14 (both with index 0)."
+unfoldable pub headNumber : List ℕ → ℕ → ℕ
+headNumber j n = ask (widthGood n) 4 (ask (headGood j) 14 0)
+
+-- an entry takes two bytes and more, so as many steps as the journal has bytes go over all of it
+unfoldable pub takeOver : List ℕ → List ℕ → ℕ → TakenOver
+takeOver j key n =
+    ifZero (headNumber j n) (answerOf (steps (keySchedule key) (length j) (fresh (headSettings j) n key) j)) (refused (headNumber j n) 0)
+
+-- ---- steps for other readers: State sound? 6. Then the questions of the step
+
+-- the length after the entry is a number of 64 bits
+unfoldable pub entryReady : State → List ℕ → Bool
+entryReady st text = soundAlone st && leb (st .length + length (entryText text)) 18446744073709551615
+
+unfoldable pub entryChecked : List (List ℕ) → State → List ℕ → Checked
+entryChecked schedule st text = cond (entryReady st text) (textChecked schedule st text) (stopped 6 st)
+
+unfoldable pub stepChecked : List (List ℕ) → State → List ℕ → Checked
+stepChecked schedule st j = cond (sound st (length j)) (oneStep schedule st j) (stopped 6 st)

@@ -1,0 +1,27 @@
+-- Open: "(settings, buffer) writes a head with count 0 and nothing behind it".
+use Prim.Native.Nat.{ℕ}
+use mathlib.Core.List.{List}
+use lib.Dec.{leb}
+use lib.ListN.{length}
+use Rattle.primitives.specs.Place.{overwrite}
+use Rattle.primitives.specs.Counter.{widthGood}
+use Rattle.receipt.specs.Settings.{cspGood, idGood, serialGood}
+use Rattle.receipt.specs.declared.settings.Settings.{Settings}
+use Rattle.journal.specs.Head.{head, headLength}
+use Rattle.journal.specs.State.{unopened}
+use Rattle.journal.specs.Step.{fresh}
+use Rattle.primitives.specs.Questions.{ask, ifZero}
+use Rattle.journal.specs.declared.state.Opened.{Opened}
+
+-- "CSP good? 1. ID good? 2. Serial good? 3. N from 5 to 8? 4. Head fits the buffer? 5."
+unfoldable pub openNumber : Settings → ℕ → ℕ → ℕ
+openNumber s n room =
+    ask (cspGood (s .csp)) 1 (ask (idGood (s .id)) 2 (ask (serialGood (s .serial)) 3 (ask (widthGood n) 4 (ask (leb (headLength s) room) 5 0))))
+
+-- "A refusal returns the unopened state."
+unfoldable pub opened : Settings → List ℕ → ℕ → ℕ → Opened
+opened s key n room =
+    record { number = openNumber s n room; state = ifZero (openNumber s n room) (fresh s n key) unopened }
+
+unfoldable pub openBuffer : Settings → ℕ → List ℕ → List ℕ
+openBuffer s n buf = ifZero (openNumber s n (length buf)) (overwrite buf 0 (head s 0)) buf

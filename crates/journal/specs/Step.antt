@@ -1,0 +1,98 @@
+-- One receipt more: what is asked of the state and of the details, the fields that the receipt gets, and the state after it.
+-- Writing and checking stand on this side by side.
+use Prim.Native.Nat.{ℕ, _+_}
+use mathlib.Core.Bool.{Bool, true, cond, _&&_}
+use mathlib.Core.List.{List}
+use lib.Dec.{ltb, leb, eqb}
+use lib.IntN.{pos}
+use lib.ListN.{length, replicate}
+use Rattle.primitives.specs.Questions.{ask}
+use Rattle.primitives.specs.Counter.{widthGood, counterFits}
+use Rattle.primitives.specs.Aes.{keySchedule}
+use Rattle.receipt.specs.Settings.{nameText, settingsGood}
+use Rattle.receipt.specs.DateTime.{dateGood}
+use Rattle.receipt.specs.Details.{standard, amountsGood, startGood, counterAfter}
+use Rattle.receipt.specs.Chain.{chainValue, encryptedCounter}
+use Rattle.receipt.specs.declared.settings.Settings.{Settings}
+use Rattle.receipt.specs.declared.details.Details.{Details}
+use Rattle.receipt.specs.declared.details.After.{After}
+use Rattle.receipt.specs.declared.payload.PayloadFields.{PayloadFields}
+use Rattle.journal.specs.Head.{headLength, entryText}
+use Rattle.journal.specs.declared.state.State.{State}
+
+-- ---- the state of a register without receipts
+
+-- "counter, last number and receipts issued 0, the chain bytes of the ID and the head's length as journal length"
+unfoldable pub fresh : Settings → ℕ → List ℕ → State
+fresh s n key =
+    record {
+      settings = s;
+      width = n;
+      key = key;
+      counter = pos 0;
+      last = 0;
+      issued = 0;
+      chain = chainValue (nameText (s .id));
+      length = headLength s;
+    }
+
+-- ---- the questions
+
+-- 6, as far as it asks nothing of a buffer: "settings meet 1 to 4, counter fits N bytes, receipts issued no more than last number, head length ≤ journal length"
+unfoldable pub soundAlone : State → Bool
+soundAlone st =
+    settingsGood (st .settings)
+    && (widthGood (st .width)
+    && (counterFits (st .width) (st .counter) && (leb (st .issued) (st .last) && leb (headLength (st .settings)) (st .length))))
+
+-- 6: and "journal length ≤ buffer length"
+unfoldable pub sound : State → ℕ → Bool
+sound st room = soundAlone st && leb (st .length) room
+
+-- 7: "Number above the state's last number?"; also 17
+unfoldable pub numberAbove : State → Details → Bool
+numberAbove st d = ltb (st .last) (d .number)
+
+-- 10: "Where receipts issued is 0, standard with five zeros?"; also 18
+unfoldable pub firstGood : State → Details → Bool
+firstGood st d = cond (eqb (st .issued) 0) (startGood d) true
+
+-- the counter behind the receipt. 11: "New counter fits N bytes?"
+unfoldable pub newCounter : State → Details → After
+newCounter st d = counterAfter (st .width) (st .counter) d
+
+-- 7 to 11, and then the rest. 8: "Year 2000 to 2099, date in the Gregorian calendar, hour 0 to 23, minute and second 0 to 59?" 9: "Amounts within limits?"
+unfoldable pub detailsNumber : State → Details → ℕ → ℕ
+detailsNumber st d rest =
+    ask (numberAbove st d) 7
+    (ask (dateGood (d .date)) 8
+    (ask (amountsGood (d .amounts)) 9 (ask (firstGood st d) 10 (ask (newCounter st d .fits) 11 rest))))
+
+-- ---- the fields of the receipt
+
+-- on a standard receipt the encrypted counter after it; the chain bytes of the state
+unfoldable pub fieldsOf : State → Details → PayloadFields
+fieldsOf st d =
+    record {
+      details = d;
+      counter =
+          cond (standard (d .kind))
+          (encryptedCounter (keySchedule (st .key)) (st .settings .id) (d .number) (st .width) (newCounter st d .counter)) (replicate 8 0);
+      chain = st .chain;
+    }
+
+-- ---- the state after it
+
+-- the state behind a receipt with these details and this compact form
+unfoldable pub next : State → Details → List ℕ → State
+next st d text =
+    record {
+      settings = st .settings;
+      width = st .width;
+      key = st .key;
+      counter = newCounter st d .counter;
+      last = d .number;
+      issued = st .issued + 1;
+      chain = chainValue text;
+      length = st .length + length (entryText text);
+    }

@@ -1,0 +1,49 @@
+// Opening a register: a head with count 0, and the fresh state.
+use super::head::head_length;
+use super::head::put_head;
+use super::state::Opened;
+use super::state::unopened;
+use super::step::fresh;
+use receipt::Settings;
+ghost use mathlib.Core.Path.{_≡_};
+ghost use lib.ListN.{length};
+ghost use Rattle.journal.specs.Opening.{openNumber, opened, openBuffer};
+
+// Questions 1 to 5.
+fn open_number(s: Settings, n: usize, room: usize) -> u32
+    ensures { λ r. ⌜ r ≡ openNumber s n room ⌝ }
+{
+    let csp = s.csp;
+    if !receipt::csp_good(csp) {
+        return 1;
+    }
+    let id = s.id;
+    if !receipt::id_good(id) {
+        return 2;
+    }
+    let serial = s.serial;
+    if !receipt::serial_good(serial) {
+        return 3;
+    }
+    if !receipt::width_good(n) {
+        return 4;
+    }
+    if room < head_length(s) {
+        return 5;
+    }
+    0
+}
+
+// Writes a head to the buffer where questions 1 to 5 have the answer yes.
+pub fn open(s: Settings, key: [u8; 32], n: usize, buf: &mut [u8]) -> Opened
+    ensures { λ r. ⌜ (r ≡ opened s key n (length (now (buf .entry)))) × (now (buf .exit) ≡ openBuffer s n (now (buf .entry))) ⌝ }
+{
+    let number = open_number(s, n, buf.len());
+    if number != 0 {
+        let state = unopened();
+        return Opened { number, state };
+    }
+    put_head(s, buf);
+    let state = fresh(s, n, key);
+    Opened { number: 0, state }
+}

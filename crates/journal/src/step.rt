@@ -1,0 +1,191 @@
+// One receipt more: what is asked of the state and of the details, the fields that the receipt gets, and the state after it.
+use super::head::head_length;
+use super::state::State;
+use receipt::After;
+use receipt::Details;
+use receipt::Kind;
+use receipt::PayloadFields;
+use receipt::Settings;
+ghost use mathlib.Core.Path.{_≡_};
+ghost use mathlib.Core.Bool.{true};
+ghost use Prim.Native.Nat.{_+_, _<_};
+ghost use lib.ListN.{length};
+ghost use Rattle.primitives.specs.Counter.{counterFits};
+ghost use Rattle.primitives.specs.Aes.{keySchedule};
+ghost use Rattle.receipt.specs.Settings.{settingsGood, nameText};
+ghost use Rattle.receipt.specs.Chain.{chainValue, encryptedCounter};
+ghost use Rattle.journal.specs.Step.{fresh, soundAlone, sound, firstGood, newCounter, detailsNumber, fieldsOf, next};
+
+// ---- the state of a register without receipts
+
+// The chain bytes before the first receipt, those of the ID.
+fn first_chain(s: Settings) -> [u8; 8]
+    requires { ⌜ settingsGood s ≡ true ⌝ }
+    ensures { λ r. ⌜ r ≡ chainValue (nameText (s .id)) ⌝ }
+{
+    let id = s.id;
+    let bytes = id.bytes;
+    let n = id.len;
+    receipt::chain_value(&bytes[0..n])
+}
+
+// The state after a head with count 0.
+pub(crate) fn fresh(s: Settings, n: usize, key: [u8; 32]) -> State
+    requires { ⌜ settingsGood s ≡ true ⌝ }
+    ensures { λ r. ⌜ r ≡ fresh s n key ⌝ }
+{
+    let chain = first_chain(s);
+    let length = head_length(s);
+    State {
+        settings: s,
+        width: n,
+        key: key,
+        counter: 0,
+        last: 0,
+        issued: 0,
+        chain: chain,
+        length: length,
+    }
+}
+
+// ---- the questions
+
+// The counter fits the width.
+fn counter_good(st: State) -> bool
+    ensures { λ r. ⌜ r ≡ counterFits (st .width) (st .counter) ⌝ }
+{
+    receipt::counter_fits(st.width, st.counter)
+}
+
+// Question 6, as far as it asks nothing of a buffer.
+pub(crate) fn sound_alone(st: State) -> bool
+    ensures { λ r. ⌜ r ≡ soundAlone st ⌝ }
+{
+    let settings = st.settings;
+    if !receipt::settings_good(settings) {
+        return false;
+    }
+    if !receipt::width_good(st.width) {
+        return false;
+    }
+    if !counter_good(st) {
+        return false;
+    }
+    if st.last < st.issued {
+        return false;
+    }
+    head_length(settings) <= st.length
+}
+
+// Question 6, with a buffer of this length.
+pub(crate) fn sound(st: State, room: usize) -> bool
+    ensures { λ r. ⌜ r ≡ sound st room ⌝ }
+{
+    if !sound_alone(st) {
+        return false;
+    }
+    st.length <= room
+}
+
+// Questions 10 and 18: the first receipt is a standard one with five zeros.
+pub(crate) fn first_good(st: State, d: Details) -> bool
+    ensures { λ r. ⌜ r ≡ firstGood st d ⌝ }
+{
+    if st.issued != 0 {
+        return true;
+    }
+    receipt::start_good(d)
+}
+
+// The counter behind a receipt.
+pub(crate) fn new_counter(st: State, d: Details) -> After
+    ensures { λ r. ⌜ r ≡ newCounter st d ⌝ }
+{
+    receipt::counter_after(st.width, st.counter, d)
+}
+
+// Questions 7 to 11.
+pub(crate) fn details_number(st: State, d: Details) -> u32
+    ensures { λ r. ⌜ r ≡ detailsNumber st d 0 ⌝ }
+{
+    if d.number <= st.last {
+        return 7;
+    }
+    let date = d.date;
+    if !receipt::date_good(date) {
+        return 8;
+    }
+    let amounts = d.amounts;
+    if !receipt::amounts_good(amounts) {
+        return 9;
+    }
+    if !first_good(st, d) {
+        return 10;
+    }
+    let after = new_counter(st, d);
+    if !after.fits {
+        return 11;
+    }
+    0
+}
+
+// ---- the fields of the receipt
+
+// The counter behind a receipt, encrypted.
+fn encrypted(st: State, d: Details) -> [u8; 8]
+    ensures { λ r. ⌜ r ≡ encryptedCounter (keySchedule (st .key)) (st .settings .id) (d .number) (st .width) (newCounter st d .counter) ⌝ }
+{
+    let settings = st.settings;
+    let id = settings.id;
+    let key = st.key;
+    let after = new_counter(st, d);
+    let schedule = receipt::counter_key(key);
+    receipt::encrypt_counter(&schedule, id, d.number, st.width, after.counter)
+}
+
+// The counter field: on a standard receipt the encrypted counter.
+fn counter_field(st: State, d: Details) -> [u8; 8]
+    ensures { λ r. ⌜ r ≡ fieldsOf st d .counter ⌝ }
+{
+    let kind = d.kind;
+    match kind {
+        Kind::Standard => encrypted(st, d),
+        Kind::Cancellation => [0u8; 8],
+        Kind::Training => [0u8; 8],
+    }
+}
+
+pub(crate) fn fields_of(st: State, d: Details) -> PayloadFields
+    ensures { λ r. ⌜ r ≡ fieldsOf st d ⌝ }
+{
+    let counter = counter_field(st, d);
+    let chain = st.chain;
+    PayloadFields {
+        details: d,
+        counter: counter,
+        chain: chain,
+    }
+}
+
+// ---- the state after it
+
+// The state behind a receipt with this compact form.
+pub(crate) fn next(st: State, d: Details, text: &[u8]) -> State
+    requires { ⌜ (st .issued + 1 < 4294967296) × (st .length + 2 + length (now text) < 18446744073709551616) ⌝ }
+    ensures { λ r. ⌜ r ≡ next st d (now (text .entry)) ⌝ }
+{
+    let settings = st.settings;
+    let key = st.key;
+    let after = new_counter(st, d);
+    let chain = receipt::chain_value(text);
+    State {
+        settings: settings,
+        width: st.width,
+        key: key,
+        counter: after.counter,
+        last: d.number,
+        issued: st.issued + 1,
+        chain: chain,
+        length: st.length + 2 + text.len(),
+    }
+}
