@@ -1,14 +1,10 @@
 // The benchmarks' work: the first argument names it, the second says how often. Each turn's result goes into the next,
 // so that none can be left out; the last one is printed for comparison with the other programs.
-use libc::STDOUT_FILENO;
-use primitives::Number;
 
 // The first eight bytes of a result, in hexadecimal.
 fn print(result: &[u8]) {
-    if let Number::Is(v) = primitives::number_at(result, 0, 8) {
-        io::print_hex(STDOUT_FILENO, v, 16);
-        io::write_all(STDOUT_FILENO, b"\n");
-    }
+    printing::eight(result);
+    printing::text(b"\n");
 }
 
 // Hashes a message again and again, with each digest at its start.

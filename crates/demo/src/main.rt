@@ -1,14 +1,9 @@
 // A register's day on the screen: it is opened, receipts are issued, the journal is taken over, and a broken one is refused.
-mod screen;
-
 use journal::State;
 use receipt::DateTime;
 use receipt::Details;
 use receipt::Kind;
 use receipt::Settings;
-use screen::hex;
-use screen::number;
-use screen::say;
 
 // A receipt of the day.
 fn details(number: u32, minute: u32, amounts: [i64; 5], kind: Kind) -> Details {
@@ -37,50 +32,50 @@ fn show_code(buf: &[u8], a: usize, e: usize) {
         return;
     }
     let r = receipt::code(&buf[a..e], &mut out);
-    say(b"  code ");
-    screen::first(&out, r.length);
-    say(b"\n");
+    printing::text(b"  code ");
+    printing::first(&out, r.length);
+    printing::text(b"\n");
 }
 
 // The state after a receipt.
 fn show_state(st: State) {
     let chain = st.chain;
-    say(b"  number ");
-    number(st.last as u64);
-    say(b", counter ");
-    screen::cents(st.counter);
-    say(b" cents, chain value ");
-    hex(&chain);
-    say(b"\n");
+    printing::text(b"  number ");
+    printing::number(st.last as u64);
+    printing::text(b", counter ");
+    printing::cents(st.counter);
+    printing::text(b" cents, chain value ");
+    printing::eight(&chain);
+    printing::text(b"\n");
 }
 
 fn show_amount(z: i64) {
-    say(b" ");
-    screen::cents(z);
+    printing::text(b" ");
+    printing::cents(z);
 }
 
 // The five amounts of a receipt: standard, reduced 1, reduced 2, zero, special.
 fn show_amounts(a: [i64; 5]) {
-    say(b"  amounts");
+    printing::text(b"  amounts");
     show_amount(a[0]);
     show_amount(a[1]);
     show_amount(a[2]);
     show_amount(a[3]);
     show_amount(a[4]);
-    say(b" cents\n");
+    printing::text(b" cents\n");
 }
 
 // Issues a receipt and shows what came of it.
 fn issue(title: &[u8], st: State, d: Details, signature: &[u8], buf: &mut [u8]) -> State {
     let at = st.length;
     let amounts = d.amounts;
-    say(title);
+    printing::text(title);
     let r = journal::issue(st, d, signature, buf);
     let next = r.state;
     if r.number != 0 {
-        say(b"  refused ");
-        number(r.number as u64);
-        say(b"\n");
+        printing::text(b"  refused ");
+        printing::number(r.number as u64);
+        printing::text(b"\n");
         return next;
     }
     show_state(next);
@@ -93,25 +88,25 @@ fn issue(title: &[u8], st: State, d: Details, signature: &[u8], buf: &mut [u8]) 
 
 // What a take-over of the first n bytes answers.
 fn take_over(title: &[u8], buf: &[u8], n: usize, key: [u8; 32]) {
-    say(title);
+    printing::text(title);
     if buf.len() < n {
         return;
     }
     let t = journal::take_over(&buf[0..n], key, 8);
     if t.number != 0 {
-        say(b"  refused ");
-        number(t.number as u64);
-        say(b" at entry ");
-        number(t.index as u64);
-        say(b"\n");
+        printing::text(b"  refused ");
+        printing::number(t.number as u64);
+        printing::text(b" at entry ");
+        printing::number(t.index as u64);
+        printing::text(b"\n");
         return;
     }
     let st = t.state;
-    say(b"  accepted, ");
-    number(st.issued as u64);
-    say(b" receipts, counter ");
-    screen::cents(st.counter);
-    say(b" cents\n");
+    printing::text(b"  accepted, ");
+    printing::number(st.issued as u64);
+    printing::text(b" receipts, counter ");
+    printing::cents(st.counter);
+    printing::text(b" cents\n");
 }
 
 // The start receipt and a sale.
@@ -170,6 +165,13 @@ fn evening(st: State, buf: &mut [u8]) -> State {
     )
 }
 
+// One byte changed.
+fn flip(buf: &mut [u8], at: usize) {
+    if at < buf.len() {
+        buf[at] = buf[at] ^ 1;
+    }
+}
+
 fn main() {
     let key = [7u8; 32];
     let mut buf = io::buffer();
@@ -180,12 +182,12 @@ fn main() {
     };
     let r = journal::open(s, key, 8, &mut buf);
     let opened = r.state;
-    say(b"register SHOP-1 opened\n");
+    printing::text(b"register SHOP-1 opened\n");
     let first = morning(opened, &mut buf);
     let second = noon(first, &mut buf);
     let st = evening(second, &mut buf);
     take_over(b"the journal is taken over\n", &buf, st.length, key);
-    screen::flip(&mut buf, 400);
+    flip(&mut buf, 400);
     take_over(
         b"one byte of it is changed, and it is taken over again\n",
         &buf,

@@ -1,9 +1,6 @@
 // The journals: a register is opened, its receipts are issued one after the other, and its journal is taken over.
 use super::lines::print;
 use super::lines::print_first;
-use super::lines::write;
-use super::lines::write_cents;
-use super::lines::write_first;
 use super::lines::write_hex;
 use super::lines::write_name;
 use super::lines::write_number;
@@ -14,7 +11,6 @@ use super::takeovers::print_taken;
 use super::text::decimal;
 use super::text::digits;
 use super::text::field;
-use super::text::find;
 use super::text::unhex;
 use journal::State;
 use receipt::DateTime;
@@ -35,19 +31,19 @@ fn write_counts(st: State) {
 fn print_state(name: &[u8], st: State) {
     let chain = st.chain;
     write_name(name);
-    write_cents(st.counter);
+    printing::cents(st.counter);
     write_counts(st);
-    write(b" ");
+    printing::text(b" ");
     write_hex(&chain);
     write_number(st.length as u64);
-    write(b"\n");
+    printing::text(b"\n");
 }
 
-// An ID or a serial, behind a blank.
+// An ID or a serial, after a blank.
 fn write_letters(n: Name) {
     let bytes = n.bytes;
-    write(b" ");
-    write_first(&bytes, n.len);
+    printing::text(b" ");
+    printing::first(&bytes, n.len);
 }
 
 // The settings as one line: CSP, ID, serial, width.
@@ -56,19 +52,19 @@ fn print_settings(name: &[u8], s: Settings, width: usize) {
     let id = s.id;
     let serial = s.serial;
     write_name(name);
-    write(&csp);
+    printing::text(&csp);
     write_letters(id);
     write_letters(serial);
     write_number(width as u64);
-    write(b"\n");
+    printing::text(b"\n");
 }
 
 // The number of a refused call.
 fn print_refused(name: &[u8], number: u32) {
     write_name(name);
-    write(b"refused");
+    printing::text(b"refused");
     write_number(number as u64);
-    write(b"\n");
+    printing::text(b"\n");
 }
 
 // The compact form of the entry between two places of a journal.
@@ -166,7 +162,7 @@ fn print_prepared(name: &[u8], st: State, d: Details) {
     print_first(name, &out, a.length);
 }
 
-// A receipt with the first n bytes of a signature: its compact form in the buffer, and the state behind it.
+// A receipt with the first n bytes of a signature: its compact form in the buffer, and the state after it.
 fn issue(name: &[u8], st: State, d: Details, signature: &[u8], n: usize, buf: &mut [u8]) -> State {
     if signature.len() < n {
         return st;
@@ -216,10 +212,10 @@ fn end_row(st: State, line: &[u8], buf: &[u8]) {
     take_over(name, buf, st);
 }
 
-// ---- the rows
+// ---- a row
 
-// The state behind a row, by the first letter of its call.
-fn row(st: State, line: &[u8], buf: &mut [u8]) -> State {
+// The state after a row, by the first letter of its call.
+pub(crate) fn row(st: State, line: &[u8], buf: &mut [u8]) -> State {
     if line.len() == 0 {
         return st;
     }
@@ -231,25 +227,4 @@ fn row(st: State, line: &[u8], buf: &mut [u8]) -> State {
             st
         }
     }
-}
-
-// The rows of a text but the first line, which names the columns; the register lives in the buffer.
-fn rows(text: &[u8], buf: &mut [u8], first: State) {
-    let mut st = first;
-    let mut a = find(text, 0, b'\n');
-    while a < text.len() {
-        let from = a + 1;
-        let e = find(text, from, b'\n');
-        if from < e {
-            let next = row(st, &text[from..e], buf);
-            st = next;
-        }
-        a = e;
-    }
-}
-
-// Before the first row no register is open.
-pub(crate) fn answer_all(text: &[u8]) {
-    let mut buf = io::buffer();
-    rows(text, &mut buf, journal::unopened());
 }

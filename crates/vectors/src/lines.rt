@@ -1,47 +1,23 @@
 // The lines that the program writes: a row's name, a tab and what the library makes of the row.
 use super::text::put_hex;
-use libc::STDOUT_FILENO;
 
-// A text on standard output.
-pub(crate) fn write(text: &[u8]) {
-    io::write_all(STDOUT_FILENO, text);
-}
-
-// The first n bytes of a text on standard output.
-pub(crate) fn write_first(text: &[u8], n: usize) {
-    if n <= text.len() {
-        io::write_all(STDOUT_FILENO, &text[0..n]);
-    }
-}
-
-// A number in decimal, behind a blank.
+// A number in decimal, after a blank.
 pub(crate) fn write_number(n: u64) {
-    write(b" ");
-    io::print_decimal(STDOUT_FILENO, n);
-}
-
-// A number of cents: "-" if negative, and the magnitude.
-pub(crate) fn write_cents(z: i64) {
-    let m = primitives::magnitude(z);
-    if z < 0 {
-        write(b"-");
-        io::print_decimal(STDOUT_FILENO, m + 1);
-        return;
-    }
-    io::print_decimal(STDOUT_FILENO, m);
+    printing::text(b" ");
+    printing::number(n);
 }
 
 // At most 32 bytes in hexadecimal.
 pub(crate) fn write_hex(bytes: &[u8]) {
     let mut text = [0u8; 64];
     let n = put_hex(&mut text, 0, bytes);
-    write_first(&text, n);
+    printing::first(&text, n);
 }
 
 // A row's name and a tab.
 pub(crate) fn write_name(name: &[u8]) {
-    write(name);
-    write(b"\t");
+    printing::text(name);
+    printing::text(b"\t");
 }
 
 // A row's name and its answer, as one line.
@@ -51,7 +27,7 @@ pub(crate) fn print(name: &[u8], result: &[u8]) {
     let b = primitives::put(&mut line, a, b"\t");
     let c = primitives::put(&mut line, b, result);
     let n = primitives::put(&mut line, c, b"\n");
-    write_first(&line, n);
+    printing::first(&line, n);
 }
 
 // The same, with the first n bytes of a text.

@@ -6,7 +6,7 @@ mod receipts;
 mod takeovers;
 mod text;
 
-use libc::STDOUT_FILENO;
+use journal::State;
 
 // One line of the file `topic`.
 fn answer(topic: u8, line: &[u8]) {
@@ -25,26 +25,34 @@ fn answer(topic: u8, line: &[u8]) {
     }
 }
 
-// All lines of a file's text but the first, which names the columns.
-fn answer_all(topic: u8, text: &[u8]) {
+// The register after one line of the file `topic`. Only the lines of the journals change it.
+fn row(topic: u8, st: State, line: &[u8], buf: &mut [u8]) -> State {
+    if topic == b'j' {
+        return journals::row(st, line, buf);
+    }
+    answer(topic, line);
+    st
+}
+
+// All lines of a file's text but the first, which names the columns. The register lives in the buffer.
+fn rows(topic: u8, text: &[u8], buf: &mut [u8], first: State) {
+    let mut st = first;
     let mut a = text::find(text, 0, b'\n');
     while a < text.len() {
         let from = a + 1;
         let e = text::find(text, from, b'\n');
         if from < e {
-            answer(topic, &text[from..e]);
+            let next = row(topic, st, &text[from..e], buf);
+            st = next;
         }
         a = e;
     }
 }
 
-// A file's text: the rows of the journals depend on those before them.
-fn answer_file(topic: u8, text: &[u8]) {
-    if topic == b'j' {
-        journals::answer_all(text);
-        return;
-    }
-    answer_all(topic, text);
+// Before the first line no register is open.
+fn answer_all(topic: u8, text: &[u8]) {
+    let mut buf = io::buffer();
+    rows(topic, text, &mut buf, journal::unopened());
 }
 
 // Reads a file of data/, prints its name and answers its lines.
@@ -57,10 +65,10 @@ fn run(topic: u8, path: &[u8]) {
     let mut buffer = io::large_buffer();
     let n = io::read_full(fd, &mut buffer);
     libc::close(fd);
-    io::write_all(STDOUT_FILENO, b"# ");
-    io::write_all(STDOUT_FILENO, path);
-    io::write_all(STDOUT_FILENO, b"\n");
-    answer_file(topic, &buffer[..n]);
+    printing::text(b"# ");
+    printing::text(path);
+    printing::text(b"\n");
+    answer_all(topic, &buffer[..n]);
 }
 
 fn run_primitives() {

@@ -1,37 +1,19 @@
 // The rows of the journals that are taken over.
-use super::lines::write;
-use super::lines::write_cents;
 use super::lines::write_name;
-use super::lines::write_number;
 use super::text::digits;
 use super::text::field;
 use super::text::unhex;
 use journal::TakenOver;
 
-fn write_refused(number: u32, index: u32) {
-    write(b"refused");
-    write_number(number as u64);
-    write_number(index as u64);
-    write(b"\n");
-}
-
-fn write_accepted(receipts: u32, cents: i64) {
-    write(b"accepted");
-    write_number(receipts as u64);
-    write(b" ");
-    write_cents(cents);
-    write(b"\n");
-}
-
 // What a take-over answered: receipts and counter, or number and index.
 pub(crate) fn print_taken(name: &[u8], t: TakenOver) {
     write_name(name);
     if t.number != 0 {
-        write_refused(t.number, t.index);
+        printing::refused(t.number, t.index);
         return;
     }
     let st = t.state;
-    write_accepted(st.issued, st.counter);
+    printing::accepted(st.issued, st.counter);
 }
 
 fn wide(b: u8) -> usize {
@@ -51,7 +33,7 @@ fn print_input(name: &[u8], input: &[u8], n: usize) {
     print_taken(name, journal::take_over(&input[33..n], key, wide(input[0])));
 }
 
-// An input in hexadecimal, and the number of zero bytes behind it.
+// An input in hexadecimal, and the number of zero bytes after it.
 pub(crate) fn row(line: &[u8]) {
     let mut input = io::large_buffer();
     let m = unhex(field(line, 1), &mut input);

@@ -17,7 +17,7 @@ pub(crate) fn find(text: &[u8], from: usize, mark: u8) -> usize
     i
 }
 
-// The field behind k tabs; nothing where there are fewer.
+// The field after k tabs; nothing where there are fewer.
 pub(crate) fn field(line: &[u8], k: usize) -> &[u8] {
     let mut a: usize = 0;
     let mut left = k;
@@ -49,7 +49,7 @@ fn byte_of(a: u8, b: u8) -> u8 {
     nibble(a) * 16 + nibble(b)
 }
 
-// The bytes of a hexadecimal text at the start of a buffer, as many as there is room for; the place behind them.
+// The bytes of a hexadecimal text at the start of a buffer, as many as there is room for; the place after them.
 pub(crate) fn unhex(s: &[u8], out: &mut [u8]) -> usize {
     let mut p: usize = 0;
     let mut i: usize = 0;
@@ -70,7 +70,7 @@ fn letter(n: u8) -> u8 {
     87 + d
 }
 
-// Bytes in hexadecimal at a place, as many as there is room for; the place behind them.
+// Bytes in hexadecimal at a place, as many as there is room for; the place after them.
 pub(crate) fn put_hex(out: &mut [u8], at: usize, s: &[u8]) -> usize {
     let mut p = at;
     let mut i: usize = 0;

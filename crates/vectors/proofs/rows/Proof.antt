@@ -2,14 +2,14 @@ use Prim.Native.Nat.{_-_, _≤_}
 use mathlib.Core.Path.{_≡_}
 use borrow.Author.Needs.{needs}
 use lib.ListN.{length}
-use Rattle.vectors.proofs.journals.rows.Statement.{statement}
-use Rattle.vectors.proofs.journals.rows.Tie as tie
+use Rattle.vectors.proofs.rows.Statement.{statement}
+use Rattle.vectors.proofs.rows.Tie as tie
 
 abbrev Inv-loop : tie.InvT-loop
-Inv-loop text buf₀ st₀ a₀ buf st a = (a ≤ length text) × (length buf ≡ length buf₀)
+Inv-loop topic text buf₀ st₀ a₀ buf st a = (a ≤ length text) × (length buf ≡ length buf₀)
 
 abbrev μ-loop : tie.MeasureT-loop
-μ-loop text buf₀ st₀ a₀ buf st a = length text - a
+μ-loop topic text buf₀ st₀ a₀ buf st a = length text - a
 
 find-requires : tie.Need-find-requires Inv-loop μ-loop
 find-requires c κs = search needs
