@@ -4,6 +4,7 @@ pub mod Base64
 pub mod Bytes
 pub mod Counter
 pub mod Field
+pub mod Laws
 pub mod Number
 pub mod Place
 pub mod Questions
