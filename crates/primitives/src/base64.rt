@@ -2,10 +2,10 @@
 ghost use mathlib.Core.Path.{_≡_};
 ghost use Prim.Native.Nat.{_+_, _<_, _≤_};
 ghost use mathlib.Core.List.{[], _∷_, _++_};
-ghost use lib.Dec.{leb};
 ghost use lib.ListN.{length, take};
 ghost use Rattle.primitives.specs.Place.{overwrite, placed, behind};
 ghost use Rattle.primitives.specs.Base64.{LetterTable, DigitTable, quad, fromBytes, fromDigits, digit, triple, letters, paddingCount, encoding, encodedLength, bytes, known, ended, unmarked, letterCount, whole, accepted, decodeAnswer, decodeBuffer};
+use crate::buffer::has_room;
 
 // Standard: RFC 4648, section 4, padded with '='. UrlSafe: section 5, without padding.
 pub enum Alphabet {
@@ -147,36 +147,22 @@ fn padding_count(alphabet: Alphabet, n: usize) -> usize
     }
 }
 
-// The length of the text of fewer than three bytes.
-fn rest_length(alphabet: Alphabet, n: usize) -> usize
-    requires { ⌜ n < 3 ⌝ }
-    ensures { λ r. ⌜ r ≡ encodedLength alphabet n ⌝ }
+// The length of the text of `s`. No product is too large, since a slice has fewer than 2^63 bytes; four times the length would be.
+pub fn base64_length(alphabet: Alphabet, s: &[u8]) -> usize
+    ensures { λ r. ⌜ r ≡ encodedLength alphabet (length (now (s .entry))) ⌝ }
 {
+    let n = s.len();
     match alphabet {
         Alphabet::Standard => (n + 2) / 3 * 4,
-        Alphabet::UrlSafe => (n * 4 + 2) / 3,
+        Alphabet::UrlSafe => n / 3 * 4 + (n % 3 * 4 + 2) / 3,
     }
-}
-
-// The text of n bytes has room in a buffer of len bytes, from the place on. Whole groups are compared first, so that no product is too large.
-fn fits(alphabet: Alphabet, n: usize, len: usize, at: usize) -> bool
-    ensures { λ r. ⌜ r ≡ leb (at + encodedLength alphabet n) len ⌝ }
-{
-    let rest = rest_length(alphabet, n % 3);
-    if len < at {
-        return false;
-    }
-    if (len - at) / 4 < n / 3 {
-        return false;
-    }
-    rest <= len - at - n / 3 * 4
 }
 
 // Writes the text of `s` at a place, or nothing where there is no room for all of it; the place behind what was written.
 pub fn base64_encode(alphabet: Alphabet, s: &[u8], out: &mut [u8], at: usize) -> usize
     ensures { λ r. ⌜ (r ≡ behind (now (out .entry)) at (encoding alphabet (now (s .entry)))) × (now (out .exit) ≡ placed (now (out .entry)) at (encoding alphabet (now (s .entry)))) ⌝ }
 {
-    if !fits(alphabet, s.len(), out.len(), at) {
+    if !has_room(out.len(), at, base64_length(alphabet, s)) {
         return at;
     }
     let table = letter_table(alphabet);
