@@ -21,11 +21,19 @@ pub enum Decoded {
 }
 
 // The letters of the numbers 0 to 63.
-const STANDARD_LETTERS: [u8; 64] =
-    *b"ABCDEFGHIJKLMNOPQRSTUVWXYZabcdefghijklmnopqrstuvwxyz0123456789+/";
+const STANDARD_LETTERS: [u8; 64] = *b"\
+    ABCDEFGHIJKLMNOP\
+    QRSTUVWXYZabcdef\
+    ghijklmnopqrstuv\
+    wxyz0123456789+/\
+";
 
-const URL_SAFE_LETTERS: [u8; 64] =
-    *b"ABCDEFGHIJKLMNOPQRSTUVWXYZabcdefghijklmnopqrstuvwxyz0123456789-_";
+const URL_SAFE_LETTERS: [u8; 64] = *b"\
+    ABCDEFGHIJKLMNOP\
+    QRSTUVWXYZabcdef\
+    ghijklmnopqrstuv\
+    wxyz0123456789-_\
+";
 
 // The number of each letter, and 64 for any other byte.
 const STANDARD_DIGITS: [u8; 256] = *b"\
