@@ -125,7 +125,8 @@ fn quad_of(alphabet: Alphabet, table: &[u8; 64], x: u8, y: u8, z: u8) -> [u8; 4]
 // Writes the letters of `s`, without padding; the place behind them.
 fn put_letters(alphabet: Alphabet, table: &[u8; 64], s: &[u8], out: &mut [u8], at: usize) -> usize
     requires { ⌜ LetterTable alphabet (now table) × (at + length (letters alphabet (now s)) ≤ length (now out)) ⌝ }
-    ensures { λ r. ⌜ (r ≡ at + length (letters alphabet (now (s .entry)))) × (now (out .exit) ≡ overwrite (now (out .entry)) at (letters alphabet (now (s .entry)))) ⌝ }
+    ensures { λ r. let text : _ = letters alphabet (now (s .entry)) in
+        ⌜ (r ≡ at + length text) × (now (out .exit) ≡ overwrite (now (out .entry)) at text) ⌝ }
 {
     let mut i: usize = 0;
     let mut o = at;
@@ -168,7 +169,8 @@ pub fn base64_length(alphabet: Alphabet, s: &[u8]) -> usize
 
 // Writes the text of `s` at a place, or nothing where there is no room for all of it; the place behind what was written.
 pub fn base64_encode(alphabet: Alphabet, s: &[u8], out: &mut [u8], at: usize) -> usize
-    ensures { λ r. ⌜ (r ≡ behind (now (out .entry)) at (encoding alphabet (now (s .entry)))) × (now (out .exit) ≡ placed (now (out .entry)) at (encoding alphabet (now (s .entry)))) ⌝ }
+    ensures { λ r. let text : _ = encoding alphabet (now (s .entry)) in
+        ⌜ (r ≡ behind (now (out .entry)) at text) × (now (out .exit) ≡ placed (now (out .entry)) at text) ⌝ }
 {
     if !has_room(out.len(), at, base64_length(alphabet, s)) {
         return at;
@@ -208,7 +210,8 @@ fn bytes_of(g: u32) -> [u8; 4]
 // Writes the bytes of a text of letters; the place behind them. An 'A', which is 0, stands for a letter that is missing at the end.
 fn put_bytes(alphabet: Alphabet, table: &[u8; 256], s: &[u8], out: &mut [u8], at: usize) -> usize
     requires { ⌜ DigitTable alphabet (now table) × (at + length (bytes alphabet (now s)) ≤ length (now out)) ⌝ }
-    ensures { λ r. ⌜ (r ≡ at + length (bytes alphabet (now (s .entry)))) × (now (out .exit) ≡ overwrite (now (out .entry)) at (bytes alphabet (now (s .entry)))) ⌝ }
+    ensures { λ r. let read : _ = bytes alphabet (now (s .entry)) in
+        ⌜ (r ≡ at + length read) × (now (out .exit) ≡ overwrite (now (out .entry)) at read) ⌝ }
 {
     let mut i: usize = 0;
     let mut o = at;
@@ -310,9 +313,11 @@ fn is_text(alphabet: Alphabet, table: &[u8; 256], s: &[u8], n: usize) -> bool
     all_known(alphabet, table, letters)
 }
 
-// Strict reader: writes the bytes that the text stands for at a place. Refused (wrong padding, foreign letter, unused bits not zero) or no room: the buffer stays as it was.
+// Strict reader: writes the bytes that the text stands for at a place.
+// Refused (wrong padding, foreign letter, unused bits not zero) or no room: the buffer stays as it was.
 pub fn base64_decode(alphabet: Alphabet, s: &[u8], out: &mut [u8], at: usize) -> Decoded
-    ensures { λ r. ⌜ (r ≡ decodeAnswer alphabet (now (s .entry)) (now (out .entry)) at) × (now (out .exit) ≡ decodeBuffer alphabet (now (s .entry)) (now (out .entry)) at) ⌝ }
+    ensures { λ r. let text : _ = now (s .entry) in
+        ⌜ (r ≡ decodeAnswer alphabet text (now (out .entry)) at) × (now (out .exit) ≡ decodeBuffer alphabet text (now (out .entry)) at) ⌝ }
 {
     let table = digit_table(alphabet);
     let n = count_letters(alphabet, s);
