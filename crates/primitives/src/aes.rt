@@ -24,7 +24,7 @@ const SBOX: [u8; 256] = *b"\
     \x8c\xa1\x89\x0d\xbf\xe6\x42\x68\x41\x99\x2d\x0f\xb0\x54\xbb\x16\
 ";
 
-// The table, made once for a call and lent from there on.
+// The table, made once for a call and lent from there on: an indexed constant is built anew on the stack at each evaluation.
 fn sbox() -> [u8; 256]
     ensures { λ r. ⌜ SBox r ⌝ }
 {
@@ -134,7 +134,7 @@ fn add_round_key(s: [[u8; 4]; 4], k: [[u8; 4]; 4]) -> [[u8; 4]; 4]
     ]
 }
 
-// The round constants from 1 on; the entry at 0 is not used.
+// The round constants from 1 on; the entry at 0 is not used. Eight bytes that are read seven times for a key, so this table is indexed and not lent.
 const RCON: [u8; 8] = [1, 1, 2, 4, 8, 16, 32, 64];
 
 fn round_constant(j: usize) -> u8

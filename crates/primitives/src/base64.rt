@@ -74,7 +74,8 @@ const URL_SAFE_DIGITS: [u8; 256] = *b"\
     \x40\x40\x40\x40\x40\x40\x40\x40\x40\x40\x40\x40\x40\x40\x40\x40\
 ";
 
-// The table of an alphabet is made once a call and lent with the alphabet, which the contracts name and the code does not ask again.
+// The table of an alphabet is made once a call and lent from there on: an indexed constant is built anew on the stack at each evaluation.
+// The alphabet goes with its table; the contracts name it, and the code does not ask it again.
 fn letter_table(alphabet: Alphabet) -> [u8; 64]
     ensures { λ r. ⌜ LetterTable alphabet r ⌝ }
 {
