@@ -5,8 +5,8 @@ use mathlib.Core.Bool.{Bool, true, false, cond, _&&_}
 use mathlib.Core.List.{List, [], _∷_}
 use mathlib.Core.Option.{some}
 use native.Mathlib.Omega.{arith}
-use borrow.Author.Tests.{le-leb, lt-leb, leb-true, leb-false, eq-eqb, ne-eqb}
-use lib.Dec.{leb, eqb}
+use borrow.Author.Tests.{eq-eqb, ne-eqb}
+use lib.Dec.{eqb}
 use lib.ListN.{length, getD, take, replicate}
 use lib.Seq.{length-take-le}
 use Rattle.primitives.specs.Place.{overwrite, placed, behind}
@@ -16,26 +16,6 @@ use Rattle.primitives.specs.declared.base64.Decoded.the-variants.{Upto, 
 use Rattle.primitives.specs.Base64.{letters, pad, paddingCount, padding, encoding, encodedLength, bytes, known, ended, whole, unmarked, letterCount, unpadded, accepted, decoding, decodeAnswer, decodeBuffer}
 use Rattle.primitives.proofs.Base64Lengths.{length-bytes, length-encoding, length-parts}
 use Rattle.primitives.proofs.Over.{then, length-over, placed-room, placed-full, behind-room, behind-full, room-true, room-false}
-
--- ---- room for a text
-
-few : (a : Alphabet) (n : ℕ) → encodedLength a n ≡ n / 3 * 4 + encodedLength a (n % 3)
-few Standard n = omega arith
-few UrlSafe n = omega arith
-
-module _ (a : Alphabet) (n len at : ℕ) where
-  pub fits-behind : len < at → false ≡ leb (at + encodedLength a n) len
-  fits-behind h = sym (lt-leb (at + encodedLength a n) len (omega arith))
-
-  pub fits-groups : (len - at) / 4 < n / 3 → false ≡ leb (at + encodedLength a n) len
-  fits-groups h = sym (lt-leb (at + encodedLength a n) len (omega (arith, few a n)))
-
-  pub fits-rest : {rest : ℕ} → rest ≡ encodedLength a (n % 3) → at ≤ len → n / 3 ≤ (len - at) / 4 → leb rest (len - at - n / 3 * 4) ≡ leb (at + encodedLength a n) len
-  fits-rest {rest} e h k = go (leb rest (len - at - n / 3 * 4)) refl
-    where
-      go : (t : Bool) → leb rest (len - at - n / 3 * 4) ≡ t → t ≡ leb (at + encodedLength a n) len
-      go true p = sym (le-leb (at + encodedLength a n) len (omega (arith, few a n, leb-true rest (len - at - n / 3 * 4) p)))
-      go false p = sym (lt-leb (at + encodedLength a n) len (omega (arith, few a n, leb-false rest (len - at - n / 3 * 4) p)))
 
 -- ---- the writer's answer
 
@@ -50,29 +30,27 @@ marks (suc zero) h = refl
 marks (suc (suc zero)) h = refl
 marks (suc (suc (suc n))) h = absurd (omega arith)
 
-module _ (a : Alphabet) (s out : List ℕ) (at : ℕ) where
-  pub encode-full : false ≡ leb (at + encodedLength a (length s)) (length out) → (at ≡ behind out at (encoding a s)) × (out ≡ placed out at (encoding a s))
+-- k is the length of the text
+module _ (a : Alphabet) (s out : List ℕ) (at : ℕ) {k : ℕ} (long : k ≡ encodedLength a (length s)) where
+  pub encode-full : length out < at + k → (at ≡ behind out at (encoding a s)) × (out ≡ placed out at (encoding a s))
   encode-full e =
-      let h : length out < at + length (encoding a s) = omega (arith, leb-false (at + encodedLength a (length s)) (length out) (sym e), length-encoding a s) in
+      let h : length out < at + length (encoding a s) = omega (arith, long, length-encoding a s) in
       (sym (behind-full out at (encoding a s) h), sym (placed-full out at (encoding a s) h))
 
-  module _ (e : true ≡ leb (at + encodedLength a (length s)) (length out)) where
-    fitting : at + encodedLength a (length s) ≤ length out
-    fitting = leb-true (at + encodedLength a (length s)) (length out) (sym e)
-
+  module _ (fitting : at + k ≤ length out) where
     pub letters-room : at + length (letters a s) ≤ length out
-    letters-room = omega (arith, fitting, length-parts a s)
+    letters-room = omega (arith, fitting, long, length-parts a s)
 
     module _ {o n : ℕ} (here : o ≡ at + length (letters a s)) (count : n ≡ paddingCount a (length s)) where
       pub marks-room : {out₁ : List ℕ} → out₁ ≡ overwrite out at (letters a s) → o + n ≤ length out₁
-      marks-room {out₁} p = omega (arith, fitting, length-parts a s, ap length p, length-over out at (letters a s) letters-room)
+      marks-room {out₁} p = omega (arith, fitting, long, length-parts a s, ap length p, length-over out at (letters a s) letters-room)
 
       pub encode-room : {o′ : ℕ} {out₁ out₂ : List ℕ} → out₁ ≡ overwrite out at (letters a s) → o′ ≡ o + n
           → out₂ ≡ overwrite out₁ o (take n (pad ∷ pad ∷ pad ∷ pad ∷ []))
           → (o′ ≡ behind out at (encoding a s)) × (out₂ ≡ placed out at (encoding a s))
       unfolding encoding
       encode-room {o′} {out₁} {out₂} p q r =
-          let h : at + length (encoding a s) ≤ length out = omega (arith, fitting, length-encoding a s) in
+          let h : at + length (encoding a s) ≤ length out = omega (arith, fitting, long, length-encoding a s) in
           let m : take n (pad ∷ pad ∷ pad ∷ pad ∷ []) ≡ padding a (length s) =
           marks n (omega (arith, few-marks a (length s))) ∙ ap (λ (k : ℕ). replicate k pad) count in (
             omega (arith, length-parts a s, length-encoding a s, behind-room out at (encoding a s) h),

@@ -24,6 +24,10 @@ module _ (a : Alphabet) where
   length-bytes (w ∷ x ∷ y ∷ []) = refl
   length-bytes (w ∷ x ∷ y ∷ z ∷ rest) = omega (arith, length-bytes rest)
 
+-- whole groups, and the letters of the rest
+pub in-groups : (n : ℕ) → n / 3 * 4 + (n % 3 * 4 + 2) / 3 ≡ encodedLength UrlSafe n
+in-groups n = omega arith
+
 padded-length : (a : Alphabet) (n : ℕ) → (n * 4 + 2) / 3 + paddingCount a n ≡ encodedLength a n
 padded-length Standard n = go (n % 3) refl
   where

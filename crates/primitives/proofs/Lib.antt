@@ -13,6 +13,7 @@ pub mod Digest
 pub mod Each
 pub mod Field
 pub mod Filling
+pub mod Laws
 pub mod Numbers
 pub mod Over
 pub mod Padding

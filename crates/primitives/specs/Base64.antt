@@ -1,6 +1,7 @@
 -- RFC 4648: base 64 (section 4, padded) and base 64 for URLs (section 5; without padding, as RFC 7515, section 2, has it).
 -- The reader is strict: sections 3.2 (padding), 3.3 (foreign letters) and 3.5 (unused bits).
 use Prim.Native.Nat.{ℕ, _+_, _-_, _*_, _/_, _%_, _<_}
+use Prim.Native.Char.{code}
 use mathlib.Core.Bool.{Bool, true, false, cond, _&&_}
 use mathlib.Core.List.{List, [], _∷_, _++_}
 use mathlib.Core.Option.{Option, none, some}
@@ -15,26 +16,28 @@ use Rattle.primitives.specs.declared.base64.Decoded.the-variants.{Upto, 
 
 -- ---- the alphabets: 'A' to 'Z', 'a' to 'z', '0' to '9', and two more letters
 
--- '+' and '/' (section 4), '-' and '_' (section 5)
+-- section 4 and section 5
 abbrev pub letter62 : Alphabet → ℕ
-letter62 Standard = 43
-letter62 UrlSafe = 45
+letter62 Standard = code "+"
+letter62 UrlSafe = code "-"
 
 abbrev pub letter63 : Alphabet → ℕ
-letter63 Standard = 47
-letter63 UrlSafe = 95
+letter63 Standard = code "/"
+letter63 UrlSafe = code "_"
 
 -- the letter of a number below 64
 unfoldable pub letter : Alphabet → ℕ → ℕ
 letter a k =
-    cond (ltb k 26) (65 + k) (cond (ltb k 52) (71 + k) (cond (ltb k 62) (k - 4) (cond (eqb k 62) (letter62 a) (letter63 a))))
+    cond (ltb k 26) (code "A" + k)
+    (cond (ltb k 52) (code "a" + (k - 26))
+    (cond (ltb k 62) (code "0" + (k - 52)) (cond (eqb k 62) (letter62 a) (letter63 a))))
 
 -- the number of a letter, and 64 for any other byte
 unfoldable pub digit : Alphabet → ℕ → ℕ
 digit a c =
-    cond (leb 65 c && leb c 90) (c - 65)
-    (cond (leb 97 c && leb c 122) (c - 71)
-    (cond (leb 48 c && leb c 57) (c + 4) (cond (eqb c (letter62 a)) 62 (cond (eqb c (letter63 a)) 63 64))))
+    cond (leb (code "A") c && leb c (code "Z")) (c - code "A")
+    (cond (leb (code "a") c && leb c (code "z")) (26 + (c - code "a"))
+    (cond (leb (code "0") c && leb c (code "9")) (52 + (c - code "0")) (cond (eqb c (letter62 a)) 62 (cond (eqb c (letter63 a)) 63 64))))
 
 -- ---- section 4: three bytes are a group of 24 bits, and so are four numbers of 6 bits
 
@@ -61,9 +64,9 @@ letters a (x ∷ []) = take 2 (quad a (fromBytes x 0 0))
 letters a (x ∷ y ∷ []) = take 3 (quad a (fromBytes x y 0))
 letters a (x ∷ y ∷ z ∷ rest) = quad a (fromBytes x y z) ++ letters a rest
 
--- the padding, '='
+-- the padding
 abbrev pub pad : ℕ
-pad = 61
+pad = code "="
 
 -- section 4: padding makes the last letters a group of four; in UrlSafe there is none
 abbrev pub paddingCount : Alphabet → ℕ → ℕ

@@ -4,7 +4,9 @@ pub mod Base64
 pub mod Bytes
 pub mod Counter
 pub mod Field
+pub mod Laws
 pub mod Number
 pub mod Place
 pub mod Questions
 pub mod Sha256
+pub mod Text

@@ -2,10 +2,10 @@
 ghost use mathlib.Core.Path.{_≡_};
 ghost use Prim.Native.Nat.{_+_, _<_, _≤_};
 ghost use mathlib.Core.List.{[], _∷_, _++_};
-ghost use lib.Dec.{leb};
 ghost use lib.ListN.{length, take};
 ghost use Rattle.primitives.specs.Place.{overwrite, placed, behind};
 ghost use Rattle.primitives.specs.Base64.{LetterTable, DigitTable, quad, fromBytes, fromDigits, digit, triple, letters, paddingCount, encoding, encodedLength, bytes, known, ended, unmarked, letterCount, whole, accepted, decodeAnswer, decodeBuffer};
+use crate::buffer::has_room;
 
 // Standard: RFC 4648, section 4, padded with '='. UrlSafe: section 5, without padding.
 pub enum Alphabet {
@@ -21,11 +21,19 @@ pub enum Decoded {
 }
 
 // The letters of the numbers 0 to 63.
-const STANDARD_LETTERS: [u8; 64] =
-    *b"ABCDEFGHIJKLMNOPQRSTUVWXYZabcdefghijklmnopqrstuvwxyz0123456789+/";
+const STANDARD_LETTERS: [u8; 64] = *b"\
+    ABCDEFGHIJKLMNOP\
+    QRSTUVWXYZabcdef\
+    ghijklmnopqrstuv\
+    wxyz0123456789+/\
+";
 
-const URL_SAFE_LETTERS: [u8; 64] =
-    *b"ABCDEFGHIJKLMNOPQRSTUVWXYZabcdefghijklmnopqrstuvwxyz0123456789-_";
+const URL_SAFE_LETTERS: [u8; 64] = *b"\
+    ABCDEFGHIJKLMNOP\
+    QRSTUVWXYZabcdef\
+    ghijklmnopqrstuv\
+    wxyz0123456789-_\
+";
 
 // The number of each letter, and 64 for any other byte.
 const STANDARD_DIGITS: [u8; 256] = *b"\
@@ -66,7 +74,8 @@ const URL_SAFE_DIGITS: [u8; 256] = *b"\
     \x40\x40\x40\x40\x40\x40\x40\x40\x40\x40\x40\x40\x40\x40\x40\x40\
 ";
 
-// The table of an alphabet is made once a call and lent with the alphabet, which the contracts name and the code does not ask again.
+// The table of an alphabet is made once a call and lent from there on: an indexed constant is built anew on the stack at each evaluation.
+// The alphabet goes with its table; the contracts name it, and the code does not ask it again.
 fn letter_table(alphabet: Alphabet) -> [u8; 64]
     ensures { λ r. ⌜ LetterTable alphabet r ⌝ }
 {
@@ -117,7 +126,8 @@ fn quad_of(alphabet: Alphabet, table: &[u8; 64], x: u8, y: u8, z: u8) -> [u8; 4]
 // Writes the letters of `s`, without padding; the place behind them.
 fn put_letters(alphabet: Alphabet, table: &[u8; 64], s: &[u8], out: &mut [u8], at: usize) -> usize
     requires { ⌜ LetterTable alphabet (now table) × (at + length (letters alphabet (now s)) ≤ length (now out)) ⌝ }
-    ensures { λ r. ⌜ (r ≡ at + length (letters alphabet (now (s .entry)))) × (now (out .exit) ≡ overwrite (now (out .entry)) at (letters alphabet (now (s .entry)))) ⌝ }
+    ensures { λ r. let text : _ = letters alphabet (now (s .entry)) in
+        ⌜ (r ≡ at + length text) × (now (out .exit) ≡ overwrite (now (out .entry)) at text) ⌝ }
 {
     let mut i: usize = 0;
     let mut o = at;
@@ -147,36 +157,23 @@ fn padding_count(alphabet: Alphabet, n: usize) -> usize
     }
 }
 
-// The length of the text of fewer than three bytes.
-fn rest_length(alphabet: Alphabet, n: usize) -> usize
-    requires { ⌜ n < 3 ⌝ }
-    ensures { λ r. ⌜ r ≡ encodedLength alphabet n ⌝ }
+// The length of the text of `s`. No product is too large, since a slice has fewer than 2^63 bytes; four times the length would be.
+pub fn base64_length(alphabet: Alphabet, s: &[u8]) -> usize
+    ensures { λ r. ⌜ r ≡ encodedLength alphabet (length (now (s .entry))) ⌝ }
 {
+    let n = s.len();
     match alphabet {
         Alphabet::Standard => (n + 2) / 3 * 4,
-        Alphabet::UrlSafe => (n * 4 + 2) / 3,
+        Alphabet::UrlSafe => n / 3 * 4 + (n % 3 * 4 + 2) / 3,
     }
-}
-
-// The text of n bytes has room in a buffer of len bytes, from the place on. Whole groups are compared first, so that no product is too large.
-fn fits(alphabet: Alphabet, n: usize, len: usize, at: usize) -> bool
-    ensures { λ r. ⌜ r ≡ leb (at + encodedLength alphabet n) len ⌝ }
-{
-    let rest = rest_length(alphabet, n % 3);
-    if len < at {
-        return false;
-    }
-    if (len - at) / 4 < n / 3 {
-        return false;
-    }
-    rest <= len - at - n / 3 * 4
 }
 
 // Writes the text of `s` at a place, or nothing where there is no room for all of it; the place behind what was written.
 pub fn base64_encode(alphabet: Alphabet, s: &[u8], out: &mut [u8], at: usize) -> usize
-    ensures { λ r. ⌜ (r ≡ behind (now (out .entry)) at (encoding alphabet (now (s .entry)))) × (now (out .exit) ≡ placed (now (out .entry)) at (encoding alphabet (now (s .entry)))) ⌝ }
+    ensures { λ r. let text : _ = encoding alphabet (now (s .entry)) in
+        ⌜ (r ≡ behind (now (out .entry)) at text) × (now (out .exit) ≡ placed (now (out .entry)) at text) ⌝ }
 {
-    if !fits(alphabet, s.len(), out.len(), at) {
+    if !has_room(out.len(), at, base64_length(alphabet, s)) {
         return at;
     }
     let table = letter_table(alphabet);
@@ -214,7 +211,8 @@ fn bytes_of(g: u32) -> [u8; 4]
 // Writes the bytes of a text of letters; the place behind them. An 'A', which is 0, stands for a letter that is missing at the end.
 fn put_bytes(alphabet: Alphabet, table: &[u8; 256], s: &[u8], out: &mut [u8], at: usize) -> usize
     requires { ⌜ DigitTable alphabet (now table) × (at + length (bytes alphabet (now s)) ≤ length (now out)) ⌝ }
-    ensures { λ r. ⌜ (r ≡ at + length (bytes alphabet (now (s .entry)))) × (now (out .exit) ≡ overwrite (now (out .entry)) at (bytes alphabet (now (s .entry)))) ⌝ }
+    ensures { λ r. let read : _ = bytes alphabet (now (s .entry)) in
+        ⌜ (r ≡ at + length read) × (now (out .exit) ≡ overwrite (now (out .entry)) at read) ⌝ }
 {
     let mut i: usize = 0;
     let mut o = at;
@@ -316,9 +314,11 @@ fn is_text(alphabet: Alphabet, table: &[u8; 256], s: &[u8], n: usize) -> bool
     all_known(alphabet, table, letters)
 }
 
-// Strict reader: writes the bytes that the text stands for at a place. Refused (wrong padding, foreign letter, unused bits not zero) or no room: the buffer stays as it was.
+// Strict reader: writes the bytes that the text stands for at a place.
+// Refused (wrong padding, foreign letter, unused bits not zero) or no room: the buffer stays as it was.
 pub fn base64_decode(alphabet: Alphabet, s: &[u8], out: &mut [u8], at: usize) -> Decoded
-    ensures { λ r. ⌜ (r ≡ decodeAnswer alphabet (now (s .entry)) (now (out .entry)) at) × (now (out .exit) ≡ decodeBuffer alphabet (now (s .entry)) (now (out .entry)) at) ⌝ }
+    ensures { λ r. let text : _ = now (s .entry) in
+        ⌜ (r ≡ decodeAnswer alphabet text (now (out .entry)) at) × (now (out .exit) ≡ decodeBuffer alphabet text (now (out .entry)) at) ⌝ }
 {
     let table = digit_table(alphabet);
     let n = count_letters(alphabet, s);

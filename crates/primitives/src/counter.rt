@@ -64,7 +64,8 @@ pub fn counter_fits(n: usize, z: i64) -> bool
     m < half_of(n)
 }
 
-// The n bytes of a number, big-endian two's complement, and zeros behind them up to eight; eight zeros where it does not fit or n is no width.
+// The n bytes of a number, big-endian two's complement, and zeros after them up to eight.
+// Eight zeros come out for a number that does not fit into n bytes, and for an n that is no width (below 5 or above 8); `counter_fits` asks for both.
 pub fn counter_bytes(n: usize, z: i64) -> [u8; 8]
     ensures { λ r. ⌜ r ≡ counterBytes n z ⌝ }
 {
@@ -100,7 +101,7 @@ fn first_value(n: usize, s: &[u8]) -> i64
     }
 }
 
-// What the first n bytes stand for; 0 where n is no width.
+// What the first n bytes stand for. 0 comes out for an n that is no width; any n bytes of a width stand for a number that fits.
 pub fn counter_value(n: usize, b: [u8; 8]) -> i64
     ensures { λ r. ⌜ r ≡ counterValue n b ⌝ }
 {
@@ -110,7 +111,9 @@ pub fn counter_value(n: usize, b: [u8; 8]) -> i64
     first_value(n, &b)
 }
 
-// The first n bytes combined by exclusive or with those of the key stream, the bytes behind them as they are; all eight where n is above 8.
+// The first n bytes combined by exclusive or with those of the key stream, the bytes after them as they are.
+// n need not be a width: no byte is combined where n is 0, all eight are where n is above 8.
+// Of the eight zeros that stand for a number that does not fit, the first n bytes of the key stream itself come out.
 pub fn xor_first(n: usize, b: [u8; 8], stream: [u8; 16]) -> [u8; 8]
     ensures { λ r. ⌜ r ≡ xorFirst n b stream ⌝ }
 {

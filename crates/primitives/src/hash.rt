@@ -345,7 +345,7 @@ fn digest(s: HashValue) -> [u8; 32]
     d
 }
 
-// The round constants, made once and lent to the rounds.
+// The round constants, made once for a call and lent to the rounds: an indexed constant is built anew on the stack at each evaluation.
 fn constants() -> [u32; 64]
     ensures { λ r. ⌜ r ≡ S.K ⌝ }
 {

@@ -14,6 +14,7 @@ pub use base64::Alphabet;
 pub use base64::Decoded;
 pub use base64::base64_decode;
 pub use base64::base64_encode;
+pub use base64::base64_length;
 pub use buffer::Number;
 pub use buffer::has_room;
 pub use buffer::number_at;

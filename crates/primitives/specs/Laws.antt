@@ -1,0 +1,104 @@
+-- What holds of the primitives, and what the crates above them build on. Proved in proofs/Laws.antt.
+use Prim.Native.Nat.{ℕ, _+_, _≤_, _<_, _^_}
+use mathlib.Core.Path.{_≡_}
+use mathlib.Core.Bool.{true}
+use mathlib.Core.List.{List}
+use mathlib.Core.Option.{some}
+use lib.Bits.{bitXor}
+use lib.IntN.{ℤ}
+use lib.ListN.{length, getD, take, drop}
+use Rattle.primitives.specs.Bytes.{AllBytes}
+use Rattle.primitives.specs.Place.{room, placed}
+use Rattle.primitives.specs.Number.{bytesOf, valueOf}
+use Rattle.primitives.specs.Counter.{widthGood, fitsIn, counterFits, twos, ofTwos, counterBytes, counterValue, xorFirst}
+use Rattle.primitives.specs.Base64.{encoding, encodedLength, decoding}
+use Rattle.primitives.specs.Field.{xtime, times, inverse}
+use Rattle.primitives.specs.Aes.{affine, SBox}
+use Rattle.primitives.specs.declared.base64.Alphabet.{Alphabet}
+
+-- ---- BASE64, over both alphabets
+
+-- decoding what was encoded gives it back
+abbrev pub DecodingUndoesEncoding : Type 0
+DecodingUndoesEncoding = (a : Alphabet) (xs : List ℕ) → AllBytes xs → decoding a (encoding a xs) ≡ some xs
+
+-- a text stands for xs exactly when xs are bytes and the text is their encoding; so a text that no bytes encode is refused
+abbrev pub DecodingIsExact : Type 0
+DecodingIsExact =
+    (a : Alphabet) (text xs : List ℕ) → AllBytes text
+    → (decoding a text ≡ some xs → AllBytes xs × (text ≡ encoding a xs)) × (AllBytes xs × (text ≡ encoding a xs) → decoding a text ≡ some xs)
+
+-- different bytes have different texts
+abbrev pub OneEncoding : Type 0
+OneEncoding = (a : Alphabet) (xs ys : List ℕ) → AllBytes xs → AllBytes ys → encoding a xs ≡ encoding a ys → xs ≡ ys
+
+-- the length of a text, from the number of bytes alone
+abbrev pub EncodedLengthIs : Type 0
+EncodedLengthIs = (a : Alphabet) (xs : List ℕ) → length (encoding a xs) ≡ encodedLength a (length xs)
+
+-- ---- numbers as bytes, for every count of bytes
+
+-- a number that fits into n bytes is read back from them
+abbrev pub NumberIsReadBack : Type 0
+NumberIsReadBack = (n v : ℕ) → v < 256 ^ n → valueOf (bytesOf n v) ≡ v
+
+-- bytes are the bytes of their number
+abbrev pub NumberBytesAreKept : Type 0
+NumberBytesAreKept = (bs : List ℕ) → AllBytes bs → bytesOf (length bs) (valueOf bs) ≡ bs
+
+-- ---- two's complement, for every count of bytes, and the counter's bytes, for every width
+
+-- a number in the range of n bytes is what its two's complement stands for
+abbrev pub ComplementIsReadBack : Type 0
+ComplementIsReadBack = (n : ℕ) (z : ℤ) → 0 < n → fitsIn n z ≡ true → ofTwos n (twos n z) ≡ z
+
+-- what n bytes stand for is in their range, and they are its two's complement
+abbrev pub ComplementIsKept : Type 0
+ComplementIsKept = (n v : ℕ) → 0 < n → v < 256 ^ n → (fitsIn n (ofTwos n v) ≡ true) × (twos n (ofTwos n v) ≡ v)
+
+-- a counter that fits is read back from its bytes
+abbrev pub CounterIsReadBack : Type 0
+CounterIsReadBack = (n : ℕ) (z : ℤ) → counterFits n z ≡ true → counterValue n (counterBytes n z) ≡ z
+
+-- what the first n of eight bytes stand for fits, and they are its bytes
+abbrev pub CounterBytesAreKept : Type 0
+CounterBytesAreKept =
+    (n : ℕ) (b : List ℕ) → widthGood n ≡ true → AllBytes b → length b ≡ 8
+    → (counterFits n (counterValue n b) ≡ true) × (take n (counterBytes n (counterValue n b)) ≡ take n b)
+
+-- the exclusive or with one key stream, made twice, gives the bytes back
+abbrev pub ExclusiveOrTwice : Type 0
+ExclusiveOrTwice = (n : ℕ) (b k : List ℕ) → length b ≤ length k → xorFirst n (xorFirst n b k) k ≡ b
+
+-- ---- the field of AES
+
+-- every byte but 0 times its inverse is 1
+abbrev pub InverseIsInverse : Type 0
+InverseIsInverse = (k : ℕ) → 0 < k → k < 256 → times k (inverse k) ≡ 1
+
+-- doubling, and doubling with the byte itself added, are the products by 2 and by 3
+abbrev pub DoublingIsTimesTwo : Type 0
+DoublingIsTimesTwo = (k : ℕ) → k < 256 → times k 2 ≡ xtime k
+
+abbrev pub TriplingIsTimesThree : Type 0
+TriplingIsTimesThree = (k : ℕ) → k < 256 → times k 3 ≡ bitXor (xtime k) k
+
+-- a table of the substitution has at every byte the affine map of its inverse
+abbrev pub SubstitutionFollowsRule : Type 0
+SubstitutionFollowsRule = (table : List ℕ) → SBox table → (k : ℕ) → k < 256 → getD table k 0 ≡ affine (inverse k)
+
+-- ---- writing at a place
+
+-- each byte before the place, and each one after what was written, is as it was
+abbrev pub WritingTouchesNoOther : Type 0
+WritingTouchesNoOther =
+    (xs : List ℕ) (at : ℕ) (ys : List ℕ) (i : ℕ)
+    → (i < at → getD (placed xs at ys) i 0 ≡ getD xs i 0) × (at + length ys ≤ i → getD (placed xs at ys) i 0 ≡ getD xs i 0)
+
+-- the buffer's length is as it was
+abbrev pub WritingKeepsLength : Type 0
+WritingKeepsLength = (xs : List ℕ) (at : ℕ) (ys : List ℕ) → length (placed xs at ys) ≡ length xs
+
+-- what was written stands at its place
+abbrev pub WrittenIsThere : Type 0
+WrittenIsThere = (xs : List ℕ) (at : ℕ) (ys : List ℕ) → room xs at ys ≡ true → take (length ys) (drop at (placed xs at ys)) ≡ ys
