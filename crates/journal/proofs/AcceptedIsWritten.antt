@@ -23,7 +23,7 @@ use Rattle.receipt.specs.declared.details.After.{After}
 use Rattle.receipt.specs.declared.settings.Settings.{Settings}
 use Rattle.receipt.specs.declared.entry.Signature.{Signature}
 use Rattle.receipt.specs.declared.entry.Entry.{Entry}
-use Rattle.journal.specs.Head.{head, headLength, entryText, headSettings}
+use Rattle.journal.specs.Head.{head, headLength, entryText}
 use Rattle.journal.specs.Step.{fresh, newCounter, fieldsOf}
 use Rattle.primitives.specs.Questions.{ask}
 use Rattle.journal.specs.Opening.{openNumber}
@@ -31,7 +31,7 @@ use Rattle.journal.specs.Issuing.{signatureSized, givenSignature, entryO
 use Rattle.journal.specs.Checking.{accepted, takeOver}
 use Rattle.journal.specs.Valid.{Valid, texts}
 use Rattle.journal.specs.Calls.{TypedCall, TypedCalls, none, more, Register, opening, numberOf, call, calls, numbersOf, callOf, callsOf}
-use Rattle.journal.specs.Demands.{Again, Back}
+use Rattle.journal.specs.Demands.{Again, AcceptedIsWritten}
 use Rattle.journal.specs.declared.state.State.{State}
 use Rattle.journal.specs.declared.state.TakenOver.{TakenOver}
 use Rattle.receipt.proofs.Entries.{Admitted, admitted, settings-all, standard-is, counter-behind, counter-none, failed-bytes, encrypt-back}
@@ -41,7 +41,6 @@ use Rattle.journal.proofs.Check.{RightAt, textIn, step, AllRight, run, 
 use Rattle.journal.proofs.Accepting.{valid-right, valid-taken}
 use Rattle.journal.proofs.CallLists.{Bounds, Sound, Detailed, issue-yes}
 use Rattle.journal.proofs.Registers.{run-bounds, counter-sum, entryIn, Holds, holds-behind, call-state, accepted-call, accepted-length, opening-holds, opening-length}
-use Rattle.journal.proofs.WrittenIsAccepted.{valid-settings}
 
 -- ---- the signature of an entry, as a slice
 
@@ -269,18 +268,17 @@ module _ {j key : List ℕ} {n : ℕ} (kb : AllBytes key) (v : Valid j key n) (b
   taken-state : takeOver j key n .state ≡ run (fresh (v .settings) n key) (v .entries)
   taken-state = ap (λ (t : TakenOver). t .state) (valid-taken v) ∙ accepted-state (run (fresh (v .settings) n key) (v .entries))
 
-  pub written-again : Again j key n (v .entries) buf
+  pub written-again : Again j key n v buf
   unfolding start
   written-again =
-      let p : v .settings ≡ headSettings j = sym (valid-settings v) in
       record {
-        opened = subst (λ (x : Settings). openNumber x n (length buf) ≡ 0) p open-again;
+        opened = open-again;
         typed = calls-typed (v .entries) (fresh (v .settings) n key) (valid-right v);
-        none = subst (λ (x : Settings). numbersOf (opening x key n buf) (callsOf (v .entries)) ≡ replicate (length (v .entries)) 0) p (all-again .numbers);
-        journal = subst (λ (x : Settings). calls (opening x key n buf) (callsOf (v .entries)) .buf ≡ j) p end-journal;
-        state = subst (λ (x : Settings). calls (opening x key n buf) (callsOf (v .entries)) .state ≡ takeOver j key n .state) p (all-again .holds .state ∙ sym taken-state);
+        none = all-again .numbers;
+        journal = end-journal;
+        state = all-again .holds .state ∙ sym taken-state;
         counter = ap (λ (x : State). x .counter) taken-state ∙ counter-sum (v .settings) n key (v .entries) (valid-right v);
       }
 
-pub back : Back
-back j key n kb v buf size = written-again kb v buf size
+pub accepted-is-written : AcceptedIsWritten
+accepted-is-written j key n kb v buf size = written-again kb v buf size

@@ -13,6 +13,7 @@ pub mod IssueCalls
 pub mod OpenCalls
 pub mod Places
 pub mod PreparedTexts
+pub mod ReadBySteps
 pub mod Readings
 pub mod Refusals
 pub mod Registers

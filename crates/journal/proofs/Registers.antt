@@ -83,7 +83,7 @@ module _ (s : Settings) (n : ℕ) (key : List ℕ) where
       half-some : (k : ℕ) → 0 < k → 0 < half k
       half-some k p = omega (arith, half-twice k p, power k)
 
-  fresh-bounds : widthGood n ≡ true → Bounds (fresh s n key)
+  pub fresh-bounds : widthGood n ≡ true → Bounds (fresh s n key)
   unfolding fresh
   fresh-bounds w = record { issued = omega arith; last = omega arith; counter = zero-fits w }
 

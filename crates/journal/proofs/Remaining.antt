@@ -103,11 +103,11 @@ answer-no : (m : ℕ) (st : State) → (m ≡ 0 → ⊥) → answerOf (record { 
 unfolding answerOf
 answer-no m st h = ifZero-no m _ _ h
 
-full-yes : (st : State) (j : List ℕ) → countAt j (countPlace (st .settings)) 4 ≡ st .issued + 0 → full st j ≡ true
+pub full-yes : (st : State) (j : List ℕ) → countAt j (countPlace (st .settings)) 4 ≡ st .issued + 0 → full st j ≡ true
 unfolding full
 full-yes st j e = le-leb (countAt j (countPlace (st .settings)) 4) (st .issued) (omega (arith, e))
 
-full-no : (st : State) (j : List ℕ) (m : ℕ) → countAt j (countPlace (st .settings)) 4 ≡ st .issued + suc m → full st j ≡ false
+pub full-no : (st : State) (j : List ℕ) (m : ℕ) → countAt j (countPlace (st .settings)) 4 ≡ st .issued + suc m → full st j ≡ false
 unfolding full
 full-no st j m e = lt-leb (countAt j (countPlace (st .settings)) 4) (st .issued) (omega (arith, e))
 

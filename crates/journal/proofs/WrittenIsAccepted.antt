@@ -18,7 +18,7 @@ use Rattle.journal.specs.Checking.{accepted, takeOver}
 use Rattle.journal.specs.Receipts.{receiptsIn, sum}
 use Rattle.journal.specs.Valid.{Valid, texts}
 use Rattle.journal.specs.Calls.{Register, journalOf, opening, calls}
-use Rattle.journal.specs.Demands.{AcceptedIsValid, OneReading, Forth}
+use Rattle.journal.specs.Demands.{AcceptedIsValid, OneReading, WrittenIsAccepted}
 use Rattle.journal.specs.declared.state.State.{State}
 use Rattle.receipt.proofs.ExactEntry.{back, compact-short}
 use Rattle.journal.proofs.Places.{text-at}
@@ -85,9 +85,11 @@ one-reading j key n v w =
     let p : v .settings ≡ w .settings = sym (valid-settings v) ∙ valid-settings w in
     let l : length (v .entries) ≡ length (w .entries) = sym (valid-count v) ∙ valid-count w in
     let t : texts (v .settings) n (v .entries) ≡ texts (v .settings) n (w .entries) =
-    sym (valid-texts v) ∙ (ap (λ (s : Settings). drop (headLength s) j) p ∙ (valid-texts w ∙ ap (λ (s : Settings). texts s n (w .entries)) (sym p))) in
-    same-texts (v .settings) n (v .typed) (v .entries) (w .entries) (fresh-spelled (v .settings) n key (v .entries) (valid-right v))
-    (subst (λ (s : Settings). AllSpelled s n (w .entries)) (sym p) (fresh-spelled (w .settings) n key (w .entries) (valid-right w))) l t
+    sym (valid-texts v) ∙ (ap (λ (s : Settings). drop (headLength s) j) p ∙ (valid-texts w ∙ ap (λ (s : Settings). texts s n (w .entries)) (sym p))) in (
+      p,
+      same-texts (v .settings) n (v .typed) (v .entries) (w .entries) (fresh-spelled (v .settings) n key (v .entries) (valid-right v))
+          (subst (λ (s : Settings). AllSpelled s n (w .entries)) (sym p) (fresh-spelled (w .settings) n key (w .entries) (valid-right w))) l t,
+    )
 
 -- ---- forth
 
@@ -113,9 +115,9 @@ holds-taken s key n g es ts good width h =
     ap (λ (j : List ℕ). takeOver j key n) (h .bytes)
     ∙ (takes s key n es ts good width (few-entries s n key es width (h .right)) (h .right) ∙ ap accepted (sym (h .state)))
 
-pub forth : Forth
+pub written-is-accepted : WrittenIsAccepted
 unfolding holds-valid
-forth s key n buf ts kb z cs tcs =
+written-is-accepted s key n buf ts kb z cs tcs =
     let o = open-zero s n (length buf) z in
     let good = o .0 in
     let width = o .1 in
@@ -126,6 +128,6 @@ forth s key n buf ts kb z cs tcs =
     record {
       taken = holds-taken s key n (calls g cs) es ts good width h;
       valid = v;
-      receipts = λ w. ap receiptsIn (one-reading (journalOf (calls g cs)) key n w v) ∙ receipts-same cs g;
+      receipts = λ w. ap receiptsIn (one-reading (journalOf (calls g cs)) key n w v .1) ∙ receipts-same cs g;
       counter = ap (λ (x : State). x .counter) (h .state) ∙ (counter-sum s n key es (h .right) ∙ ap sum (receipts-same cs g));
     }

@@ -1,7 +1,7 @@
 -- Take over: "(journal, key, N) returns the state, or a number, the index of the entry from 0 and the unopened state".
 use Prim.Native.Nat.{ℕ, zero, suc, _+_}
 use mathlib.Core.Bool.{Bool, cond, not, _&&_, _||_}
-use mathlib.Core.List.{List}
+use mathlib.Core.List.{List, [], _∷_}
 use lib.Dec.{leb}
 use lib.IntN.{ℤ}
 use lib.Signed.{leZ}
@@ -14,6 +14,7 @@ use Rattle.receipt.specs.Details.{standard}
 use Rattle.receipt.specs.Chain.{decryptedCounter}
 use Rattle.receipt.specs.Compact.{noEntry, readEntry}
 use Rattle.receipt.specs.declared.payload.PayloadFields.{PayloadFields}
+use Rattle.receipt.specs.declared.entry.Entry.{Entry}
 use Rattle.receipt.specs.declared.entry.Found.{Found}
 use Rattle.journal.specs.State.{unopened}
 use Rattle.journal.specs.Head.{countPlace, headSettings, headGood, entryText, there, textAt}
@@ -124,3 +125,10 @@ entryChecked schedule st text = cond (entryReady st text) (textChecked schedule 
 
 unfoldable pub stepChecked : List (List ℕ) → State → List ℕ → Checked
 stepChecked schedule st j = cond (sound st (length j)) (oneStep schedule st j) (stopped 6 st)
+
+-- the entries that these steps read, up to the first that reads none
+unfoldable pub readBySteps : List (List ℕ) → ℕ → State → List ℕ → List Entry
+readBySteps schedule zero st j = []
+readBySteps schedule (suc n) st j =
+    cond (stepChecked schedule st j .found .ok)
+    (stepChecked schedule st j .found .entry ∷ readBySteps schedule n (stepChecked schedule st j .state) j) []

@@ -11,27 +11,30 @@ use Rattle.receipt.specs.Form.{secondDot}
 use Rattle.receipt.specs.declared.settings.Settings.{Settings}
 use Rattle.receipt.specs.declared.details.Details.{Details}
 use Rattle.receipt.specs.declared.entry.Entry.{Entry}
-use Rattle.journal.specs.Head.{headLength, countPlace, entryText, headSettings}
+use Rattle.journal.specs.Head.{headLength, countPlace, entryText, there, textAt}
 use Rattle.journal.specs.State.{unopened}
 use Rattle.receipt.specs.Settings.{TypedSettings}
 use Rattle.journal.specs.Opening.{openNumber, opened, openBuffer}
 use Rattle.journal.specs.Issuing.{textOf, issueNumber, issued, issueBuffer}
 use Rattle.journal.specs.Preparing.{preparedText, prepareNumber, prepareAnswer, prepareBuffer}
-use Rattle.journal.specs.Checking.{refused, accepted, takeOver}
+use Rattle.journal.specs.Checking.{refused, accepted, takeOver, full, stepChecked, entryChecked, readBySteps}
 use Rattle.journal.specs.Receipts.{receiptsIn, sum}
 use Rattle.journal.specs.Valid.{Valid, texts}
 use Rattle.journal.specs.FirstNo.{NoAt}
 use Rattle.journal.specs.Calls.{Call, TypedCalls, Register, journalOf, opening, calls, numbersOf, receiptsOf, callsOf}
 use Rattle.journal.specs.declared.state.State.{State}
+use Rattle.journal.specs.Step.{fresh, sound}
+use Rattle.primitives.specs.Aes.{keySchedule}
+use mathlib.Core.Bool.{true, false}
 
 -- "Accepted means that Take over returns no number, which is so exactly for a valid journal"
 abbrev pub AcceptedIsValid : Type 0
 AcceptedIsValid =
     (j key : List ℕ) (n : ℕ) → AllBytes j → (takeOver j key n .number ≡ 0 → Valid j key n) × (Valid j key n → takeOver j key n .number ≡ 0)
 
--- a journal is valid with one list of entries
+-- a journal is valid with one head and one list of entries
 abbrev pub OneReading : Type 0
-OneReading = (j key : List ℕ) (n : ℕ) (v w : Valid j key n) → v .entries ≡ w .entries
+OneReading = (j key : List ℕ) (n : ℕ) (v w : Valid j key n) → (v .settings ≡ w .settings) × (v .entries ≡ w .entries)
 
 -- ---- demand 3: lists of calls
 
@@ -46,34 +49,35 @@ pub record Written (key : List ℕ) (n : ℕ) (g : Register) (cs : List Call) : 
   pub counter : calls g cs .state .counter ≡ sum (receiptsOf g cs)
 
 -- from an Open that was not refused, after every list of calls
-abbrev pub Forth : Type 0
-Forth =
+abbrev pub WrittenIsAccepted : Type 0
+WrittenIsAccepted =
     (s : Settings) (key : List ℕ) (n : ℕ) (buf : List ℕ) → TypedSettings s → AllBytes key → openNumber s n (length buf) ≡ 0
     → (cs : List Call) → TypedCalls cs → Written key n (opening s key n buf) cs
 
--- what holds where the entries es of the journal j are issued anew
-pub record Again (j key : List ℕ) (n : ℕ) (es : List Entry) (buf : List ℕ) : Type 0 where
+-- what holds where a valid journal is written again, into a buffer
+pub record Again (j key : List ℕ) (n : ℕ) (v : Valid j key n) (buf : List ℕ) : Type 0 where
   -- "Open with the CSP, ID and serial of its head, the key and N under which it was accepted": not refused
-  pub opened : openNumber (headSettings j) n (length buf) ≡ 0
+  pub opened : openNumber (v .settings) n (length buf) ≡ 0
   -- one call for each entry, such as the code's types allow: none is refused
-  pub typed : TypedCalls (callsOf es)
-  pub none : numbersOf (opening (headSettings j) key n buf) (callsOf es) ≡ replicate (length es) 0
+  pub typed : TypedCalls (callsOf (v .entries))
+  pub none : numbersOf (opening (v .settings) key n buf) (callsOf (v .entries)) ≡ replicate (length (v .entries)) 0
   -- the buffer is the journal, byte by byte
-  pub journal : calls (opening (headSettings j) key n buf) (callsOf es) .buf ≡ j
+  pub journal : calls (opening (v .settings) key n buf) (callsOf (v .entries)) .buf ≡ j
   -- under the state that taking over gave
-  pub state : calls (opening (headSettings j) key n buf) (callsOf es) .state ≡ takeOver j key n .state
-  pub counter : takeOver j key n .state .counter ≡ sum (receiptsIn es)
+  pub state : calls (opening (v .settings) key n buf) (callsOf (v .entries)) .state ≡ takeOver j key n .state
+  pub counter : takeOver j key n .state .counter ≡ sum (receiptsIn (v .entries))
 
 -- for every accepted journal, "and any buffer of its length"
-abbrev pub Back : Type 0
-Back =
-    (j key : List ℕ) (n : ℕ) → AllBytes key → (v : Valid j key n) (buf : List ℕ) → length buf ≡ length j → Again j key n (v .entries) buf
+abbrev pub AcceptedIsWritten : Type 0
+AcceptedIsWritten =
+    (j key : List ℕ) (n : ℕ) → AllBytes key → (v : Valid j key n) (buf : List ℕ) → length buf ≡ length j → Again j key n v buf
 
 -- demand 3 as one theorem: what the writer writes is accepted with its receipts and their sum, and what is accepted the writer writes
 pub record WritingAndCheckingAgree : Type 0 where
   pub accepted : AcceptedIsValid
-  pub forth : Forth
-  pub back : Back
+  pub reading : OneReading
+  pub forth : WrittenIsAccepted
+  pub back : AcceptedIsWritten
 
 -- ---- journals
 
@@ -134,3 +138,17 @@ FirstNo =
     (j key : List ℕ) (n : ℕ) → AllBytes j
     → ((takeOver j key n .number ≡ 0 → ⊥) → NoAt j key n (takeOver j key n .number) (takeOver j key n .index))
     × ((number index : ℕ) → NoAt j key n number index → takeOver j key n ≡ refused number index)
+
+-- ---- steps for other readers
+
+-- from the fresh state on, the steps over a valid journal read its entries, in order, and then nothing
+abbrev pub StepsReadEntries : Type 0
+StepsReadEntries =
+    (j key : List ℕ) (n : ℕ) (v : Valid j key n) (m : ℕ) → length (v .entries) ≤ m
+    → readBySteps (keySchedule key) m (fresh (v .settings) n key) j ≡ v .entries
+
+-- where an entry is to be read and all there, the step in the journal is that of the entry's bytes
+abbrev pub StepIsItsEntry : Type 0
+StepIsItsEntry =
+    (schedule : List (List ℕ)) (st : State) (j : List ℕ) → length j < 18446744073709551616 → sound st (length j) ≡ true → full st j ≡ false
+    → there j (st .length) ≡ true → stepChecked schedule st j ≡ entryChecked schedule st (textAt j (st .length))

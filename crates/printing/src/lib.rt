@@ -19,18 +19,12 @@ pub fn number(n: u64) {
     io::print_decimal(STDOUT_FILENO, n);
 }
 
-// The absolute value.
-fn absolute(z: i64) -> u64 {
-    let m = primitives::magnitude(z);
-    if z < 0 { m + 1 } else { m }
-}
-
 // A number of cents in decimal: "-" if negative, then the absolute value.
 pub fn cents(z: i64) {
     if z < 0 {
         text(b"-");
     }
-    number(absolute(z));
+    number(primitives::absolute(z));
 }
 
 // The first eight bytes of a text in hexadecimal; nothing where it is shorter.
