@@ -15,6 +15,7 @@ use Rattle.primitives.proofs.ByteLists.{same-true, same-length}
 use Rattle.receipt.specs.Payload.{longestPayload}
 use Rattle.receipt.specs.Form.{Parts, parts, payloadGood, signatureGood, partsGood, goodParts, header, failureText}
 use Rattle.receipt.specs.FormReading.{short, found}
+use Rattle.receipt.specs.CodeLaws.{MadeOf, Exactly}
 
 -- ---- the texts
 
@@ -69,6 +70,12 @@ module _ (p : List ℕ) where
   payload-most e =
       leb-true (length p) 195
       (both (leb (length p) 195) (same (take 4 p) (95 ∷ 82 ∷ 49 ∷ 45 ∷ [])) (both (leb 4 (length p)) (leb (length p) 195 && same (take 4 p) (95 ∷ 82 ∷ 49 ∷ 45 ∷ [])) e .1) .0)
+
+  pub payload-starts : payloadGood p ≡ true → take 4 p ≡ 95 ∷ 82 ∷ 49 ∷ 45 ∷ []
+  unfolding payloadGood
+  payload-starts e =
+      same-true (take 4 p) (95 ∷ 82 ∷ 49 ∷ 45 ∷ [])
+      (both (leb (length p) 195) (same (take 4 p) (95 ∷ 82 ∷ 49 ∷ 45 ∷ [])) (both (leb 4 (length p)) (leb (length p) 195 && same (take 4 p) (95 ∷ 82 ∷ 49 ∷ 45 ∷ [])) e .1) .1)
 
 -- ---- the signature
 
@@ -154,3 +161,17 @@ read-parts (some p) o₂ = go (leb (length p) 195) refl
     go : (t : Bool) → leb (length p) 195 ≡ t → found (payloadGood (cond t p []) && signatureGood (short 64 o₂)) (cond t p []) (short 64 o₂) ≡ goodParts (some p) o₂
     go true e = read-signed p o₂
     go false e = rw (sym no-payload) (dropped o₂ (payload-long p (leb-false (length p) 195 e)))
+
+-- ---- exact readers
+
+-- a reader that finds only the parts a text is made of, and finds them, is exact
+pub exactly : (write : Parts → List ℕ) (text : List ℕ) (o : Option Parts) → ((p : Parts) → o ≡ some p → MadeOf write text p) → ((p : Parts) → MadeOf write text p → o ≡ some p)
+    → Exactly write text o
+exactly write text o only all = record { only = only; all = all; refused = λ e p w. clash p e (all p w); nothing = none-found o refl }
+  where
+    clash : (p : Parts) → o ≡ none → o ≡ some p → ⊥
+    clash p e f = let z : _≡_ {A = ℕ} 0 1 = cc in omega arith
+
+    none-found : (q : Option Parts) → o ≡ q → ((p : Parts) → MadeOf write text p → ⊥) → o ≡ none
+    none-found none e h = e
+    none-found (some p) e h = absurd (h p (only p e))

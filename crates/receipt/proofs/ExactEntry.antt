@@ -19,7 +19,7 @@ use Rattle.receipt.specs.Payload.{payload, longestPayload, zeros}
 use Rattle.receipt.specs.PayloadReading.{readFields}
 use Rattle.receipt.specs.Form.{Parts, parts, partsGood, PartsOfBytes, signedInput, signedForm, signatureGood, payloadGood, secondDot, partsOfForm, header, failureText}
 use Rattle.receipt.specs.Compact.{signatureText, compact, signingInput, longestCompact, signatureZero, preparable, spellable, signatureOf, spells, noEntry, entryOf, entryOfParts, readEntry, TypedEntry}
-use Rattle.receipt.specs.Exact.{Exact, Back, OneSpelling, CompactIsShort, CompactIsLong, CompactIsBytes, CompactIsSigned, InputBeforeDot, FoundIsTyped}
+use Rattle.receipt.specs.Exact.{Exact, EntryIsReadBack, OneSpelling, CompactIsShort, CompactIsLong, CompactIsBytes, CompactIsSigned, InputBeforeDot, FoundIsTyped}
 use Rattle.receipt.specs.declared.settings.Settings.{Settings}
 use Rattle.receipt.specs.declared.payload.PayloadFields.{PayloadFields}
 use Rattle.receipt.specs.declared.entry.Signature.{Signature}
@@ -160,7 +160,7 @@ module _ (s : Settings) (n : ℕ) (e : Entry) where
           let w : spells s n f (payload s n f) ≡ true = spells-is s n f (payload s n f) ∙ rw (preparable-made s n f c) (same-refl (payload s n f)) in
           rw (o, r, w, signature-back (e .signature) (te .signature) (can .signature))
 
-pub back : Back
+pub back : EntryIsReadBack
 back s n e ts bs te g = back-of s n e te ts g bs
 
 pub compact-short : CompactIsShort
@@ -253,9 +253,24 @@ found-typed s n text =
     found-typed-of s n (partsOfForm text)
     (λ q e. (both (payloadGood (q .payload)) (signatureGood (q .signature)) (form-good text q e) .1, form-bytes text q e .signature))
 
+-- nothing is found in a text that is refused
+refused : (s : Settings) (n : ℕ) (text : List ℕ) → readEntry s n text .ok ≡ false → readEntry s n text ≡ noEntry
+unfolding readEntry entryOf
+refused s n text = go (partsOfForm text)
+  where
+    go : (o : Option Parts) → entryOfParts s n o .ok ≡ false → entryOfParts s n o ≡ noEntry
+    go none h = refl
+    go (some q) h = try (spells s n (readFields s n (q .payload)) (q .payload)) h
+      where
+        try : (t : Bool) → cond t (record { ok = true; entry = record { fields = readFields s n (q .payload); signature = signatureOf (q .signature) } }) noEntry .ok ≡ false
+            → cond t (record { ok = true; entry = record { fields = readFields s n (q .payload); signature = signatureOf (q .signature) } }) noEntry ≡ noEntry
+        try true k = true-is-not-false (sym k)
+        try false k = refl
+
 pub exact : Exact
 unfolding found
 exact s n text ts bs b = (
   λ h. record { entry = found s n text; typed = found-typed s n text; spellable = sound s n text b h .0; is = sound s n text b h .1 },
   λ w. ap (readEntry s n) (w .is) ∙ back s n (w .entry) ts bs (w .typed) (w .spellable),
+  refused s n text,
 )

@@ -15,10 +15,10 @@ use Rattle.primitives.specs.declared.base64.Alphabet.the-variants.{UrlSafe}
 use Rattle.primitives.proofs.ByteLists.{bytes-take, bytes-drop, same-refl, same-true}
 use Rattle.primitives.proofs.Base64Lengths.{length-encoding}
 use Rattle.primitives.proofs.Base64Laws.{no-dot, decode-encode, encode-decode, decoded-bytes}
-use Rattle.receipt.specs.Form.{nextAt, part, Parts, partsGood, PartsOfBytes, signedForm, goodParts, secondDot, partsOfForm, header}
-use Rattle.receipt.specs.CodeLaws.{FormIsRead, FormIsOne, FormIsShort}
-use Rattle.receipt.proofs.Finding.{Without, next-is, next-from, next-without}
-use Rattle.receipt.proofs.CodeTexts.{header-long, good-payload, good-signature, good-some, Inverted, good-inverted}
+use Rattle.receipt.specs.Form.{nextAt, part, Without, Parts, partsGood, PartsOfBytes, signedForm, goodParts, secondDot, partsOfForm, header}
+use Rattle.receipt.specs.CodeLaws.{FormIsExact, FormIsShort}
+use Rattle.receipt.proofs.Finding.{next-is, next-from, next-without}
+use Rattle.receipt.proofs.CodeTexts.{header-long, good-payload, good-signature, good-some, Inverted, good-inverted, exactly}
 
 -- a choice that gave parts
 pub chosen : (t : Bool) (o : Option Parts) {p : Parts} → cond t o none ≡ some p → (t ≡ true) × (o ≡ some p)
@@ -81,9 +81,9 @@ module _ (p : Parts) where
   form-dot = ap secondDot form-is ∙ dot-is
 
   -- good parts of bytes are read back from their compact form
-  form-back-of : partsGood p ≡ true → PartsOfBytes p → partsOfForm (signedForm p) ≡ some p
+  pub form-back : partsGood p ≡ true → PartsOfBytes p → partsOfForm (signedForm p) ≡ some p
   unfolding partsOfForm x y
-  form-back-of g b =
+  form-back g b =
       let t : List ℕ = front ++ (x ++ (46 ∷ y)) in
       let l : secondDot t < length t = omega (arith, dot-is, spread front x y front-long) in
       rw (form-is, lt-ltb (secondDot t) (length t) l, second front x y front-long (secondDot t) dot-is, third front x y front-long (secondDot t) dot-is, decode-encode UrlSafe (p .payload) (b .payload), decode-encode UrlSafe (p .signature) (b .signature))
@@ -146,8 +146,8 @@ module _ (t : List ℕ) where
       third-is = encode-decode UrlSafe (drop (secondDot t + 1) t) (p .signature) (bytes-drop (secondDot t + 1) b) (form-inverted .1 .signature)
 
     -- an accepted text is the compact form of its parts
-    form-only-of : AllBytes t → t ≡ signedForm p
-    form-only-of b =
+    pub form-only : AllBytes t → t ≡ signedForm p
+    form-only b =
         let k : ℕ = secondDot t in
         let h : k < length t = form-inverted .0 in
         let n : k ≡ nextAt 46 t 21 = dot-inverted h .1 in
@@ -160,11 +160,11 @@ module _ (t : List ℕ) where
 
 -- ---- the laws
 
-pub form-back : FormIsRead
-form-back = form-back-of
-
-pub form-only : FormIsOne
-form-only = form-only-of
+pub form-exact : FormIsExact
+form-exact t b =
+    exactly signedForm t (partsOfForm t)
+    (λ p e. record { good = form-good t p e; bytes = form-bytes t p e; is = form-only t p e b })
+    (λ p w. ap partsOfForm (w .is) ∙ form-back p (w .good) (w .bytes))
 
 pub form-short : FormIsShort
 form-short = form-short-of

@@ -13,6 +13,7 @@ pub mod ExactEntry
 pub mod Finding
 pub mod FormCalls
 pub mod Forms
+pub mod IdFields
 pub mod Joined
 pub mod Loose
 pub mod Marks

@@ -80,10 +80,6 @@ idPlaceOf (some p) = cond (idThere (p .payload)) (record { start = idStart (p .p
 unfoldable pub idPlace : List ℕ → Part
 idPlace code = idPlaceOf (partsOfCode code)
 
--- Fields: what stands between the second and the third "_" of the payload of a code; nothing where the code is refused
-abbrev pub idOf : Option Parts → List ℕ
-idOf none = []
-idOf (some p) = cond (idThere (p .payload)) (part (idStart (p .payload)) (idEnd (p .payload)) (p .payload)) []
-
+-- Fields: what stands at that place of the code
 unfoldable pub idField : List ℕ → List ℕ
-idField code = idOf (partsOfCode code)
+idField code = part (idPlace code .start) (idPlace code .end) code

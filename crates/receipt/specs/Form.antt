@@ -1,10 +1,11 @@
 -- The compact form of a receipt, as payload and signature: written, and read.
-use Prim.Native.Nat.{ℕ, suc, _+_, _-_}
+use Prim.Native.Nat.{ℕ, suc, _+_, _-_, _<_}
 use mathlib.Core.Bool.{Bool, cond, _&&_, _||_}
 use mathlib.Core.List.{List, [], _∷_, _++_}
 use mathlib.Core.Option.{Option, none, some}
+use mathlib.Core.Path.{_≡_}
 use lib.Dec.{ltb, leb, eqb}
-use lib.ListN.{length, take, drop}
+use lib.ListN.{length, getD, take, drop}
 use Rattle.primitives.specs.Bytes.{AllBytes, same}
 use Rattle.primitives.specs.Base64.{encoding, decoding}
 use Rattle.primitives.specs.declared.base64.Alphabet.the-variants.{UrlSafe}
@@ -34,6 +35,14 @@ nextAt b text from = from + firstAt b (drop from text)
 -- the bytes from the place a up to the place e
 abbrev pub part : ℕ → ℕ → List ℕ → List ℕ
 part a e text = take (e - a) (drop a text)
+
+-- where such a part lies in memory, for a text that lies at p: p is a block and an offset in it
+abbrev pub further : ℕ × ℕ → ℕ → ℕ × ℕ
+further p a = (p .0, p .1 + a)
+
+-- b does not occur
+pub record Without (b : ℕ) (s : List ℕ) : Type 0 where
+  pub at : (i : ℕ) → i < length s → getD s i 0 ≡ b → ⊥
 
 -- ---- payload and signature
 

@@ -17,7 +17,7 @@ ghost use Prim.Native.Nat.{_≤_};
 ghost use lib.ListN.{length, take};
 ghost use Rattle.primitives.specs.Place.{placed};
 ghost use Rattle.receipt.specs.Payload.{longestPayload};
-ghost use Rattle.receipt.specs.Form.{parts, part};
+ghost use Rattle.receipt.specs.Form.{parts, further};
 ghost use Rattle.receipt.specs.FormReading.{found};
 ghost use Rattle.receipt.specs.Code.{lastAt, codeText, partsOfCode, codeAnswer, codeBuffer, uncodeAnswer, uncodeBuffer, nowhere, idPlace, idField};
 ghost use Rattle.primitives.specs.Answers.{written};
@@ -146,7 +146,7 @@ fn nowhere() -> Part
 
 // Where the ID field stands in a code; nowhere where uncode refuses the code or there is no such field.
 pub fn id_place(code: &[u8]) -> Part
-    ensures { λ r. ⌜ (r ≡ idPlace (now (code .entry))) × (r .start ≤ r .end) × (r .end ≤ length (now (code .entry))) × (part (r .start) (r .end) (now (code .entry)) ≡ idField (now (code .entry))) ⌝ }
+    ensures { λ r. ⌜ (r ≡ idPlace (now (code .entry))) × (r .start ≤ r .end) × (r .end ≤ length (now (code .entry))) ⌝ }
 {
     let mut signature = [0u8; 64];
     let r = read_code(code, &mut signature);
@@ -167,8 +167,9 @@ pub fn id_place(code: &[u8]) -> Part
 }
 
 // The ID field of a code, as a part of it; an empty part where uncode refuses the code or there is no such field.
+// The part is known by its bytes and by where it lies: in the code's own memory, at the place of the field.
 pub fn fields<'a>(code: &'a [u8]) -> &'a [u8]
-    ensures { λ r. ⌜ (now r ≡ idField (now (code .entry))) × (now r ≡ part (idPlace (now (code .entry)) .start) (idPlace (now (code .entry)) .end) (now (code .entry))) ⌝ }
+    ensures { λ r. ⌜ (now r ≡ idField (now (code .entry))) × (r .ptr ≡ further (code .entry .ptr) (idPlace (now (code .entry)) .start)) ⌝ }
 {
     let p = id_place(code);
     let a = p.start;
