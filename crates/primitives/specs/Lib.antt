@@ -8,3 +8,4 @@ pub mod Number
 pub mod Place
 pub mod Questions
 pub mod Sha256
+pub mod Text
