@@ -16,7 +16,7 @@ use Rattle.primitives.proofs.Over.{over-nil, read-over, placed-room, placed-ful
 use Rattle.receipt.specs.Settings.{every, sized, SettingsLengths}
 use Rattle.receipt.specs.Payload.{payload, zeros, fieldsGood}
 use Rattle.receipt.specs.PayloadReading.{readFields}
-use Rattle.receipt.specs.Form.{parts, signedInput, signedForm, partsOfForm}
+use Rattle.receipt.specs.Form.{parts, signedInput, signedForm, partsOfForm, failureText}
 use Rattle.receipt.specs.FormReading.{found}
 use Rattle.receipt.specs.Compact.{signatureText, compact, signingInput, signatureZero, entryGood, preparable, spellable, prepared, spelled, signatureOf, spells, noEntry, entryOf, readEntry}
 use Rattle.receipt.specs.declared.settings.Settings.{Settings}
@@ -28,7 +28,6 @@ use Rattle.receipt.specs.declared.entry.Entry.{Entry}
 use Rattle.primitives.proofs.Rows.{both}
 use Rattle.receipt.proofs.Written.{Sizes, payload-most}
 use Rattle.receipt.proofs.PayloadBytes.{payload-long}
-use Rattle.receipt.proofs.CodeTexts.{failureLetters, failure-letters}
 use Rattle.receipt.proofs.FormCalls.{lent-front, found-none, found-some}
 
 -- ---- rows of tests
@@ -192,9 +191,9 @@ module _ (g : Signature) where
   unfolding signatureText
   text-whole e = rw e
 
-  pub text-failed : g .failed ≡ true → failureLetters ≡ signatureText g
+  pub text-failed : g .failed ≡ true → failureText ≡ signatureText g
   unfolding signatureText
-  text-failed e = rw e (sym failure-letters)
+  text-failed e = rw e
 
 module _ (p out : List ℕ) (at : ℕ) {t u : List ℕ} (e : t ≡ u) {r : ℕ} {out₁ : List ℕ} where
   pub signed-as : (r ≡ behind out at (signedForm (parts p t))) × (out₁ ≡ placed out at (signedForm (parts p t)))

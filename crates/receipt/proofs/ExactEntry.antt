@@ -17,7 +17,8 @@ use Rattle.primitives.proofs.Base64Laws.{encoding-bytes}
 use Rattle.receipt.specs.Settings.{SettingsLengths, SettingsBytes}
 use Rattle.receipt.specs.Payload.{payload, longestPayload, zeros}
 use Rattle.receipt.specs.PayloadReading.{readFields}
-use Rattle.receipt.specs.Form.{Parts, parts, partsGood, PartsOfBytes, signedInput, signedForm, signatureGood, payloadGood, secondDot, partsOfForm, header, failureText}
+use Rattle.receipt.specs.Form.{Parts, parts, partsGood, PartsOfBytes, signedInput, signedForm, signatureGood, payloadGood, secondDot, partsOfForm, header, firstElement, failureText}
+use Rattle.receipt.specs.Texts.{beginning}
 use Rattle.receipt.specs.Compact.{signatureText, compact, signingInput, longestCompact, signatureZero, preparable, spellable, signatureOf, spells, noEntry, entryOf, entryOfParts, readEntry, TypedEntry}
 use Rattle.receipt.specs.Exact.{Exact, EntryIsReadBack, OneSpelling, CompactIsShort, CompactIsLong, CompactIsBytes, CompactIsSigned, InputBeforeDot, FoundIsTyped}
 use Rattle.receipt.specs.declared.settings.Settings.{Settings}
@@ -30,25 +31,12 @@ use Rattle.receipt.proofs.Written.{payload-short}
 use Rattle.receipt.proofs.PayloadBytes.{payload-bytes, payload-begins, payload-long}
 use Rattle.receipt.proofs.PayloadBack.{payload-back, read-typed, blank-typed}
 use Rattle.receipt.proofs.CounterFields.{zeros-are}
-use Rattle.receipt.proofs.CodeTexts.{header-long, failureLetters, failure-letters, failure-long, payload-mark, signature-whole}
+use Rattle.receipt.proofs.Texts.{failure-long, failure-bytes, first-long}
+use Rattle.receipt.proofs.CodeTexts.{payload-mark, signature-whole}
 use Rattle.receipt.proofs.Forms.{form-back, form-only, form-short, form-good, form-bytes, form-dot, length-form}
 use Rattle.receipt.proofs.EntryCalls.{preparable-made, spellable-is, spellable-true, spells-is}
 
 -- ---- the signature and its text
-
--- every element of a list that is written out is a byte
-below : List ℕ → Bool
-below [] = true
-below (b ∷ bs) = ltb b 256 && below bs
-
-below-bytes : (bs : List ℕ) → below bs ≡ true → AllBytes bs
-unfolding below
-below-bytes [] e = bytes-nil
-below-bytes (b ∷ bs) e = let p = both (ltb b 256) (below bs) e in bytes-cons (ltb-true b 256 (p .0)) (below-bytes bs (p .1))
-
-failure-bytes : AllBytes failureText
-unfolding below
-failure-bytes = subst AllBytes (sym failure-letters) (below-bytes failureLetters refl)
 
 zeros-replicate : (n : ℕ) → zeros (replicate n 0) ≡ true
 unfolding zeros
@@ -115,10 +103,9 @@ signature-right text b e = go (eqb (length text) 64) refl e
 
 pub payload-good : (s : Settings) (n : ℕ) (f : PayloadFields) → length (payload s n f) ≤ longestPayload → payloadGood (payload s n f) ≡ true
 payload-good s n f h =
-    let mark : List ℕ = 95 ∷ 82 ∷ 49 ∷ 45 ∷ [] in
     sym
     (payload-mark (payload s n f) (payload-long s n f) h
-    (sym (same-refl mark) ∙ ap (λ (l : List ℕ). same l mark) (sym (payload-begins s n f))))
+    (sym (same-refl beginning) ∙ ap (λ (l : List ℕ). same l beginning) (sym (payload-begins s n f))) refl)
 
 module _ (s : Settings) (n : ℕ) (e : Entry) where
   p : Parts
@@ -181,7 +168,7 @@ compact-signed s n e = append-assoc (signedInput (payload s n (e .fields))) (46 
 
 length-front : (xs : List ℕ) → length (signedInput xs) ≡ 21 + length (encoding UrlSafe xs)
 length-front xs =
-    omega (arith, length-append (encoding UrlSafe header ++ (46 ∷ [])) (encoding UrlSafe xs), length-append (encoding UrlSafe header) (46 ∷ []), header-long)
+    omega (arith, length-append firstElement (encoding UrlSafe xs), first-long)
 
 pub input-before-dot : InputBeforeDot
 unfolding signingInput p

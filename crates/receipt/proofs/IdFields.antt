@@ -11,6 +11,7 @@ use lib.ListN.{length, getD, take, drop, length-append, length-take, length-drop
 use lib.Seq.{take-at, drop-at, drop-cons, getD-take, append-snoc}
 use Rattle.primitives.specs.Bytes.{AllBytes}
 use Rattle.primitives.proofs.Rows.{both}
+use Rattle.receipt.specs.Texts.{beginning}
 use Rattle.receipt.specs.Form.{nextAt, part, Without, Parts, payloadGood, signatureGood, partsGood}
 use Rattle.receipt.specs.Code.{lastAt, partsOfCode, idStart, idEnd, idThere, idPlaceOf, idPlace, idField, nowhere}
 use Rattle.receipt.specs.CodeLaws.{IdPart, HasId, IdFieldIsExact}
@@ -74,6 +75,7 @@ module _ (p : List ℕ) (good : payloadGood p ≡ true) (has : idThere p ≡ tru
   some-there = ltb-true (idStart p) (idEnd p) (both (ltb (idEnd p) (length p)) (ltb (idStart p) (idEnd p)) has .1)
 
   first-mark : getD p 0 0 ≡ 95
+  unfolding beginning
   first-mark = sym (getD-take 4 p 0 0 (omega arith)) ∙ ap (λ (l : List ℕ). getD l 0 0) (payload-starts p good)
 
   split : p ≡ (95 ∷ part 1 (nextAt 95 p 1) p) ++ ((95 ∷ part (idStart p) (idEnd p) p) ++ (95 ∷ drop (idEnd p + 1) p))

@@ -23,4 +23,5 @@ pub mod PaperCases
 pub mod PayloadBack
 pub mod PayloadBytes
 pub mod Signs
+pub mod Texts
 pub mod Written

@@ -8,6 +8,7 @@ use lib.ListN.{length}
 use Rattle.primitives.specs.Place.{overwrite}
 use Rattle.primitives.specs.Bytes.{AllBytes}
 use Rattle.receipt.specs.Payload.{longestPayload}
+use Rattle.receipt.specs.Texts.{separator}
 use Rattle.receipt.specs.Compact.{longestCompact}
 use Rattle.receipt.specs.Form.{Without, Parts, partsGood, PartsOfBytes, signedForm, partsOfForm}
 use Rattle.receipt.specs.Code.{codeText, partsOfCode, codeAnswer, codeBuffer, codeMade, uncodeAnswer, uncodeBuffer, formMade, idPlace, idField, nowhere}
@@ -40,9 +41,9 @@ CodeIsExact = (text : List ℕ) → AllBytes text → Exactly codeText text (par
 pub record IdPart (code x id z : List ℕ) : Type 0 where
   pub parts : Parts
   pub made : MadeOf codeText code parts
-  pub payload : parts .payload ≡ (95 ∷ x) ++ ((95 ∷ id) ++ (95 ∷ z))
-  pub first : Without 95 x
-  pub second : Without 95 id
+  pub payload : parts .payload ≡ (separator ∷ x) ++ ((separator ∷ id) ++ (separator ∷ z))
+  pub first : Without separator x
+  pub second : Without separator id
   pub some : 0 < length id
 
 -- a code that has an ID part

@@ -10,6 +10,7 @@ use Rattle.primitives.specs.declared.base64.Alphabet.the-variants.{UrlSafe}
 use Rattle.receipt.specs.Settings.{SettingsLengths, SettingsBytes}
 use Rattle.receipt.specs.Payload.{TypedFields}
 use Rattle.receipt.specs.Form.{secondDot}
+use Rattle.receipt.specs.Texts.{dot}
 use Rattle.receipt.specs.Compact.{TypedEntry, signatureText, compact, signingInput, longestCompact, spellable, noEntry, readEntry}
 use Rattle.receipt.specs.declared.settings.Settings.{Settings}
 use Rattle.receipt.specs.declared.entry.Entry.{Entry}
@@ -54,7 +55,7 @@ CompactIsBytes = (s : Settings) (n : ℕ) (e : Entry) → AllBytes (compact s n 
 abbrev pub CompactIsSigned : Type 0
 CompactIsSigned =
     (s : Settings) (n : ℕ) (e : Entry)
-    → compact s n e ≡ signingInput s n (e .fields) ++ ((46 ∷ []) ++ encoding UrlSafe (signatureText (e .signature)))
+    → compact s n e ≡ signingInput s n (e .fields) ++ ((dot ∷ []) ++ encoding UrlSafe (signatureText (e .signature)))
 
 -- so the signing input is what stands before the second "."
 abbrev pub InputBeforeDot : Type 0

@@ -1,5 +1,6 @@
 -- The settings of a register: CSP, register ID and serial, and which of them are good.
 use Prim.Native.Nat.{ℕ, _-_}
+use Prim.Native.Char.{code}
 use mathlib.Core.Bool.{Bool, true, not, _&&_, _||_}
 use mathlib.Core.List.{List, [], _∷_, _++_}
 use mathlib.Core.Path.{_≡_}
@@ -8,6 +9,7 @@ use lib.ListN.{length, getD, take, drop, replicate}
 use Rattle.primitives.specs.Bytes.{AllBytes}
 use Rattle.primitives.specs.Counter.{widthGood}
 use Rattle.primitives.specs.Questions.{ask}
+use Rattle.receipt.specs.Texts.{separator}
 use Rattle.receipt.specs.declared.settings.Name.{Name}
 use Rattle.receipt.specs.declared.settings.Settings.{Settings}
 use Rattle.receipt.specs.declared.settings.Letters.{Letters}
@@ -20,19 +22,19 @@ between low high b = leb low b && leb b high
 
 -- A-Z
 abbrev pub capital : ℕ → Bool
-capital b = between 65 90 b
+capital b = between (code "A") (code "Z") b
 
 -- 0-9
 abbrev pub digit : ℕ → Bool
-digit b = between 48 57 b
+digit b = between (code "0") (code "9") b
 
 -- "each 33 to 126 decimal, never '_'"
 unfoldable pub idLetter : ℕ → Bool
-idLetter b = not (eqb b 95) && between 33 126 b
+idLetter b = not (eqb b separator) && between 33 126 b
 
 -- "0-9 a-f"
 unfoldable pub serialLetter : ℕ → Bool
-serialLetter b = digit b || between 97 102 b
+serialLetter b = digit b || between (code "a") (code "f") b
 
 abbrev pub letterGood : Letters → ℕ → Bool
 letterGood Id b = idLetter b

@@ -1,5 +1,6 @@
 // A receipt as a journal's entry spells it: its compact form, written and read.
 use super::form::LONGEST_PAYLOAD;
+use super::form::failure_text;
 use super::form::put_form;
 use super::form::put_signed_input;
 use super::form::read_form;
@@ -99,7 +100,8 @@ fn put_signed(payload: &[u8], g: Signature, out: &mut [u8], at: usize) -> usize
 {
     let bytes = g.bytes;
     if g.failed {
-        return put_form(payload, b"Sicherheitseinrichtung ausgefallen", out, at);
+        let text = failure_text();
+        return put_form(payload, &text, out, at);
     }
     put_form(payload, &bytes, out, at)
 }

@@ -14,11 +14,35 @@ ghost use Rattle.primitives.specs.Place.{overwrite, placed, behind};
 ghost use Rattle.primitives.specs.Base64.{encoding, decoding};
 ghost use Rattle.primitives.specs.declared.base64.Alphabet.the-variants.{UrlSafe};
 ghost use Rattle.receipt.specs.Payload.{longestPayload};
-ghost use Rattle.receipt.specs.Form.{nextAt, secondDot, payloadGood, signatureGood, parts, signedInput, signedForm, partsOfForm};
+ghost use Rattle.receipt.specs.Texts.{dot, beginning};
+ghost use Rattle.receipt.specs.Form.{failureText, firstElement, nextAt, secondDot, payloadGood, signatureGood, parts, signedInput, signedForm, partsOfForm};
 ghost use Rattle.receipt.specs.FormReading.{short, found, nothing};
 
 // The longest payload.
 pub(crate) const LONGEST_PAYLOAD: usize = 195;
+
+// ---- fixed texts
+
+// The first bytes of every payload.
+pub(crate) fn beginning() -> [u8; 4]
+    ensures { λ r. ⌜ r ≡ beginning ⌝ }
+{
+    *b"_R1-"
+}
+
+// What stands for the signature where the device has failed.
+pub(crate) fn failure_text() -> [u8; 34]
+    ensures { λ r. ⌜ r ≡ failureText ⌝ }
+{
+    *b"Sicherheitseinrichtung ausgefallen"
+}
+
+// The element of the header, with its '.'.
+fn first_element() -> [u8; 21]
+    ensures { λ r. ⌜ r ≡ firstElement ⌝ }
+{
+    *b"eyJhbGciOiJFUzI1NiJ9."
+}
 
 // ---- reading
 
@@ -45,7 +69,8 @@ pub(crate) fn payload_good(payload: &[u8]) -> bool
     if LONGEST_PAYLOAD < payload.len() {
         return false;
     }
-    same(&payload[0..4], b"_R1-")
+    let begin = beginning();
+    same(&payload[0..4], &begin)
 }
 
 pub(crate) fn signature_good(signature: &[u8]) -> bool
@@ -54,7 +79,8 @@ pub(crate) fn signature_good(signature: &[u8]) -> bool
     if signature.len() == 64 {
         return true;
     }
-    same(signature, b"Sicherheitseinrichtung ausgefallen")
+    let text = failure_text();
+    same(signature, &text)
 }
 
 // Writes the bytes of a text to the start of a buffer; how many. None where the text is refused or they have no room.
@@ -92,10 +118,11 @@ fn second_dot(form: &[u8]) -> usize
     if form.len() < 21 {
         return form.len();
     }
-    if !same(&form[0..21], b"eyJhbGciOiJFUzI1NiJ9.") {
+    let first = first_element();
+    if !same(&form[0..21], &first) {
         return form.len();
     }
-    next_at(46, form, 21)
+    next_at(b'.', form, 21)
 }
 
 // The parts of a compact form, each at the start of a buffer.
@@ -124,8 +151,8 @@ pub(crate) fn read_form(form: &[u8], payload: &mut [u8], signature: &mut [u8]) -
 
 // A '.' and an element, at a place; the place behind them.
 fn put_element(out: &mut [u8], at: usize, s: &[u8]) -> usize
-    requires { ⌜ at + length ((46 ∷ []) ++ encoding UrlSafe (now s)) ≤ length (now out) ⌝ }
-    ensures { λ r. ⌜ (r ≡ at + length ((46 ∷ []) ++ encoding UrlSafe (now (s .entry)))) × (now (out .exit) ≡ overwrite (now (out .entry)) at ((46 ∷ []) ++ encoding UrlSafe (now (s .entry)))) ⌝ }
+    requires { ⌜ at + length ((dot ∷ []) ++ encoding UrlSafe (now s)) ≤ length (now out) ⌝ }
+    ensures { λ r. ⌜ (r ≡ at + length ((dot ∷ []) ++ encoding UrlSafe (now (s .entry)))) × (now (out .exit) ≡ overwrite (now (out .entry)) at ((dot ∷ []) ++ encoding UrlSafe (now (s .entry)))) ⌝ }
 {
     put(out, at, b".");
     base64_encode(Alphabet::UrlSafe, s, out, at + 1)
@@ -140,8 +167,9 @@ pub(crate) fn put_signed_input(payload: &[u8], out: &mut [u8], at: usize) -> usi
     if !has_room(out.len(), at, total) {
         return at;
     }
-    put(out, at, b"eyJhbGciOiJFUzI1NiJ9");
-    put_element(out, at + 20, payload)
+    let first = first_element();
+    put(out, at, &first);
+    base64_encode(Alphabet::UrlSafe, payload, out, at + 21)
 }
 
 // A compact form, at a place; the place behind it.

@@ -43,7 +43,7 @@ fn read_code(code: &[u8], signature: &mut [u8]) -> Reading
     requires { ⌜ length (now signature) ≡ 64 ⌝ }
     ensures { λ r. ⌜ (r .payload ≤ length (now (code .entry))) × (r .signature ≤ 64) × (found (r .good) (take (r .payload) (now (code .entry))) (take (r .signature) (now (signature .exit))) ≡ partsOfCode (now (code .entry))) ⌝ }
 {
-    let n = last_at(95, code);
+    let n = last_at(b'_', code);
     if code.len() <= n {
         return nothing();
     }
@@ -155,8 +155,8 @@ pub fn id_place(code: &[u8]) -> Part
     }
     let n = r.payload;
     let payload = &code[0..n];
-    let a = next_at(95, payload, 1) + 1;
-    let e = next_at(95, payload, a);
+    let a = next_at(b'_', payload, 1) + 1;
+    let e = next_at(b'_', payload, a);
     if n <= e {
         return nowhere();
     }

@@ -36,7 +36,7 @@ fn between(low: u8, high: u8, b: u8) -> bool
 fn id_letter(b: u8) -> bool
     ensures { λ r. ⌜ r ≡ idLetter b ⌝ }
 {
-    if b == 95 {
+    if b == b'_' {
         return false;
     }
     between(33, 126, b)
@@ -46,10 +46,10 @@ fn id_letter(b: u8) -> bool
 fn serial_letter(b: u8) -> bool
     ensures { λ r. ⌜ r ≡ serialLetter b ⌝ }
 {
-    if between(48, 57, b) {
+    if between(b'0', b'9', b) {
         return true;
     }
-    between(97, 102, b)
+    between(b'a', b'f', b)
 }
 
 fn letter_good(class: Letters, b: u8) -> bool
@@ -98,13 +98,13 @@ fn name_good(class: Letters, name: Name) -> bool
 pub fn csp_good(csp: [u8; 3]) -> bool
     ensures { λ r. ⌜ r ≡ cspGood csp ⌝ }
 {
-    if !between(65, 90, csp[0]) {
+    if !between(b'A', b'Z', csp[0]) {
         return false;
     }
-    if !between(65, 90, csp[1]) {
+    if !between(b'A', b'Z', csp[1]) {
         return false;
     }
-    between(48, 57, csp[2])
+    between(b'0', b'9', csp[2])
 }
 
 // 1 to 32 bytes, each 33 to 126, never '_'.
