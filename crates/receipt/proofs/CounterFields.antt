@@ -19,20 +19,16 @@ use Rattle.primitives.proofs.Over.{placed-room, placed-full, length-placed, ove
 use Rattle.primitives.proofs.ByteLists.{bytes-append, bytes-take, bytes-drop, bytes-replicate}
 use Rattle.primitives.proofs.Base64Laws.{decode-encode, no-underscore, decoded-bytes}
 use Rattle.primitives.proofs.Twos.{width-true}
-use Rattle.receipt.specs.Payload.{base64, counterContent, counterField, zeros, counterGood}
+use Rattle.receipt.specs.Payload.{base64, counterContent, counterField, counterGood}
 use Rattle.receipt.specs.PayloadReading.{eight, fieldWidth, kindOf, readCounter}
 use Rattle.receipt.specs.declared.details.Kind.{Kind}
 use Rattle.receipt.specs.declared.details.Kind.the-variants.{Standard, Cancellation, Training}
 use Rattle.primitives.proofs.Rows.{both}
+use Rattle.receipt.proofs.Names.{zeros-are}
 use Rattle.receipt.proofs.PaperCases.{cancellation-letters, training-letters}
 use Rattle.receipt.proofs.Written.{length-base64}
 
 -- ---- zeros
-
-pub zeros-are : (bs : List ℕ) → zeros bs ≡ true → bs ≡ replicate (length bs) 0
-unfolding zeros
-zeros-are [] e = refl
-zeros-are (b ∷ bs) e = let p = both (eqb b 0) (zeros bs) e in λ i. eqb-true b 0 (p .0) i ∷ zeros-are bs (p .1) i
 
 noughts : ℕ → List ℕ
 noughts k = replicate k 0

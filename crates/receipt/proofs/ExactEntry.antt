@@ -14,8 +14,8 @@ use Rattle.primitives.specs.Base64.{encoding}
 use Rattle.primitives.specs.declared.base64.Alphabet.the-variants.{UrlSafe}
 use Rattle.primitives.proofs.ByteLists.{bytes-nil, bytes-cons, bytes-append, bytes-replicate, same-refl, same-true}
 use Rattle.primitives.proofs.Base64Laws.{encoding-bytes}
-use Rattle.receipt.specs.Settings.{SettingsLengths, SettingsBytes}
-use Rattle.receipt.specs.Payload.{payload, longestPayload, zeros}
+use Rattle.receipt.specs.Settings.{zeros, SettingsLengths, SettingsBytes}
+use Rattle.receipt.specs.Payload.{payload, longestPayload}
 use Rattle.receipt.specs.PayloadReading.{readFields}
 use Rattle.receipt.specs.Form.{Parts, parts, partsGood, PartsOfBytes, signedInput, signedForm, signatureGood, payloadGood, secondDot, partsOfForm, header, firstElement, failureText}
 use Rattle.receipt.specs.Texts.{beginning}
@@ -30,18 +30,13 @@ use Rattle.primitives.proofs.Rows.{both, true-is-not-false}
 use Rattle.receipt.proofs.Written.{payload-short}
 use Rattle.receipt.proofs.PayloadBytes.{payload-bytes, payload-begins, payload-long}
 use Rattle.receipt.proofs.PayloadBack.{payload-back, read-typed, blank-typed}
-use Rattle.receipt.proofs.CounterFields.{zeros-are}
+use Rattle.receipt.proofs.Names.{zeros-are, zeros-good}
 use Rattle.receipt.proofs.Texts.{failure-long, failure-bytes, first-long}
 use Rattle.receipt.proofs.CodeTexts.{payload-mark, signature-whole}
 use Rattle.receipt.proofs.Forms.{form-back, form-only, form-short, form-good, form-bytes, form-dot, length-form}
 use Rattle.receipt.proofs.EntryCalls.{preparable-made, spellable-is, spellable-true, spells-is}
 
 -- ---- the signature and its text
-
-zeros-replicate : (n : ℕ) → zeros (replicate n 0) ≡ true
-unfolding zeros
-zeros-replicate zero = refl
-zeros-replicate (suc n) = zeros-replicate n
 
 no-failure : eqb (length failureText) 64 ≡ false
 no-failure = ne-eqb (length failureText) 64 (λ e. absurd (omega (arith, e, failure-long)))
@@ -97,7 +92,7 @@ signature-right text b e = go (eqb (length text) 64) refl e
         → Right text (cond t (record { failed = false; bytes = text }) (record { failed = true; bytes = replicate 64 0 }))
     go true q f = record { long = eqb-true (length text) 64 q; bytes = b; zero = refl; is = refl }
     go false q f =
-        record { long = refl; bytes = bytes-replicate 64 (omega arith); zero = zeros-replicate 64; is = sym (same-true text failureText f) }
+        record { long = refl; bytes = bytes-replicate 64 (omega arith); zero = zeros-good 64; is = sym (same-true text failureText f) }
 
 -- ---- the compact form
 

@@ -117,11 +117,11 @@ letters-no-mark class (b ∷ t) e zero q = letter-is class b (every-both class b
 letters-no-mark class (b ∷ t) e (suc i) q = letters-no-mark class t (every-both class b t e .1) i q
 
 -- zeros are zeros
-zeros-are : (t : List ℕ) → every Zero t ≡ true → t ≡ replicate (length t) 0
+pub zeros-are : (t : List ℕ) → every Zero t ≡ true → t ≡ replicate (length t) 0
 zeros-are [] e = refl
 zeros-are (b ∷ t) e = let p = every-both Zero b t e in (λ i. eqb-true b 0 (p .0) i ∷ zeros-are t (p .1) i)
 
-zeros-good : (n : ℕ) → every Zero (replicate n 0) ≡ true
+pub zeros-good : (n : ℕ) → every Zero (replicate n 0) ≡ true
 unfolding every
 zeros-good zero = refl
 zeros-good (suc n) = zeros-good n
@@ -183,6 +183,20 @@ good-of class t = go (leb (length t) 32) refl
         let z : every Zero (drop (length t) (nameOf t .bytes)) ≡ true = ap (λ (l : List ℕ). every Zero (drop (length t) l)) (array-of t h) ∙ ap (every Zero) (drop-at t (replicate (32 - length t) 0) (length t) refl) ∙ zeros-good (32 - length t) in
         rw (text-of t h, z, and-true (every class t))
     go false e = refl
+
+-- what stands from a place on, whether or not the place is within the list
+pub drop-lesser : (at : ℕ) (b : List ℕ) {n k : ℕ} → length b ≡ k → n ≡ min at k → take (k - n) (drop n b) ≡ drop at b
+drop-lesser at b {n} {k} l e = go (leb at k) refl
+  where
+    go : (t : Bool) → leb at k ≡ t → take (k - n) (drop n b) ≡ drop at b
+    go true t =
+        let s : n ≡ at = omega (arith, leb-true at k t) in
+        take-all (k - n) (drop n b) (omega (arith, length-drop n b)) ∙ ap (λ (m : ℕ). drop m b) s
+    go false t =
+        let g : k < at = leb-false at k t in
+        let h : length b ≤ at = omega arith in
+        let j : length b ≤ n = omega arith in
+        ap (take (k - n)) (drop-of-length-le b j) ∙ take-all (k - n) [] (omega arith) ∙ sym (drop-of-length-le b h)
 
 -- ---- a text that is copied into an array of zeros
 

@@ -7,6 +7,8 @@ use mathlib.Core.Option.{Option, none, some}
 use lib.ListN.{length}
 use Rattle.primitives.specs.Place.{overwrite}
 use Rattle.primitives.specs.Bytes.{AllBytes}
+use Rattle.primitives.specs.Base64.{encodedLength}
+use Rattle.primitives.specs.declared.base64.Alphabet.the-variants.{Standard}
 use Rattle.receipt.specs.Payload.{longestPayload}
 use Rattle.receipt.specs.Texts.{separator}
 use Rattle.receipt.specs.Compact.{longestCompact}
@@ -73,7 +75,7 @@ abbrev pub FormIsShort : Type 0
 FormIsShort = (p : Parts) → partsGood p ≡ true → length (signedForm p) ≤ longestCompact
 
 abbrev pub CodeIsShort : Type 0
-CodeIsShort = (p : Parts) → partsGood p ≡ true → length (codeText p) ≤ longestPayload + 1 + 88
+CodeIsShort = (p : Parts) → partsGood p ≡ true → length (codeText p) ≤ longestPayload + 1 + encodedLength Standard 64
 
 -- ---- the calls undo each other
 

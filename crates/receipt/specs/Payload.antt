@@ -1,9 +1,9 @@
 -- The payload: "'_', then twelve fields joined by '_'".
 use Prim.Native.Nat.{ℕ, _<_}
-use mathlib.Core.Bool.{Bool, true, _&&_}
+use mathlib.Core.Bool.{Bool, _&&_}
 use mathlib.Core.List.{List, [], _∷_, _++_}
 use mathlib.Core.Path.{_≡_}
-use lib.Dec.{leb, eqb}
+use lib.Dec.{leb}
 use lib.ListN.{length, take, drop}
 use Rattle.primitives.specs.Base64.{encoding}
 use Rattle.primitives.specs.Bytes.{AllBytes}
@@ -11,7 +11,7 @@ use Rattle.primitives.specs.declared.base64.Alphabet.the-variants as alphabet
 use Rattle.receipt.specs.Decimal.{digits}
 use Rattle.receipt.specs.Amount.{amountsText}
 use Rattle.receipt.specs.DateTime.{dateGood, dateText}
-use Rattle.receipt.specs.Settings.{nameText}
+use Rattle.receipt.specs.Settings.{nameText, zeros}
 use Rattle.receipt.specs.Details.{amountsGood}
 use Rattle.receipt.specs.Texts.{separator, beginning, cancellationText, trainingText}
 use Rattle.receipt.specs.declared.datetime.DateTime.{DateTime}
@@ -61,11 +61,6 @@ abbrev pub longestPayload : ℕ
 longestPayload = 195
 
 -- ---- which fields it may have
-
--- every byte is zero
-unfoldable pub zeros : List ℕ → Bool
-zeros [] = true
-zeros (b ∷ bs) = eqb b 0 && zeros bs
 
 -- no byte of the counter stands where its field does not spell it
 unfoldable pub counterGood : ℕ → Kind → List ℕ → Bool

@@ -46,6 +46,10 @@ unfoldable pub every : Letters → List ℕ → Bool
 every class [] = true
 every class (b ∷ bs) = letterGood class b && every class bs
 
+-- every byte is zero
+abbrev pub zeros : List ℕ → Bool
+zeros bs = every Zero bs
+
 -- ---- names
 
 -- the bytes of a name, without the zeros behind its end
@@ -54,7 +58,7 @@ nameText n = take (n .len) (n .bytes)
 
 -- "1 to 32" letters; "a length over 32, or a byte behind the end that isn't zero, makes ID or serial bad"
 unfoldable pub nameGood : Letters → Name → Bool
-nameGood class n = leb 1 (n .len) && (leb (n .len) 32 && (every class (nameText n) && every Zero (drop (n .len) (n .bytes))))
+nameGood class n = leb 1 (n .len) && (leb (n .len) 32 && (every class (nameText n) && zeros (drop (n .len) (n .bytes))))
 
 -- the name with this text; of a text over 32 bytes the array holds the first 32, and the length makes the name bad
 unfoldable pub nameOf : List ℕ → Name

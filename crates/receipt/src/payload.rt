@@ -16,7 +16,10 @@ use super::details::Kind;
 use super::form::beginning;
 use super::separators::next_field;
 use super::separators::skip_fields;
+use super::settings::Letters;
 use super::settings::Settings;
+use super::settings::every;
+use super::settings::lesser;
 use primitives::Alphabet;
 ghost use mathlib.Core.Path.{_≡_};
 ghost use mathlib.Core.Bool.{true};
@@ -25,9 +28,9 @@ ghost use mathlib.Core.List.{[], _∷_, _++_};
 ghost use lib.ListN.{length, take, drop};
 ghost use Rattle.primitives.specs.Place.{overwrite};
 ghost use Rattle.primitives.specs.Counter.{widthGood};
-ghost use Rattle.receipt.specs.Settings.{sized};
+ghost use Rattle.receipt.specs.Settings.{sized, zeros};
 ghost use Rattle.receipt.specs.Texts.{separator};
-ghost use Rattle.receipt.specs.Payload.{base64, registerPart, moment, counterContent, counterField, closing, body, payload, zeros, counterGood, fieldsGood};
+ghost use Rattle.receipt.specs.Payload.{base64, registerPart, moment, counterContent, counterField, closing, body, payload, counterGood, fieldsGood};
 ghost use Rattle.receipt.specs.PayloadReading.{eight, fieldWidth, kindOf, readCounter, readChain, readDetails, readable, Placed, foundIn, blank, readFields};
 
 // What a payload spells. The counter: N bytes and zeros behind them; eight zeros where the kind is not Standard.
@@ -165,14 +168,8 @@ pub(crate) fn put_payload(
 fn zero_from(b: [u8; 8], at: usize) -> bool
     ensures { λ r. ⌜ r ≡ zeros (drop at b) ⌝ }
 {
-    let mut i = at;
-    while i < 8 {
-        if b[i] != 0 {
-            return false;
-        }
-        i += 1;
-    }
-    true
+    let n = lesser(at, 8);
+    every(Letters::Zero, &b[n..8])
 }
 
 // No byte of the counter stands where its field does not spell it.
