@@ -13,7 +13,7 @@ use lib.Seq.{length-take-le}
 use Rattle.primitives.specs.Place.{overwrite, placed, behind}
 use Rattle.primitives.specs.Base64.{encoding, decoding}
 use Rattle.primitives.specs.declared.base64.Alphabet.the-variants.{Standard}
-use Rattle.primitives.proofs.Over.{placed-room, placed-full, behind-room, behind-full, room-true, room-false}
+use Rattle.primitives.proofs.Over.{placed-room, placed-full, behind-room, behind-full}
 use Rattle.primitives.proofs.Questions.{yes, no}
 use Rattle.primitives.specs.declared.answer.Answer.{Answer}
 use Rattle.receipt.specs.declared.machine_code.Part.{Part}
@@ -22,6 +22,7 @@ use Rattle.receipt.specs.Form.{nextAt, part, further, parts, payloadGood
 use Rattle.receipt.specs.Code.{lastAt, codeText, partsOfCode, codeAnswer, codeBuffer, uncodeAnswer, uncodeBuffer, idStart, idEnd, idThere, nowhere, idPlace, idField}
 use Rattle.primitives.specs.Answers.{written}
 use Rattle.receipt.specs.FormReading.{short, found}
+use Rattle.receipt.proofs.Below.{written-room, written-full}
 use Rattle.receipt.proofs.Finding.{next-most}
 use Rattle.receipt.proofs.CodeTexts.{good-payload, good-signature, read-signed}
 use Rattle.receipt.proofs.Forms.{length-form}
@@ -57,16 +58,14 @@ module _ (code sig₀ sig : List ℕ) (n m : ℕ) (lb : length sig₀ ≡ 64) (i
 
 module _ (out text : List ℕ) (n : ℕ) (long : length text ≡ n) where
   pub no-room : length out < n → (record { number = 23; length = 0 } ≡ written out text) × (out ≡ placed out 0 text)
-  unfolding written
   no-room h =
       let k : length out < 0 + length text = omega arith in
-      (rw (room-false out 0 text k), sym (placed-full out 0 text k))
+      (sym (written-full out text (omega arith)), sym (placed-full out 0 text k))
 
   pub has-room : {out′ : List ℕ} → n ≤ length out → out′ ≡ overwrite out 0 text → (record { number = 0; length = n } ≡ written out text) × (out′ ≡ placed out 0 text)
-  unfolding written
   has-room h e =
       let k : 0 + length text ≤ length out = omega arith in
-      (rw (room-true out 0 text k, long), e ∙ sym (placed-room out 0 text k))
+      (rw (sym long) (sym (written-room out text (omega arith))), e ∙ sym (placed-room out 0 text k))
 
 module _ (p s out : List ℕ) where
   pub put-code : {out₁ out₂ out₃ : List ℕ} → length (codeText (parts p s)) ≤ length out → out₁ ≡ placed out 0 p → out₂ ≡ placed out₁ (length p) (95 ∷ [])
@@ -83,7 +82,6 @@ module _ (p s out : List ℕ) where
 -- a form is not empty, so the place behind it is 0 where it was not written at 0
 module _ (out text : List ℕ) (n : ℕ) (is : n ≡ behind out 0 text) where
   pub wrote-none : n ≡ 0 → 1 ≤ length text → record { number = 23; length = 0 } ≡ written out text
-  unfolding written
   wrote-none z h = go (leb (length text) (length out)) refl
     where
       go : (t : Bool) → leb (length text) (length out) ≡ t → record { number = 23; length = 0 } ≡ written out text
@@ -92,17 +90,16 @@ module _ (out text : List ℕ) (n : ℕ) (is : n ≡ behind out 0 text) where
           absurd (omega (arith, is, behind-room out 0 text k))
       go false q =
           let k : length out < 0 + length text = omega (arith, leb-false (length text) (length out) q) in
-          rw (room-false out 0 text k)
+          sym (written-full out text (omega arith))
 
   pub wrote-some : (n ≡ 0 → ⊥) → record { number = 0; length = n } ≡ written out text
-  unfolding written
   wrote-some z = go (leb (length text) (length out)) refl
     where
       go : (t : Bool) → leb (length text) (length out) ≡ t → record { number = 0; length = n } ≡ written out text
       go true q =
           let k : 0 + length text ≤ length out = omega (arith, leb-true (length text) (length out) q) in
           let m : n ≡ length text = omega (arith, is, behind-room out 0 text k) in
-          rw (room-true out 0 text k, m)
+          rw m (sym (written-room out text (omega arith)))
       go false q =
           let k : length out < 0 + length text = omega (arith, leb-false (length text) (length out) q) in
           absurd (z (is ∙ behind-full out 0 text k))

@@ -13,7 +13,7 @@ use Rattle.primitives.specs.Place.{overwrite, room}
 use Rattle.primitives.specs.Bytes.{AllBytes}
 use Rattle.primitives.specs.Base64.{encoding, decoding}
 use Rattle.primitives.specs.declared.base64.Alphabet.the-variants.{Standard}
-use Rattle.primitives.proofs.Over.{placed-room, room-true, room-false, read-over}
+use Rattle.primitives.proofs.Over.{placed-room, read-over}
 use Rattle.primitives.proofs.ByteLists.{bytes-take, bytes-drop}
 use Rattle.primitives.proofs.Base64Lengths.{length-encoding}
 use Rattle.primitives.proofs.Base64Laws.{no-underscore, decode-encode, encode-decode, decoded-bytes}
@@ -21,6 +21,7 @@ use Rattle.receipt.specs.Form.{part, Parts, partsGood, PartsOfBytes, sig
 use Rattle.receipt.specs.Code.{lastAt, codeText, partsOfCode, codeAnswer, codeBuffer, uncodeAnswer, uncodeBuffer}
 use Rattle.primitives.specs.Answers.{written, answerWith, bufferWith}
 use Rattle.receipt.specs.CodeLaws.{CodeIsExact, CodeIsShort, UncodeAfterCode, CodeAfterUncode}
+use Rattle.receipt.proofs.Below.{written-room, written-full}
 use Rattle.receipt.proofs.Finding.{last-is, last-without}
 use Rattle.receipt.proofs.CodeTexts.{good-payload, good-signature, good-some, Inverted, good-inverted, exactly}
 use Rattle.receipt.proofs.Forms.{chosen, cut, form-good, form-bytes, form-back, form-only}
@@ -122,7 +123,6 @@ record Took (o : Option Parts) (f : Parts → List ℕ) (out : List ℕ) : Type 
 
 module _ (n : ℕ) (f : Parts → List ℕ) (out : List ℕ) where
   took : (o : Option Parts) → (n ≡ 0 → ⊥) → answerWith n (Option·map f o) out .number ≡ 0 → Took o f out
-  unfolding written
   took none nonzero e = absurd (nonzero e)
   took (some p) nonzero e = go (leb (length (f p)) (length out)) refl
     where
@@ -130,13 +130,12 @@ module _ (n : ℕ) (f : Parts → List ℕ) (out : List ℕ) where
       go true q = record { parts = p; is = refl; fits = leb-true (length (f p)) (length out) q }
       go false q =
           let h : length out < length (f p) = leb-false (length (f p)) (length out) q in
-          absurd (omega (arith, rw (room-false out 0 (f p) (omega arith)) at e))
+          absurd (omega (arith, rw (written-full out (f p) h) at e))
 
   -- what such a call answers and writes
   module _ (o : Option Parts) (p : Parts) (is : o ≡ some p) (fits : length (f p) ≤ length out) where
     answer-is : answerWith n (Option·map f o) out ≡ record { number = 0; length = length (f p) }
-    unfolding written
-    answer-is = rw (is, room-true out 0 (f p) (omega arith))
+    answer-is = rw is (written-room out (f p) fits)
 
     buffer-is : bufferWith (Option·map f o) out ≡ overwrite out 0 (f p)
     buffer-is = rw is (placed-room out 0 (f p) (omega arith))

@@ -1,3 +1,4 @@
+pub mod Below
 pub mod Cents
 pub mod Chains
 pub mod CodeCalls

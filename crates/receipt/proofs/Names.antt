@@ -276,14 +276,17 @@ settings-zero s n rest e =
 pub settings-pass : (s : Settings) (n rest : ℕ) → settingsNumber s n 0 ≡ 0 → settingsNumber s n rest ≡ rest
 settings-pass s n rest e = let z = settings-zero s n 0 e in settings-yes s n rest (z .0) (z .1)
 
+-- a question whose rest counts only where its answer is yes
+rest-of : (b : Bool) (n rest other : ℕ) → (b ≡ true → rest ≡ other) → ask b n rest ≡ ask b n other
+rest-of true n rest other h = ap (ask true n) (h refl)
+rest-of false n rest other h = ask-no n rest refl ∙ sym (ask-no n other refl)
+
 -- a row that says no before its end says the same before every rest
 pub settings-stop : (s : Settings) (n rest : ℕ) → (settingsNumber s n 0 ≡ 0 → ⊥) → settingsNumber s n rest ≡ settingsNumber s n 0
-unfolding settingsNumber ask
-settings-stop s n rest h = go (cspGood (s .csp)) (idGood (s .id)) (serialGood (s .serial)) (widthGood n) h
-  where
-    go : (a b d w : Bool) → (ask a 1 (ask b 2 (ask d 3 (ask w 4 0))) ≡ 0 → ⊥) → ask a 1 (ask b 2 (ask d 3 (ask w 4 rest))) ≡ ask a 1 (ask b 2 (ask d 3 (ask w 4 0)))
-    go false b d w k = refl
-    go true false d w k = refl
-    go true true false w k = refl
-    go true true true false k = refl
-    go true true true true k = absurd (k refl)
+unfolding settingsNumber
+settings-stop s n rest h =
+    rest-of (cspGood (s .csp)) 1 _ _
+    (λ a. rest-of (idGood (s .id)) 2 _ _
+    (λ b. rest-of (serialGood (s .serial)) 3 _ _
+    (λ d. rest-of (widthGood n) 4 rest 0
+    (λ w. absurd (h (ask-yes 1 _ a ∙ ask-yes 2 _ b ∙ ask-yes 3 _ d ∙ ask-yes 4 0 w))))))
