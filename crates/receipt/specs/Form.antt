@@ -77,6 +77,10 @@ pub record PartsOfBytes (p : Parts) : Type 0 where
 
 -- ---- the text
 
+-- "." and the element of a text
+abbrev pub element : List ℕ → List ℕ
+element xs = (dot ∷ []) ++ encoding UrlSafe xs
+
 -- what is signed: the elements of header and payload, with "." between them
 abbrev pub signedInput : List ℕ → List ℕ
 signedInput payload = firstElement ++ encoding UrlSafe payload

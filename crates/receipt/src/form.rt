@@ -8,15 +8,13 @@ use primitives::put;
 use primitives::same;
 ghost use mathlib.Core.Path.{_≡_};
 ghost use Prim.Native.Nat.{_+_, _≤_};
-ghost use mathlib.Core.List.{[], _∷_, _++_};
 ghost use lib.ListN.{length, take};
 ghost use Rattle.primitives.specs.Place.{overwrite, placed, behind};
-ghost use Rattle.primitives.specs.Base64.{encoding, decoding};
-ghost use Rattle.primitives.specs.declared.base64.Alphabet.the-variants.{UrlSafe};
+ghost use Rattle.primitives.specs.Base64.{decoding};
 ghost use Rattle.receipt.specs.Payload.{longestPayload};
-ghost use Rattle.receipt.specs.Texts.{dot, beginning};
-ghost use Rattle.receipt.specs.Form.{failureText, firstElement, nextAt, secondDot, payloadGood, signatureGood, parts, signedInput, signedForm, partsOfForm};
-ghost use Rattle.receipt.specs.FormReading.{short, found, nothing};
+ghost use Rattle.receipt.specs.Texts.{beginning};
+ghost use Rattle.receipt.specs.Form.{failureText, firstElement, element, nextAt, secondDot, payloadGood, signatureGood, parts, signedInput, signedForm, partsOfForm};
+ghost use Rattle.receipt.specs.FormReading.{short, partsRead, nothing};
 
 // The longest payload.
 pub(crate) const LONGEST_PAYLOAD: usize = 195;
@@ -128,7 +126,7 @@ fn second_dot(form: &[u8]) -> usize
 // The parts of a compact form, each at the start of a buffer.
 pub(crate) fn read_form(form: &[u8], payload: &mut [u8], signature: &mut [u8]) -> Reading
     requires { ⌜ (length (now payload) ≡ longestPayload) × (length (now signature) ≡ 64) ⌝ }
-    ensures { λ r. ⌜ (r .payload ≤ longestPayload) × (r .signature ≤ 64) × (found (r .good) (take (r .payload) (now (payload .exit))) (take (r .signature) (now (signature .exit))) ≡ partsOfForm (now (form .entry))) ⌝ }
+    ensures { λ r. ⌜ (r .payload ≤ longestPayload) × (r .signature ≤ 64) × (partsRead r (now (payload .exit)) (now (signature .exit)) ≡ partsOfForm (now (form .entry))) ⌝ }
 {
     let e = second_dot(form);
     if form.len() <= e {
@@ -151,8 +149,8 @@ pub(crate) fn read_form(form: &[u8], payload: &mut [u8], signature: &mut [u8]) -
 
 // A '.' and an element, at a place; the place behind them.
 fn put_element(out: &mut [u8], at: usize, s: &[u8]) -> usize
-    requires { ⌜ at + length ((dot ∷ []) ++ encoding UrlSafe (now s)) ≤ length (now out) ⌝ }
-    ensures { λ r. ⌜ (r ≡ at + length ((dot ∷ []) ++ encoding UrlSafe (now (s .entry)))) × (now (out .exit) ≡ overwrite (now (out .entry)) at ((dot ∷ []) ++ encoding UrlSafe (now (s .entry)))) ⌝ }
+    requires { ⌜ at + length (element (now s)) ≤ length (now out) ⌝ }
+    ensures { λ r. ⌜ (r ≡ at + length (element (now (s .entry)))) × (now (out .exit) ≡ overwrite (now (out .entry)) at (element (now (s .entry)))) ⌝ }
 {
     put(out, at, b".");
     base64_encode(Alphabet::UrlSafe, s, out, at + 1)
@@ -161,7 +159,7 @@ fn put_element(out: &mut [u8], at: usize, s: &[u8]) -> usize
 // What is signed of a compact form: the elements of header and payload with the '.' between them, at a place; the place behind them.
 pub(crate) fn put_signed_input(payload: &[u8], out: &mut [u8], at: usize) -> usize
     requires { ⌜ length (now payload) ≤ longestPayload ⌝ }
-    ensures { λ r. ⌜ (r ≡ behind (now (out .entry)) at (signedInput (now (payload .entry)))) × (now (out .exit) ≡ placed (now (out .entry)) at (signedInput (now (payload .entry)))) ⌝ }
+    ensures { λ r. let y : _ = signedInput (now (payload .entry)) in ⌜ (r ≡ behind (now (out .entry)) at y) × (now (out .exit) ≡ placed (now (out .entry)) at y) ⌝ }
 {
     let total = 21 + (payload.len() * 4 + 2) / 3;
     if !has_room(out.len(), at, total) {
@@ -175,7 +173,7 @@ pub(crate) fn put_signed_input(payload: &[u8], out: &mut [u8], at: usize) -> usi
 // A compact form, at a place; the place behind it.
 pub(crate) fn put_form(payload: &[u8], signature: &[u8], out: &mut [u8], at: usize) -> usize
     requires { ⌜ (length (now payload) ≤ longestPayload) × (length (now signature) ≤ 64) ⌝ }
-    ensures { λ r. ⌜ (r ≡ behind (now (out .entry)) at (signedForm (parts (now (payload .entry)) (now (signature .entry))))) × (now (out .exit) ≡ placed (now (out .entry)) at (signedForm (parts (now (payload .entry)) (now (signature .entry))))) ⌝ }
+    ensures { λ r. let y : _ = signedForm (parts (now (payload .entry)) (now (signature .entry))) in ⌜ (r ≡ behind (now (out .entry)) at y) × (now (out .exit) ≡ placed (now (out .entry)) at y) ⌝ }
 {
     let total = 22 + (payload.len() * 4 + 2) / 3 + (signature.len() * 4 + 2) / 3;
     if !has_room(out.len(), at, total) {

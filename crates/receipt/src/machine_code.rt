@@ -14,11 +14,11 @@ use primitives::base64_encode;
 use primitives::put;
 ghost use mathlib.Core.Path.{_≡_};
 ghost use Prim.Native.Nat.{_≤_};
-ghost use lib.ListN.{length, take};
+ghost use lib.ListN.{length};
 ghost use Rattle.primitives.specs.Place.{placed};
 ghost use Rattle.receipt.specs.Payload.{longestPayload};
 ghost use Rattle.receipt.specs.Form.{parts, further};
-ghost use Rattle.receipt.specs.FormReading.{found};
+ghost use Rattle.receipt.specs.FormReading.{partsRead};
 ghost use Rattle.receipt.specs.Code.{lastAt, codeText, partsOfCode, codeAnswer, codeBuffer, uncodeAnswer, uncodeBuffer, nowhere, idPlace, idField};
 ghost use Rattle.primitives.specs.Answers.{written};
 
@@ -41,7 +41,7 @@ fn last_at(b: u8, s: &[u8]) -> usize
 // The parts of a code: the payload stands at its start, the signature at the start of a buffer.
 fn read_code(code: &[u8], signature: &mut [u8]) -> Reading
     requires { ⌜ length (now signature) ≡ 64 ⌝ }
-    ensures { λ r. ⌜ (r .payload ≤ length (now (code .entry))) × (r .signature ≤ 64) × (found (r .good) (take (r .payload) (now (code .entry))) (take (r .signature) (now (signature .exit))) ≡ partsOfCode (now (code .entry))) ⌝ }
+    ensures { λ r. ⌜ (r .payload ≤ length (now (code .entry))) × (r .signature ≤ 64) × (partsRead r (now (code .entry)) (now (signature .exit)) ≡ partsOfCode (now (code .entry))) ⌝ }
 {
     let n = last_at(b'_', code);
     if code.len() <= n {
@@ -64,7 +64,7 @@ fn read_code(code: &[u8], signature: &mut [u8]) -> Reading
 // A code, at the start of the output.
 fn put_code(payload: &[u8], signature: &[u8], out: &mut [u8]) -> Answer
     requires { ⌜ (length (now payload) ≤ longestPayload) × (length (now signature) ≤ 64) ⌝ }
-    ensures { λ r. ⌜ (r ≡ written (now (out .entry)) (codeText (parts (now (payload .entry)) (now (signature .entry))))) × (now (out .exit) ≡ placed (now (out .entry)) 0 (codeText (parts (now (payload .entry)) (now (signature .entry))))) ⌝ }
+    ensures { λ r. let y : _ = codeText (parts (now (payload .entry)) (now (signature .entry))) in ⌜ (r ≡ written (now (out .entry)) y) × (now (out .exit) ≡ placed (now (out .entry)) 0 y) ⌝ }
 {
     let n = payload.len();
     let length = n + 1 + (signature.len() + 2) / 3 * 4;
