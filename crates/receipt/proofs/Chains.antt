@@ -18,11 +18,11 @@ use Rattle.primitives.proofs.ByteLists.{bytes-take}
 use Rattle.primitives.proofs.Over.{placed-room, behind-room, length-over, read-over, then}
 use Rattle.primitives.proofs.Digest.{length-sha256, bytes-sha256}
 use Rattle.primitives.proofs.Cipher.{AllWords, length-cipher, cipher-bytes}
-use Rattle.primitives.proofs.Twos.{length-counterBytes, bytes-counterBytes, counter-back}
+use Rattle.primitives.proofs.Twos.{counterBytes-none, length-counterBytes, bytes-counterBytes, counter-back}
 use Rattle.primitives.proofs.Xors.{bytes-xorFirst, length-xorFirst, xorFirst-back}
 use Rattle.receipt.specs.Decimal.{digits}
 use Rattle.receipt.specs.Settings.{nameText}
-use Rattle.receipt.specs.Chain.{chainValue, hashInput, iv, keyStream, encryptedCounter, decryptedCounter}
+use Rattle.receipt.specs.Chain.{chainValue, hashInput, iv, keyStream, encryptedCounter, NothingToEncrypt, decryptedCounter}
 use Rattle.receipt.specs.declared.settings.Name.{Name}
 use Rattle.receipt.proofs.Missing.{filled, behind-counter, behind-xorFirst}
 use Rattle.receipt.proofs.Digits.{length-digits, width-short, digits-same}
@@ -138,3 +138,9 @@ module _ (schedule : List (List ℕ)) (id : Name) (number n : ℕ) where
     pub decrypt-back : counterFits n z ≡ true → decryptedCounter schedule id number n (encryptedCounter schedule id number n z) ≡ z
     unfolding encryptedCounter decryptedCounter
     decrypt-back e = ap (counterValue n) (xorFirst-back n (counterBytes n z) (keyStream schedule id number) (long-enough z)) ∙ counter-back n z e
+
+-- ---- a counter that has no n bytes
+
+pub nothing-to-encrypt : NothingToEncrypt
+unfolding encryptedCounter
+nothing-to-encrypt schedule id number n counter e = ap (λ (b : List ℕ). xorFirst n b (keyStream schedule id number)) (counterBytes-none n counter e)

@@ -4,23 +4,25 @@ use mathlib.Core.Path.{_≡_, refl, sym, ap, _∙_}
 use mathlib.Core.Bool.{Bool, true, false, not, _&&_}
 use mathlib.Core.List.{List, [], _∷_, _++_}
 use mathlib.Core.Option.{none, some}
+use native.Mathlib.Nat.{add-comm}
 use native.Mathlib.Omega.{arith}
 use borrow.Author.Tests.{lt-ltb, le-ltb, leb-true, leb-false}
 use lib.Dec.{ltb, leb}
-use lib.ListN.{length, take, drop, length-append, length-drop, take-append-drop}
-use lib.Seq.{take-append-le, drop-append-le, length-take-le}
+use lib.ListN.{length, take, drop, length-append}
+use lib.Seq.{length-take-le}
 use Rattle.primitives.specs.Place.{overwrite, placed, behind}
 use Rattle.primitives.specs.Base64.{encoding, decoding}
 use Rattle.primitives.specs.declared.base64.Alphabet.the-variants.{Standard}
-use Rattle.primitives.proofs.Over.{placed-room, placed-full, behind-room, behind-full, room-true, room-false}
+use Rattle.primitives.proofs.Over.{placed-room, placed-full, behind-room, behind-full}
 use Rattle.primitives.proofs.Questions.{yes, no}
 use Rattle.primitives.specs.declared.answer.Answer.{Answer}
 use Rattle.receipt.specs.declared.machine_code.Part.{Part}
 use Rattle.receipt.specs.declared.form.Reading.{Reading}
-use Rattle.receipt.specs.Form.{nextAt, part, parts, payloadGood, signatureGood, partsGood, signedForm, partsOfForm}
+use Rattle.receipt.specs.Form.{nextAt, part, further, parts, payloadGood, signatureGood, partsGood, signedForm, partsOfForm}
 use Rattle.receipt.specs.Code.{lastAt, codeText, partsOfCode, codeAnswer, codeBuffer, uncodeAnswer, uncodeBuffer, idStart, idEnd, idThere, nowhere, idPlace, idField}
 use Rattle.primitives.specs.Answers.{written}
 use Rattle.receipt.specs.FormReading.{short, found}
+use Rattle.receipt.proofs.Below.{written-room, written-full}
 use Rattle.receipt.proofs.Finding.{next-most}
 use Rattle.receipt.proofs.CodeTexts.{good-payload, good-signature, read-signed}
 use Rattle.receipt.proofs.Forms.{length-form}
@@ -56,16 +58,14 @@ module _ (code sig₀ sig : List ℕ) (n m : ℕ) (lb : length sig₀ ≡ 64) (i
 
 module _ (out text : List ℕ) (n : ℕ) (long : length text ≡ n) where
   pub no-room : length out < n → (record { number = 23; length = 0 } ≡ written out text) × (out ≡ placed out 0 text)
-  unfolding written
   no-room h =
       let k : length out < 0 + length text = omega arith in
-      (rw (room-false out 0 text k), sym (placed-full out 0 text k))
+      (sym (written-full out text (omega arith)), sym (placed-full out 0 text k))
 
   pub has-room : {out′ : List ℕ} → n ≤ length out → out′ ≡ overwrite out 0 text → (record { number = 0; length = n } ≡ written out text) × (out′ ≡ placed out 0 text)
-  unfolding written
   has-room h e =
       let k : 0 + length text ≤ length out = omega arith in
-      (rw (room-true out 0 text k, long), e ∙ sym (placed-room out 0 text k))
+      (rw (sym long) (sym (written-room out text (omega arith))), e ∙ sym (placed-room out 0 text k))
 
 module _ (p s out : List ℕ) where
   pub put-code : {out₁ out₂ out₃ : List ℕ} → length (codeText (parts p s)) ≤ length out → out₁ ≡ placed out 0 p → out₂ ≡ placed out₁ (length p) (95 ∷ [])
@@ -82,7 +82,6 @@ module _ (p s out : List ℕ) where
 -- a form is not empty, so the place behind it is 0 where it was not written at 0
 module _ (out text : List ℕ) (n : ℕ) (is : n ≡ behind out 0 text) where
   pub wrote-none : n ≡ 0 → 1 ≤ length text → record { number = 23; length = 0 } ≡ written out text
-  unfolding written
   wrote-none z h = go (leb (length text) (length out)) refl
     where
       go : (t : Bool) → leb (length text) (length out) ≡ t → record { number = 23; length = 0 } ≡ written out text
@@ -91,17 +90,16 @@ module _ (out text : List ℕ) (n : ℕ) (is : n ≡ behind out 0 text) where
           absurd (omega (arith, is, behind-room out 0 text k))
       go false q =
           let k : length out < 0 + length text = omega (arith, leb-false (length text) (length out) q) in
-          rw (room-false out 0 text k)
+          sym (written-full out text (omega arith))
 
   pub wrote-some : (n ≡ 0 → ⊥) → record { number = 0; length = n } ≡ written out text
-  unfolding written
   wrote-some z = go (leb (length text) (length out)) refl
     where
       go : (t : Bool) → leb (length text) (length out) ≡ t → record { number = 0; length = n } ≡ written out text
       go true q =
           let k : 0 + length text ≤ length out = omega (arith, leb-true (length text) (length out) q) in
           let m : n ≡ length text = omega (arith, is, behind-room out 0 text k) in
-          rw (room-true out 0 text k, m)
+          rw m (sym (written-room out text (omega arith)))
       go false q =
           let k : length out < 0 + length text = omega (arith, leb-false (length text) (length out) q) in
           absurd (z (is ∙ behind-full out 0 text k))
@@ -155,27 +153,20 @@ module _ (code out sig : List ℕ) (r : Reading) (e : found (r .good) (take (r .
 
 -- ---- the ID field
 
--- a part of the front is a part of the whole
-part-front : (s : List ℕ) (n a e : ℕ) → n ≤ length s → a ≤ e → e ≤ n → part a e (take n s) ≡ part a e s
-part-front s n a e h k l =
-    let m : length (take n s) ≡ n = length-take-le n s h in
-    sym (take-append-le (e - a) (drop a (take n s)) (drop n s) (omega (arith, length-drop a (take n s))))
-    ∙ ap (take (e - a)) (sym (drop-append-le a (take n s) (drop n s) (omega arith)) ∙ ap (drop a) (take-append-drop n s))
-
--- what a place says of the ID field of a code
+-- the place of the ID field of a code
 abbrev pub Placed : List ℕ → Part → Type 0
-Placed code x = (x ≡ idPlace code) × (x .start ≤ x .end) × (x .end ≤ length code) × (part (x .start) (x .end) code ≡ idField code)
+Placed code x = (x ≡ idPlace code) × (x .start ≤ x .end) × (x .end ≤ length code)
 
 -- nowhere is right where there is no field
-none-placed : (code : List ℕ) {x : Part} → x ≡ nowhere → nowhere ≡ idPlace code → [] ≡ idField code → Placed code x
-none-placed code h k l = rw (h) (k, omega arith, omega arith, l)
+none-placed : (code : List ℕ) {x : Part} → x ≡ nowhere → nowhere ≡ idPlace code → Placed code x
+none-placed code h k = rw (h) (k, omega arith, omega arith)
 
 module _ (code sig : List ℕ) (r : Reading) (e : found (r .good) (take (r .payload) code) (take (r .signature) sig) ≡ partsOfCode code) where
   pub no-id : {x : Part} → x ≡ nowhere → not (r .good) ≡ true → Placed code x
-  unfolding idField idPlace
+  unfolding idPlace
   no-id h t =
       let q : none ≡ partsOfCode code = found-none (r .good) (take (r .payload) code) (take (r .signature) sig) e t in
-      none-placed code h (rw (sym q)) (rw (sym q))
+      none-placed code h (rw (sym q))
 
   module _ (t : not (r .good) ≡ false) {f : ℕ} (er : f ≡ nextAt 95 (take (r .payload - 0) code) 1) where
     p : List ℕ
@@ -204,8 +195,8 @@ module _ (code sig : List ℕ) (r : Reading) (e : found (r .good) (take (r .payl
 
       -- no third mark, or nothing before it
       missing : {x : Part} → x ≡ nowhere → idThere p ≡ false → Placed code x
-      unfolding idField idPlace
-      missing h w = none-placed code h (rw (sym q, w)) (rw (sym q, w))
+      unfolding idPlace
+      missing h w = none-placed code h (rw (sym q, w))
 
       pub id-unended : {x : Part} → x ≡ nowhere → r .payload ≤ k → Placed code x
       unfolding idThere
@@ -220,11 +211,18 @@ module _ (code sig : List ℕ) (r : Reading) (e : found (r .good) (take (r .payl
         id-empty g l = missing g (rw (ended, le-ltb (idStart p) (idEnd p) (omega (arith, start-is, end-is))))
 
         pub id-there : f + 1 < k → Placed code (record { start = f + 1; end = k })
-        unfolding idField idPlace idThere p
+        unfolding idPlace idThere p
         id-there l =
             let w : ltb (idStart p) (idEnd p) ≡ true = lt-ltb (idStart p) (idEnd p) (omega (arith, start-is, end-is)) in (
               rw (start-is, end-is, sym q, ended, w),
               omega arith,
               omega arith,
-              rw (start-is, end-is, sym q, ended, w) (sym (part-front code (r .payload) (idStart p) (idEnd p) within (omega (arith, start-is, end-is)) (omega (arith, end-is)))),
             )
+
+-- the part at the place that was found, and where it lies
+pub field-at : (m : ℕ × ℕ) (code : List ℕ) {x : Part} → x ≡ idPlace code
+    → (part (x .start) (x .end) code ≡ idField code) × ((m .0, x .start + m .1) ≡ further m (idPlace code .start))
+unfolding idField
+field-at m code {x} e =
+    let o : x .start + m .1 ≡ m .1 + idPlace code .start = add-comm (x .start) (m .1) ∙ ap (λ (y : Part). m .1 + y .start) e in
+    (rw e, λ i. (m .0, o i))

@@ -1,4 +1,4 @@
--- The fixed texts of compact form and code, and what good parts are.
+-- Good parts of compact form and code.
 use Prim.Native.Nat.{ℕ, _≤_, _<_}
 use mathlib.Core.Path.{_≡_, refl, sym, ap, _∙_}
 use mathlib.Core.Bool.{Bool, true, false, cond, _&&_, _||_, and-false}
@@ -9,45 +9,14 @@ use borrow.Author.Tests.{le-leb, lt-leb, leb-true, leb-false, eq-eqb, ne-eqb, eq
 use lib.Dec.{leb, eqb}
 use lib.ListN.{length, take}
 use Rattle.primitives.specs.Bytes.{same}
-use Rattle.primitives.specs.Base64.{letter, quad, letters, encoding}
-use Rattle.primitives.specs.declared.base64.Alphabet.the-variants.{UrlSafe}
 use Rattle.primitives.proofs.ByteLists.{same-true, same-length}
+use Rattle.primitives.proofs.Rows.{both}
 use Rattle.receipt.specs.Payload.{longestPayload}
-use Rattle.receipt.specs.Form.{Parts, parts, payloadGood, signatureGood, partsGood, goodParts, header, failureText}
+use Rattle.receipt.specs.Texts.{beginning}
+use Rattle.receipt.specs.Form.{Parts, parts, payloadGood, signatureGood, partsGood, goodParts, failureText}
 use Rattle.receipt.specs.FormReading.{short, found}
-
--- ---- the texts
-
--- eyJhbGciOiJFUzI1NiJ9
-abbrev pub headerLetters : List ℕ
-headerLetters =
-    101 ∷ 121 ∷ 74 ∷ 104 ∷ 98 ∷ 71 ∷ 99 ∷ 105 ∷ 79 ∷ 105 ∷ 74 ∷ 70 ∷ 85 ∷ 122 ∷ 73 ∷ 49 ∷ 78 ∷ 105 ∷ 74 ∷ 57 ∷ []
-
--- one of the cases of the paper, by computing
-pub header-letters : encoding UrlSafe header ≡ headerLetters
-unfolding encoding letters quad letter header
-header-letters = refl
-
-pub header-long : length (encoding UrlSafe header) ≡ 20
-header-long = ap length header-letters
-
-abbrev pub failureLetters : List ℕ
-failureLetters =
-    83 ∷ 105 ∷ 99 ∷ 104 ∷ 101 ∷ 114 ∷ 104 ∷ 101 ∷ 105 ∷ 116 ∷ 115 ∷ 101 ∷ 105 ∷ 110 ∷ 114 ∷ 105 ∷ 99 ∷ 104 ∷ 116 ∷ 117 ∷ 110 ∷ 103
-    ∷ 32 ∷ 97 ∷ 117 ∷ 115 ∷ 103 ∷ 101 ∷ 102 ∷ 97 ∷ 108 ∷ 108 ∷ 101 ∷ 110 ∷ []
-
-pub failure-letters : failureText ≡ failureLetters
-unfolding failureText
-failure-letters = refl
-
-pub failure-long : length failureText ≡ 34
-failure-long = ap length failure-letters
-
--- ---- tests
-
-pub both : (a b : Bool) → a && b ≡ true → (a ≡ true) × (b ≡ true)
-both true b e = (refl, e)
-both false b e = let z : _≡_ {A = ℕ} 0 1 = cc in absurd (omega arith)
+use Rattle.receipt.specs.CodeLaws.{MadeOf, Exactly}
+use Rattle.receipt.proofs.Texts.{failure-long}
 
 -- ---- the payload
 
@@ -60,15 +29,21 @@ module _ (p : List ℕ) where
   unfolding payloadGood
   payload-long h = rw (lt-leb (length p) 195 h) (sym (and-false (leb 4 (length p))))
 
-  pub payload-mark : {r : Bool} → 4 ≤ length p → length p ≤ longestPayload → r ≡ same (take 4 p) (95 ∷ 82 ∷ 49 ∷ 45 ∷ []) → r ≡ payloadGood p
+  pub payload-mark : {r : Bool} {mark : List ℕ} → 4 ≤ length p → length p ≤ longestPayload → r ≡ same (take 4 p) mark → mark ≡ beginning → r ≡ payloadGood p
   unfolding payloadGood
-  payload-mark h k e = rw (le-leb 4 (length p) h, le-leb (length p) 195 k) e
+  payload-mark h k e b = rw (le-leb 4 (length p) h, le-leb (length p) 195 k) (e ∙ ap (same (take 4 p)) b)
 
   pub payload-most : payloadGood p ≡ true → length p ≤ longestPayload
   unfolding payloadGood
   payload-most e =
       leb-true (length p) 195
-      (both (leb (length p) 195) (same (take 4 p) (95 ∷ 82 ∷ 49 ∷ 45 ∷ [])) (both (leb 4 (length p)) (leb (length p) 195 && same (take 4 p) (95 ∷ 82 ∷ 49 ∷ 45 ∷ [])) e .1) .0)
+      (both (leb (length p) 195) (same (take 4 p) beginning) (both (leb 4 (length p)) (leb (length p) 195 && same (take 4 p) beginning) e .1) .0)
+
+  pub payload-starts : payloadGood p ≡ true → take 4 p ≡ beginning
+  unfolding payloadGood
+  payload-starts e =
+      same-true (take 4 p) beginning
+      (both (leb (length p) 195) (same (take 4 p) beginning) (both (leb 4 (length p)) (leb (length p) 195 && same (take 4 p) beginning) e .1) .1)
 
 -- ---- the signature
 
@@ -77,9 +52,9 @@ module _ (s : List ℕ) where
   unfolding signatureGood
   signature-whole e = rw (eq-eqb (length s) 64 e)
 
-  pub signature-text : {r : Bool} → (length s ≡ 64 → ⊥) → r ≡ same s failureLetters → r ≡ signatureGood s
+  pub signature-text : {r : Bool} {text : List ℕ} → (length s ≡ 64 → ⊥) → r ≡ same s text → text ≡ failureText → r ≡ signatureGood s
   unfolding signatureGood
-  signature-text n e = rw (ne-eqb (length s) 64 n, failure-letters) e
+  signature-text n e t = rw (ne-eqb (length s) 64 n) (e ∙ ap (same s) t)
 
   pub signature-other : (length s ≡ 64 → ⊥) → (length s ≡ 34 → ⊥) → false ≡ signatureGood s
   unfolding signatureGood
@@ -154,3 +129,17 @@ read-parts (some p) o₂ = go (leb (length p) 195) refl
     go : (t : Bool) → leb (length p) 195 ≡ t → found (payloadGood (cond t p []) && signatureGood (short 64 o₂)) (cond t p []) (short 64 o₂) ≡ goodParts (some p) o₂
     go true e = read-signed p o₂
     go false e = rw (sym no-payload) (dropped o₂ (payload-long p (leb-false (length p) 195 e)))
+
+-- ---- exact readers
+
+-- a reader that finds only the parts a text is made of, and finds them, is exact
+pub exactly : (write : Parts → List ℕ) (text : List ℕ) (o : Option Parts) → ((p : Parts) → o ≡ some p → MadeOf write text p) → ((p : Parts) → MadeOf write text p → o ≡ some p)
+    → Exactly write text o
+exactly write text o only all = record { only = only; all = all; refused = λ e p w. clash p e (all p w); nothing = none-found o refl }
+  where
+    clash : (p : Parts) → o ≡ none → o ≡ some p → ⊥
+    clash p e f = let z : _≡_ {A = ℕ} 0 1 = cc in omega arith
+
+    none-found : (q : Option Parts) → o ≡ q → ((p : Parts) → MadeOf write text p → ⊥) → o ≡ none
+    none-found none e h = e
+    none-found (some p) e h = absurd (h p (only p e))

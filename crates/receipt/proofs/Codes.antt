@@ -13,16 +13,17 @@ use Rattle.primitives.specs.Place.{overwrite, room}
 use Rattle.primitives.specs.Bytes.{AllBytes}
 use Rattle.primitives.specs.Base64.{encoding, decoding}
 use Rattle.primitives.specs.declared.base64.Alphabet.the-variants.{Standard}
-use Rattle.primitives.proofs.Over.{placed-room, room-true, room-false, read-over}
+use Rattle.primitives.proofs.Over.{placed-room, read-over}
 use Rattle.primitives.proofs.ByteLists.{bytes-take, bytes-drop}
 use Rattle.primitives.proofs.Base64Lengths.{length-encoding}
 use Rattle.primitives.proofs.Base64Laws.{no-underscore, decode-encode, encode-decode, decoded-bytes}
 use Rattle.receipt.specs.Form.{part, Parts, partsGood, PartsOfBytes, signedForm, goodParts, partsOfForm}
 use Rattle.receipt.specs.Code.{lastAt, codeText, partsOfCode, codeAnswer, codeBuffer, uncodeAnswer, uncodeBuffer}
 use Rattle.primitives.specs.Answers.{written, answerWith, bufferWith}
-use Rattle.receipt.specs.CodeLaws.{CodeIsRead, CodeIsOne, CodeIsShort, UncodeAfterCode, CodeAfterUncode}
+use Rattle.receipt.specs.CodeLaws.{CodeIsExact, CodeIsShort, UncodeAfterCode, CodeAfterUncode}
+use Rattle.receipt.proofs.Below.{written-room, written-full}
 use Rattle.receipt.proofs.Finding.{last-is, last-without}
-use Rattle.receipt.proofs.CodeTexts.{good-payload, good-signature, good-some, Inverted, good-inverted}
+use Rattle.receipt.proofs.CodeTexts.{good-payload, good-signature, good-some, Inverted, good-inverted, exactly}
 use Rattle.receipt.proofs.Forms.{chosen, cut, form-good, form-bytes, form-back, form-only}
 
 -- ---- code
@@ -45,9 +46,9 @@ module _ (p : Parts) where
       ∙ drop-at (p .payload ++ (95 ∷ [])) z (k + 1) (omega (arith, length-append (p .payload) (95 ∷ [])))
 
   -- good parts of bytes are read back from their code
-  code-back-of : partsGood p ≡ true → PartsOfBytes p → partsOfCode (codeText p) ≡ some p
+  pub code-back : partsGood p ≡ true → PartsOfBytes p → partsOfCode (codeText p) ≡ some p
   unfolding partsOfCode z
-  code-back-of g b =
+  code-back g b =
       let t : List ℕ = p .payload ++ (95 ∷ z) in
       let l : lastAt 95 t < length t = omega (arith, mark-is, length-append (p .payload) (95 ∷ z)) in
       rw (code-is, lt-ltb (lastAt 95 t) (length t) l, take-at (p .payload) (95 ∷ z) (lastAt 95 t) (sym mark-is), rest-is (lastAt 95 t) mark-is, decode-encode Standard (p .signature) (b .signature))
@@ -66,6 +67,9 @@ module _ (t : List ℕ) (p : Parts) (e : partsOfCode t ≡ some p) where
   code-inverted =
       let c = chosen (ltb (lastAt 95 t) (length t)) (goodParts (some (take (lastAt 95 t) t)) (decoding Standard (drop (lastAt 95 t + 1) t))) e in
       (ltb-true (lastAt 95 t) (length t) (c .0), good-inverted (some (take (lastAt 95 t) t)) (decoding Standard (drop (lastAt 95 t + 1) t)) p (c .1))
+
+  pub code-within : lastAt 95 t < length t
+  code-within = code-inverted .0
 
   pub code-good : partsGood p ≡ true
   code-good = code-inverted .1 .good
@@ -86,8 +90,8 @@ module _ (t : List ℕ) (p : Parts) (e : partsOfCode t ≡ some p) where
   rest b = encode-decode Standard (drop (lastAt 95 t + 1) t) (p .signature) (bytes-drop (lastAt 95 t + 1) b) (code-inverted .1 .signature)
 
   -- an accepted text is the code of its parts
-  code-only-of : AllBytes t → t ≡ codeText p
-  code-only-of b =
+  pub code-only : AllBytes t → t ≡ codeText p
+  code-only b =
       let k : ℕ = lastAt 95 t in
       let h : k < length t = code-inverted .0 in
       let q : drop (k + 1) t ≡ z p = rest b in
@@ -100,11 +104,11 @@ module _ (t : List ℕ) (p : Parts) (e : partsOfCode t ≡ some p) where
 
 -- ---- the laws
 
-pub code-back : CodeIsRead
-code-back = code-back-of
-
-pub code-only : CodeIsOne
-code-only = code-only-of
+pub code-exact : CodeIsExact
+code-exact t b =
+    exactly codeText t (partsOfCode t)
+    (λ p e. record { good = code-good t p e; bytes = code-bytes t p e b; is = code-only t p e b })
+    (λ p w. ap partsOfCode (w .is) ∙ code-back p (w .good) (w .bytes))
 
 pub code-short : CodeIsShort
 code-short = code-short-of
@@ -119,7 +123,6 @@ record Took (o : Option Parts) (f : Parts → List ℕ) (out : List ℕ) : Type 
 
 module _ (n : ℕ) (f : Parts → List ℕ) (out : List ℕ) where
   took : (o : Option Parts) → (n ≡ 0 → ⊥) → answerWith n (Option·map f o) out .number ≡ 0 → Took o f out
-  unfolding written
   took none nonzero e = absurd (nonzero e)
   took (some p) nonzero e = go (leb (length (f p)) (length out)) refl
     where
@@ -127,13 +130,12 @@ module _ (n : ℕ) (f : Parts → List ℕ) (out : List ℕ) where
       go true q = record { parts = p; is = refl; fits = leb-true (length (f p)) (length out) q }
       go false q =
           let h : length out < length (f p) = leb-false (length (f p)) (length out) q in
-          absurd (omega (arith, rw (room-false out 0 (f p) (omega arith)) at e))
+          absurd (omega (arith, rw (written-full out (f p) h) at e))
 
   -- what such a call answers and writes
   module _ (o : Option Parts) (p : Parts) (is : o ≡ some p) (fits : length (f p) ≤ length out) where
     answer-is : answerWith n (Option·map f o) out ≡ record { number = 0; length = length (f p) }
-    unfolding written
-    answer-is = rw (is, room-true out 0 (f p) (omega arith))
+    answer-is = rw is (written-room out (f p) fits)
 
     buffer-is : bufferWith (Option·map f o) out ≡ overwrite out 0 (f p)
     buffer-is = rw is (placed-room out 0 (f p) (omega arith))

@@ -12,34 +12,23 @@ use lib.Seq.{take-at, length-take-le, sets-eq}
 use Rattle.primitives.specs.Place.{overwrite, placed}
 use Rattle.primitives.specs.Bytes.{AllBytes}
 use Rattle.primitives.specs.Counter.{widthGood}
-use Rattle.primitives.specs.Base64.{letter, quad, letters, encoding, decoding, bufferOf}
+use Rattle.primitives.specs.Base64.{decoding, bufferOf}
+use Rattle.primitives.specs.Text.{ascii}
 use Rattle.primitives.specs.declared.base64.Alphabet.the-variants as alphabet
 use Rattle.primitives.proofs.Over.{placed-room, placed-full, length-placed, over-sets}
 use Rattle.primitives.proofs.ByteLists.{bytes-append, bytes-take, bytes-drop, bytes-replicate}
 use Rattle.primitives.proofs.Base64Laws.{decode-encode, no-underscore, decoded-bytes}
 use Rattle.primitives.proofs.Twos.{width-true}
-use Rattle.receipt.specs.Payload.{base64, counterContent, counterField, zeros, counterGood}
+use Rattle.receipt.specs.Payload.{base64, counterContent, counterField, counterGood}
 use Rattle.receipt.specs.PayloadReading.{eight, fieldWidth, kindOf, readCounter}
 use Rattle.receipt.specs.declared.details.Kind.{Kind}
 use Rattle.receipt.specs.declared.details.Kind.the-variants.{Standard, Cancellation, Training}
 use Rattle.primitives.proofs.Rows.{both}
+use Rattle.receipt.proofs.Names.{zeros-are}
+use Rattle.receipt.proofs.PaperCases.{cancellation-letters, training-letters}
 use Rattle.receipt.proofs.Written.{length-base64}
 
--- two of the paper's cases
-pub cancellation-letters : base64 (83 ∷ 84 ∷ 79 ∷ []) ≡ 85 ∷ 49 ∷ 82 ∷ 80 ∷ []
-unfolding encoding letters quad letter
-cancellation-letters = refl
-
-pub training-letters : base64 (84 ∷ 82 ∷ 65 ∷ []) ≡ 86 ∷ 70 ∷ 74 ∷ 66 ∷ []
-unfolding encoding letters quad letter
-training-letters = refl
-
 -- ---- zeros
-
-pub zeros-are : (bs : List ℕ) → zeros bs ≡ true → bs ≡ replicate (length bs) 0
-unfolding zeros
-zeros-are [] e = refl
-zeros-are (b ∷ bs) e = let p = both (eqb b 0) (zeros bs) e in λ i. eqb-true b 0 (p .0) i ∷ zeros-are bs (p .1) i
 
 noughts : ℕ → List ℕ
 noughts k = replicate k 0
@@ -114,7 +103,7 @@ module _ (n : ℕ) (w : widthGood n ≡ true) where
 
   -- the kind is read in the field that was spelled
   pub kind-back : (kind : Kind) (counter rest : List ℕ) → length counter ≡ 8 → kindOf (counterField n kind counter ++ (95 ∷ rest)) ≡ kind
-  unfolding kindOf counterField counterContent
+  unfolding kindOf counterField counterContent ascii
   kind-back Standard counter rest e =
       let r = width-true n w in
       let l : length (take n counter) ≡ n = length-take-le n counter (omega (arith, r .most)) in

@@ -13,12 +13,13 @@ use Rattle.primitives.specs.Aes.{cipher}
 use Rattle.primitives.proofs.Cipher.{AllWords, length-cipher, cipher-bytes}
 use Rattle.primitives.proofs.Twos.{counter-whole}
 use Rattle.primitives.proofs.Xors.{bytes-xorFirst, length-xorFirst, drop-xorFirst, xorFirst-back}
-use Rattle.receipt.specs.Settings.{nameText, nameOf, cspGood, idGood, serialGood, settingsGood, sized}
+use Rattle.receipt.specs.Settings.{nameText, nameOf, cspGood, idGood, serialGood, settingsGood, sized, zeros}
+use Rattle.receipt.proofs.Names.{zeros-are, zeros-good}
 use Rattle.receipt.specs.DateTime.{dateGood}
 use Rattle.receipt.specs.Details.{standard, amountsGood}
 use Rattle.receipt.specs.Chain.{iv, keyStream, encryptedCounter, decryptedCounter}
-use Rattle.receipt.specs.Payload.{payload, zeros, counterGood, fieldsGood}
-use Rattle.receipt.specs.Compact.{signingInput, signatureZero, entryGood, spellable}
+use Rattle.receipt.specs.Payload.{payload, counterGood, fieldsGood}
+use Rattle.receipt.specs.Compact.{signingInput, signatureZero, preparable, spellable}
 use Rattle.receipt.specs.declared.details.Kind.{Kind}
 use Rattle.receipt.specs.declared.details.Kind.the-variants.{Standard, Cancellation, Training}
 use Rattle.receipt.specs.declared.settings.Name.{Name}
@@ -27,7 +28,6 @@ use Rattle.receipt.specs.declared.entry.Signature.{Signature}
 use Rattle.receipt.specs.declared.payload.PayloadFields.{PayloadFields}
 use Rattle.receipt.specs.declared.entry.Entry.{Entry}
 use Rattle.primitives.proofs.Rows.{both, true-is-not-false}
-use Rattle.receipt.proofs.CounterFields.{zeros-are}
 use Rattle.receipt.proofs.FormCalls.{length-input}
 
 -- ---- the part of an array that holds a name, and the name of a text
@@ -81,26 +81,21 @@ pub record Admitted (s : Settings) (n : ℕ) (e : Entry) : Type 0 where
 
 module _ (s : Settings) (n : ℕ) (e : Entry) where
   pub admitted : spellable s n e ≡ true → Admitted s n e
-  unfolding spellable entryGood fieldsGood
+  unfolding spellable preparable fieldsGood
   admitted g =
       let a₁ = both _ _ g in
-      let a₂ = both _ _ (a₁ .1) in
+      let a₂ = both _ _ (a₁ .0) in
       let a₃ = both _ _ (a₂ .1) in
-      let a₄ = both _ _ (a₃ .0) in
+      let a₄ = both _ _ (a₃ .1) in
       let a₅ = both _ _ (a₄ .1) in
       let a₆ = both _ _ (a₅ .1) in
-      record { sized = a₁ .0; width = a₂ .0; number = leb-true 1 _ (a₄ .0); date = a₅ .0; amounts = a₆ .0; counter = a₆ .1; signature = a₃ .1 }
+      record { sized = a₂ .0; width = a₃ .0; number = leb-true 1 _ (a₄ .0); date = a₅ .0; amounts = a₆ .0; counter = a₆ .1; signature = a₁ .1 }
 
   pub spellable-yes : Admitted s n e → spellable s n e ≡ true
-  unfolding spellable entryGood fieldsGood
+  unfolding spellable preparable fieldsGood
   spellable-yes a = rw (a .sized, a .width, le-leb 1 (e .fields .details .number) (a .number), a .date, a .amounts, a .counter, a .signature)
 
 -- ---- zeros
-
-zeros-replicate : (k : ℕ) → zeros (replicate k 0) ≡ true
-unfolding zeros
-zeros-replicate zero = refl
-zeros-replicate (suc k) = zeros-replicate k
 
 module _ (n : ℕ) where
   pub counter-behind : (counter : List ℕ) → length counter ≡ 8 → counterGood n Standard counter ≡ true → drop n counter ≡ replicate (8 - n) 0
@@ -109,7 +104,7 @@ module _ (n : ℕ) where
 
   pub behind-counter : (counter : List ℕ) → drop n counter ≡ replicate (8 - n) 0 → counterGood n Standard counter ≡ true
   unfolding counterGood
-  behind-counter counter e = ap zeros e ∙ zeros-replicate (8 - n)
+  behind-counter counter e = ap zeros e ∙ zeros-good (8 - n)
 
   pub counter-none : (kind : Kind) (counter : List ℕ) → standard kind ≡ false → length counter ≡ 8 → counterGood n kind counter ≡ true → counter ≡ replicate 8 0
   unfolding counterGood
@@ -120,8 +115,8 @@ module _ (n : ℕ) where
   pub none-counter : (kind : Kind) → standard kind ≡ false → counterGood n kind (replicate 8 0) ≡ true
   unfolding counterGood
   none-counter Standard k = true-is-not-false (sym k)
-  none-counter Cancellation k = zeros-replicate 8
-  none-counter Training k = zeros-replicate 8
+  none-counter Cancellation k = zeros-good 8
+  none-counter Training k = zeros-good 8
 
 pub standard-is : (kind : Kind) → standard kind ≡ true → kind ≡ Standard
 standard-is Standard e = refl
@@ -136,7 +131,7 @@ failed-bytes g l f z =
 
 pub failed-zero : signatureZero (record { failed = true; bytes = replicate 64 0 }) ≡ true
 unfolding signatureZero
-failed-zero = zeros-replicate 64
+failed-zero = zeros-good 64
 
 pub signed-zero : (bytes : List ℕ) → signatureZero (record { failed = false; bytes = bytes }) ≡ true
 unfolding signatureZero

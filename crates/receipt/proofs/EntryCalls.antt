@@ -14,11 +14,11 @@ use Rattle.primitives.specs.Bytes.{same}
 use Rattle.primitives.specs.Counter.{widthGood}
 use Rattle.primitives.proofs.Over.{over-nil, read-over, placed-room, placed-full, behind-room, behind-full}
 use Rattle.receipt.specs.Settings.{every, sized, SettingsLengths}
-use Rattle.receipt.specs.Payload.{payload, zeros, fieldsGood}
+use Rattle.receipt.specs.Payload.{payload, fieldsGood}
 use Rattle.receipt.specs.PayloadReading.{readFields}
-use Rattle.receipt.specs.Form.{parts, signedInput, signedForm, partsOfForm}
+use Rattle.receipt.specs.Form.{parts, signedInput, signedForm, partsOfForm, failureText}
 use Rattle.receipt.specs.FormReading.{found}
-use Rattle.receipt.specs.Compact.{signatureText, compact, signingInput, signatureZero, entryGood, preparable, spellable, prepared, spelled, signatureOf, spells, noEntry, entryOf, readEntry}
+use Rattle.receipt.specs.Compact.{signatureText, compact, signingInput, signatureZero, preparable, spellable, prepared, spelled, signatureOf, spells, noEntry, entryOf, readEntry}
 use Rattle.receipt.specs.declared.settings.Settings.{Settings}
 use Rattle.receipt.specs.declared.settings.Letters.the-variants.{Zero}
 use Rattle.receipt.specs.declared.form.Reading.{Reading}
@@ -28,15 +28,9 @@ use Rattle.receipt.specs.declared.entry.Entry.{Entry}
 use Rattle.primitives.proofs.Rows.{both}
 use Rattle.receipt.proofs.Written.{Sizes, payload-most}
 use Rattle.receipt.proofs.PayloadBytes.{payload-long}
-use Rattle.receipt.proofs.CodeTexts.{failureLetters, failure-letters}
 use Rattle.receipt.proofs.FormCalls.{lent-front, found-none, found-some}
 
--- ---- rows of tests
-
-one-more : (a b c d : Bool) → a && (b && (c && d)) ≡ (a && (b && c)) && d
-one-more true true c d = refl
-one-more true false c d = refl
-one-more false b c d = refl
+-- ---- which entries have a compact form
 
 -- what it takes to have a payload
 pub record Preparable (s : Settings) (n : ℕ) (f : PayloadFields) : Type 0 where
@@ -61,8 +55,8 @@ pub record Spellable (s : Settings) (n : ℕ) (e : Entry) : Type 0 where
   pub signature : signatureZero (e .signature) ≡ true
 
 pub spellable-is : (s : Settings) (n : ℕ) (e : Entry) → spellable s n e ≡ preparable s n (e .fields) && signatureZero (e .signature)
-unfolding spellable entryGood preparable
-spellable-is s n e = one-more (sized s) (widthGood n) (fieldsGood n (e .fields)) (signatureZero (e .signature))
+unfolding spellable
+spellable-is s n e = refl
 
 pub spellable-true : (s : Settings) (n : ℕ) (e : Entry) → spellable s n e ≡ true → Spellable s n e
 spellable-true s n e g =
@@ -79,8 +73,8 @@ unfolding prepared
 prepared-is s n f g = rw g
 
 pub spells-is : (s : Settings) (n : ℕ) (f : PayloadFields) (text : List ℕ) → spells s n f text ≡ preparable s n f && same (payload s n f) text
-unfolding spells preparable
-spells-is s n f text = one-more (sized s) (widthGood n) (fieldsGood n f) (same (payload s n f) text)
+unfolding spells
+spells-is s n f text = refl
 
 -- ---- the payload, in a buffer of 195 bytes
 
@@ -174,11 +168,6 @@ module _ (out : List ℕ) (at : ℕ) where
 
 -- ---- the signature
 
-every-zeros : (bs : List ℕ) → every Zero bs ≡ zeros bs
-unfolding every zeros
-every-zeros [] = refl
-every-zeros (b ∷ bs) = rw (every-zeros bs)
-
 module _ (g : Signature) where
   pub zero-whole : g .failed ≡ false → true ≡ signatureZero g
   unfolding signatureZero
@@ -186,15 +175,15 @@ module _ (g : Signature) where
 
   pub zero-failed : {r : Bool} → g .failed ≡ true → r ≡ every Zero (g .bytes) → r ≡ signatureZero g
   unfolding signatureZero
-  zero-failed e q = rw e (q ∙ every-zeros (g .bytes))
+  zero-failed e q = rw e q
 
   pub text-whole : g .failed ≡ false → g .bytes ≡ signatureText g
   unfolding signatureText
   text-whole e = rw e
 
-  pub text-failed : g .failed ≡ true → failureLetters ≡ signatureText g
+  pub text-failed : g .failed ≡ true → failureText ≡ signatureText g
   unfolding signatureText
-  text-failed e = rw e (sym failure-letters)
+  text-failed e = rw e
 
 module _ (p out : List ℕ) (at : ℕ) {t u : List ℕ} (e : t ≡ u) {r : ℕ} {out₁ : List ℕ} where
   pub signed-as : (r ≡ behind out at (signedForm (parts p t))) × (out₁ ≡ placed out at (signedForm (parts p t)))

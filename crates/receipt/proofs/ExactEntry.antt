@@ -14,12 +14,13 @@ use Rattle.primitives.specs.Base64.{encoding}
 use Rattle.primitives.specs.declared.base64.Alphabet.the-variants.{UrlSafe}
 use Rattle.primitives.proofs.ByteLists.{bytes-nil, bytes-cons, bytes-append, bytes-replicate, same-refl, same-true}
 use Rattle.primitives.proofs.Base64Laws.{encoding-bytes}
-use Rattle.receipt.specs.Settings.{SettingsLengths, SettingsBytes}
-use Rattle.receipt.specs.Payload.{payload, longestPayload, zeros}
+use Rattle.receipt.specs.Settings.{zeros, SettingsLengths, SettingsBytes}
+use Rattle.receipt.specs.Payload.{payload, longestPayload}
 use Rattle.receipt.specs.PayloadReading.{readFields}
-use Rattle.receipt.specs.Form.{Parts, parts, partsGood, PartsOfBytes, signedInput, signedForm, signatureGood, payloadGood, secondDot, partsOfForm, header, failureText}
+use Rattle.receipt.specs.Form.{Parts, parts, partsGood, PartsOfBytes, signedInput, signedForm, signatureGood, payloadGood, secondDot, partsOfForm, header, firstElement, failureText}
+use Rattle.receipt.specs.Texts.{beginning}
 use Rattle.receipt.specs.Compact.{signatureText, compact, signingInput, longestCompact, signatureZero, preparable, spellable, signatureOf, spells, noEntry, entryOf, entryOfParts, readEntry, TypedEntry}
-use Rattle.receipt.specs.Exact.{Exact, Back, OneSpelling, CompactIsShort, CompactIsLong, CompactIsBytes, CompactIsSigned, InputBeforeDot, FoundIsTyped}
+use Rattle.receipt.specs.Exact.{Exact, EntryIsReadBack, OneSpelling, CompactIsShort, CompactIsLong, CompactIsBytes, CompactIsSigned, InputBeforeDot, FoundIsTyped}
 use Rattle.receipt.specs.declared.settings.Settings.{Settings}
 use Rattle.receipt.specs.declared.payload.PayloadFields.{PayloadFields}
 use Rattle.receipt.specs.declared.entry.Signature.{Signature}
@@ -29,31 +30,13 @@ use Rattle.primitives.proofs.Rows.{both, true-is-not-false}
 use Rattle.receipt.proofs.Written.{payload-short}
 use Rattle.receipt.proofs.PayloadBytes.{payload-bytes, payload-begins, payload-long}
 use Rattle.receipt.proofs.PayloadBack.{payload-back, read-typed, blank-typed}
-use Rattle.receipt.proofs.CounterFields.{zeros-are}
-use Rattle.receipt.proofs.CodeTexts.{header-long, failureLetters, failure-letters, failure-long, payload-mark, signature-whole}
+use Rattle.receipt.proofs.Names.{zeros-are, zeros-good}
+use Rattle.receipt.proofs.Texts.{failure-long, failure-bytes, first-long}
+use Rattle.receipt.proofs.CodeTexts.{payload-mark, signature-whole}
 use Rattle.receipt.proofs.Forms.{form-back, form-only, form-short, form-good, form-bytes, form-dot, length-form}
 use Rattle.receipt.proofs.EntryCalls.{preparable-made, spellable-is, spellable-true, spells-is}
 
 -- ---- the signature and its text
-
--- every element of a list that is written out is a byte
-below : List ℕ → Bool
-below [] = true
-below (b ∷ bs) = ltb b 256 && below bs
-
-below-bytes : (bs : List ℕ) → below bs ≡ true → AllBytes bs
-unfolding below
-below-bytes [] e = bytes-nil
-below-bytes (b ∷ bs) e = let p = both (ltb b 256) (below bs) e in bytes-cons (ltb-true b 256 (p .0)) (below-bytes bs (p .1))
-
-failure-bytes : AllBytes failureText
-unfolding below
-failure-bytes = subst AllBytes (sym failure-letters) (below-bytes failureLetters refl)
-
-zeros-replicate : (n : ℕ) → zeros (replicate n 0) ≡ true
-unfolding zeros
-zeros-replicate zero = refl
-zeros-replicate (suc n) = zeros-replicate n
 
 no-failure : eqb (length failureText) 64 ≡ false
 no-failure = ne-eqb (length failureText) 64 (λ e. absurd (omega (arith, e, failure-long)))
@@ -109,16 +92,15 @@ signature-right text b e = go (eqb (length text) 64) refl e
         → Right text (cond t (record { failed = false; bytes = text }) (record { failed = true; bytes = replicate 64 0 }))
     go true q f = record { long = eqb-true (length text) 64 q; bytes = b; zero = refl; is = refl }
     go false q f =
-        record { long = refl; bytes = bytes-replicate 64 (omega arith); zero = zeros-replicate 64; is = sym (same-true text failureText f) }
+        record { long = refl; bytes = bytes-replicate 64 (omega arith); zero = zeros-good 64; is = sym (same-true text failureText f) }
 
 -- ---- the compact form
 
 pub payload-good : (s : Settings) (n : ℕ) (f : PayloadFields) → length (payload s n f) ≤ longestPayload → payloadGood (payload s n f) ≡ true
 payload-good s n f h =
-    let mark : List ℕ = 95 ∷ 82 ∷ 49 ∷ 45 ∷ [] in
     sym
     (payload-mark (payload s n f) (payload-long s n f) h
-    (sym (same-refl mark) ∙ ap (λ (l : List ℕ). same l mark) (sym (payload-begins s n f))))
+    (sym (same-refl beginning) ∙ ap (λ (l : List ℕ). same l beginning) (sym (payload-begins s n f))) refl)
 
 module _ (s : Settings) (n : ℕ) (e : Entry) where
   p : Parts
@@ -160,7 +142,7 @@ module _ (s : Settings) (n : ℕ) (e : Entry) where
           let w : spells s n f (payload s n f) ≡ true = spells-is s n f (payload s n f) ∙ rw (preparable-made s n f c) (same-refl (payload s n f)) in
           rw (o, r, w, signature-back (e .signature) (te .signature) (can .signature))
 
-pub back : Back
+pub back : EntryIsReadBack
 back s n e ts bs te g = back-of s n e te ts g bs
 
 pub compact-short : CompactIsShort
@@ -181,7 +163,7 @@ compact-signed s n e = append-assoc (signedInput (payload s n (e .fields))) (46 
 
 length-front : (xs : List ℕ) → length (signedInput xs) ≡ 21 + length (encoding UrlSafe xs)
 length-front xs =
-    omega (arith, length-append (encoding UrlSafe header ++ (46 ∷ [])) (encoding UrlSafe xs), length-append (encoding UrlSafe header) (46 ∷ []), header-long)
+    omega (arith, length-append firstElement (encoding UrlSafe xs), first-long)
 
 pub input-before-dot : InputBeforeDot
 unfolding signingInput p
@@ -253,9 +235,24 @@ found-typed s n text =
     found-typed-of s n (partsOfForm text)
     (λ q e. (both (payloadGood (q .payload)) (signatureGood (q .signature)) (form-good text q e) .1, form-bytes text q e .signature))
 
+-- nothing is found in a text that is refused
+refused : (s : Settings) (n : ℕ) (text : List ℕ) → readEntry s n text .ok ≡ false → readEntry s n text ≡ noEntry
+unfolding readEntry entryOf
+refused s n text = go (partsOfForm text)
+  where
+    go : (o : Option Parts) → entryOfParts s n o .ok ≡ false → entryOfParts s n o ≡ noEntry
+    go none h = refl
+    go (some q) h = try (spells s n (readFields s n (q .payload)) (q .payload)) h
+      where
+        try : (t : Bool) → cond t (record { ok = true; entry = record { fields = readFields s n (q .payload); signature = signatureOf (q .signature) } }) noEntry .ok ≡ false
+            → cond t (record { ok = true; entry = record { fields = readFields s n (q .payload); signature = signatureOf (q .signature) } }) noEntry ≡ noEntry
+        try true k = true-is-not-false (sym k)
+        try false k = refl
+
 pub exact : Exact
 unfolding found
 exact s n text ts bs b = (
   λ h. record { entry = found s n text; typed = found-typed s n text; spellable = sound s n text b h .0; is = sound s n text b h .1 },
   λ w. ap (readEntry s n) (w .is) ∙ back s n (w .entry) ts bs (w .typed) (w .spellable),
+  refused s n text,
 )

@@ -1,16 +1,16 @@
 -- Laws of finding a byte: the first from a place on, and the last.
 use Prim.Native.Nat.{ℕ, zero, suc, _+_, _-_, _≤_, _<_}
-use mathlib.Core.Path.{_≡_, refl, sym, _∙_}
+use mathlib.Core.Path.{_≡_, refl, sym, ap, _∙_}
 use mathlib.Core.Bool.{Bool, true, false, cond}
 use mathlib.Core.List.{List, [], _∷_, _++_}
 use native.Mathlib.Nat.{add-zero}
 use native.Mathlib.Numerals.{add-one}
 use native.Mathlib.Omega.{arith}
-use borrow.Author.Tests.{eq-eqb, ne-eqb, eqb-true}
+use borrow.Author.Tests.{eq-eqb, ne-eqb, eqb-true, eqb-false}
 use lib.Dec.{eqb}
-use lib.ListN.{length, getD, drop, length-append, length-drop, drop-of-length-le}
-use lib.Seq.{drop-cons, drop-at, getD-append-add, getD-at, getD-drop}
-use Rattle.receipt.specs.Form.{firstAt, nextAt}
+use lib.ListN.{length, getD, take, drop, length-append, length-take, length-drop, take-append-drop, drop-of-length-le}
+use lib.Seq.{drop-cons, drop-at, take-append-le, drop-append-le, length-take-le, getD-append-add, getD-at, getD-take, getD-drop}
+use Rattle.receipt.specs.Form.{firstAt, nextAt, part, Without}
 use Rattle.receipt.specs.Code.{lastBefore, lastAt}
 
 -- ---- the first
@@ -62,10 +62,16 @@ module _ (b : ℕ) (s : List ℕ) (from : ℕ) where
   next-is h =
       sym (getD-drop from s (firstAt b (drop from s)) 0) ∙ first-is b (drop from s) (omega (arith, length-drop from s))
 
--- ---- lists without a byte
+-- ---- parts
 
-pub record Without (b : ℕ) (s : List ℕ) : Type 0 where
-  pub at : (i : ℕ) → i < length s → getD s i 0 ≡ b → ⊥
+-- a part of the front is a part of the whole
+pub part-front : (s : List ℕ) (n a e : ℕ) → n ≤ length s → a ≤ e → e ≤ n → part a e (take n s) ≡ part a e s
+part-front s n a e h k l =
+    let m : length (take n s) ≡ n = length-take-le n s h in
+    sym (take-append-le (e - a) (drop a (take n s)) (drop n s) (omega (arith, length-drop a (take n s))))
+    ∙ ap (take (e - a)) (sym (drop-append-le a (take n s) (drop n s) (omega arith)) ∙ ap (drop a) (take-append-drop n s))
+
+-- ---- lists without a byte
 
 without-tail : {b x : ℕ} {s : List ℕ} → Without b (x ∷ s) → Without b s
 without-tail w = record { at = λ i h e. w .at (suc i) (omega arith) e }
@@ -74,6 +80,25 @@ first-without : (b : ℕ) (xs ys : List ℕ) → Without b xs → firstAt b (xs 
 unfolding firstAt
 first-without b [] ys w = rw (eq-eqb b b refl)
 first-without b (x ∷ xs) ys w = rw (ne-eqb x b (w .at 0 (omega arith)), first-without b xs ys (without-tail w))
+
+-- none stands before the first
+first-before : (b : ℕ) (s : List ℕ) (i : ℕ) → i < firstAt b s → getD s i 0 ≡ b → ⊥
+unfolding firstAt
+first-before b [] i h q = absurd (omega arith)
+first-before b (x ∷ s) i h q = go (first-before b s) (eqb x b) refl i h q
+  where
+    go : ((j : ℕ) → j < firstAt b s → getD s j 0 ≡ b → ⊥) → (t : Bool) → eqb x b ≡ t → (i : ℕ) → i < cond t 0 (suc (firstAt b s)) → getD (x ∷ s) i 0 ≡ b → ⊥
+    go f true e i k q = absurd (omega arith)
+    go f false e zero k q = eqb-false x b e q
+    go f false e (suc i) k q = f i (omega arith) q
+
+-- nor from a place on up to the next
+pub part-without : (b : ℕ) (s : List ℕ) (from : ℕ) → Without b (part from (nextAt b s from) s)
+unfolding nextAt
+part-without b s from =
+    let t : List ℕ = drop from s in
+    let n : ℕ = from + firstAt b t - from in
+    record { at = λ i h q. first-before b t i (omega (arith, length-take n t)) (sym (getD-take n t i 0 (omega (arith, length-take n t))) ∙ q) }
 
 -- behind a front and a list without it, the next b is the one that follows
 pub next-without : (b : ℕ) (front xs ys : List ℕ) (from : ℕ) → length front ≡ from → Without b xs

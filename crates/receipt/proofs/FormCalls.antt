@@ -20,10 +20,11 @@ use Rattle.primitives.proofs.ByteLists.{same-length}
 use Rattle.primitives.proofs.Questions.{yes, no}
 use Rattle.primitives.proofs.Base64Lengths.{length-encoding}
 use Rattle.receipt.specs.declared.form.Reading.{Reading}
-use Rattle.receipt.specs.Form.{nextAt, part, Parts, parts, payloadGood, signatureGood, signedInput, signedForm, secondDot, partsOfForm, header}
+use Rattle.receipt.specs.Form.{nextAt, part, Parts, parts, payloadGood, signatureGood, signedInput, signedForm, secondDot, partsOfForm, header, firstElement}
 use Rattle.receipt.specs.FormReading.{short, nothing, found}
 use Rattle.receipt.proofs.Finding.{next-from}
-use Rattle.receipt.proofs.CodeTexts.{headerLetters, header-letters, header-long, read-parts}
+use Rattle.receipt.proofs.Texts.{first-long}
+use Rattle.receipt.proofs.CodeTexts.{read-parts}
 use Rattle.receipt.proofs.Forms.{dot-inverted, length-form}
 
 -- a part that is lent from the start, and one up to the end
@@ -89,17 +90,17 @@ module _ (form : List ℕ) where
   pub dot-short : length form < 21 → length form ≡ secondDot form
   unfolding secondDot
   dot-short h =
-      let n : length (take 21 form) ≡ length (encoding UrlSafe header ++ (46 ∷ [])) → ⊥ =
-      λ e. omega (arith, e, ap length (take-all 21 form (omega arith)), length-append (encoding UrlSafe header) (46 ∷ []), header-long) in
-      rw (same-length (take 21 form) (encoding UrlSafe header ++ (46 ∷ [])) n)
+      let n : length (take 21 form) ≡ length firstElement → ⊥ =
+      λ e. omega (arith, e, ap length (take-all 21 form (omega arith)), first-long) in
+      rw (same-length (take 21 form) firstElement n)
 
-  pub dot-other : same (take 21 form) (headerLetters ++ (46 ∷ [])) ≡ false → length form ≡ secondDot form
+  pub dot-other : {first : List ℕ} → first ≡ firstElement → same (take 21 form) first ≡ false → length form ≡ secondDot form
   unfolding secondDot
-  dot-other e = rw (header-letters, e)
+  dot-other f e = rw (ap (same (take 21 form)) (sym f) ∙ e)
 
-  pub dot-next : same (take 21 form) (headerLetters ++ (46 ∷ [])) ≡ true → nextAt 46 form 21 ≡ secondDot form
+  pub dot-next : {first : List ℕ} → first ≡ firstElement → same (take 21 form) first ≡ true → nextAt 46 form 21 ≡ secondDot form
   unfolding secondDot
-  dot-next e = rw (header-letters, e)
+  dot-next f e = rw (ap (same (take 21 form)) (sym f) ∙ e)
 
   -- the second element starts at 21
   pub dot-from : {e : ℕ} → e ≡ secondDot form → e < length form → 21 ≤ e
@@ -175,31 +176,19 @@ module _ (s out : List ℕ) where
 
 pub length-input : (p : List ℕ) → length (signedInput p) ≡ 21 + (length p * 4 + 2) / 3
 length-input p =
-    omega (
-      arith,
-      length-append (encoding UrlSafe header ++ (46 ∷ [])) (encoding UrlSafe p),
-      length-append (encoding UrlSafe header) (46 ∷ []),
-      header-long,
-      length-encoding UrlSafe p,
-    )
+    omega (arith, length-append firstElement (encoding UrlSafe p), first-long, length-encoding UrlSafe p)
 
-module _ (p out : List ℕ) (at : ℕ) (h : at + (21 + (length p * 4 + 2) / 3) ≤ length out) {out₁ : List ℕ} (e₁ : out₁ ≡ placed out at headerLetters) where
-  -- room for the second element
-  pub room-second : at + 20 + length ((46 ∷ []) ++ encoding UrlSafe p) ≤ length out₁
-  room-second = omega (arith, length-encoding UrlSafe p, ap length e₁, length-placed out at headerLetters)
-
-  pub put-signed-input : {r : ℕ} {out₂ : List ℕ}
-      → (r ≡ at + 20 + length ((46 ∷ []) ++ encoding UrlSafe p)) × (out₂ ≡ overwrite out₁ (at + 20) ((46 ∷ []) ++ encoding UrlSafe p))
+module _ (p out : List ℕ) (at : ℕ) (h : at + (21 + (length p * 4 + 2) / 3) ≤ length out) {out₁ out₂ : List ℕ} {r : ℕ} where
+  pub put-signed-input : {f : List ℕ} → f ≡ firstElement → out₁ ≡ placed out at f → r ≡ behind out₁ (at + 21) (encoding UrlSafe p) → out₂ ≡ placed out₁ (at + 21) (encoding UrlSafe p)
       → (r ≡ behind out at (signedInput p)) × (out₂ ≡ placed out at (signedInput p))
-  put-signed-input {r} {out₂} e₂ =
-      let t : List ℕ = encoding UrlSafe header in
-      let a : List ℕ = (46 ∷ []) ++ encoding UrlSafe p in
+  put-signed-input e e₁ f e₂ =
       let l : length (signedInput p) ≡ 21 + (length p * 4 + 2) / 3 = length-input p in
+      let m : length (encoding UrlSafe p) ≡ (length p * 4 + 2) / 3 = length-encoding UrlSafe p in
       let k : at + length (signedInput p) ≤ length out = omega arith in
-      let w₁ : out₁ ≡ overwrite out at t = e₁ ∙ ap (placed out at) (sym header-letters) ∙ placed-room out at t (omega (arith, header-long)) in
-      let w₂ : out₂ ≡ overwrite out at (t ++ a) = then out t a at (at + 20) w₁ (e₂ .1) (omega (arith, header-long)) (omega (arith, header-long)) in (
-        omega (arith, e₂ .0, length-encoding UrlSafe p, behind-room out at (signedInput p) k),
-        w₂ ∙ ap (overwrite out at) (sym (append-assoc t (46 ∷ []) (encoding UrlSafe p))) ∙ sym (placed-room out at (signedInput p) k),
+      let w₁ : out₁ ≡ overwrite out at firstElement = e₁ ∙ ap (placed out at) e ∙ placed-room out at firstElement (omega (arith, first-long)) in
+      let n : length out₁ ≡ length out = ap length w₁ ∙ length-over out at firstElement (omega (arith, first-long)) in (
+        f ∙ behind-room out₁ (at + 21) (encoding UrlSafe p) (omega arith) ∙ omega arith ∙ sym (behind-room out at (signedInput p) k),
+        put-next out firstElement (encoding UrlSafe p) at w₁ e₂ (omega (arith, first-long)) (omega (arith, first-long)) ∙ sym (placed-room out at (signedInput p) k),
       )
 
 module _ (p s out : List ℕ) (at : ℕ) (h : at + (22 + (length p * 4 + 2) / 3 + (length s * 4 + 2) / 3) ≤ length out) {r : ℕ} {out₁ : List ℕ}

@@ -15,10 +15,11 @@ use Rattle.primitives.specs.declared.base64.Alphabet.the-variants.{UrlSafe}
 use Rattle.primitives.proofs.ByteLists.{bytes-take, bytes-drop, same-refl, same-true}
 use Rattle.primitives.proofs.Base64Lengths.{length-encoding}
 use Rattle.primitives.proofs.Base64Laws.{no-dot, decode-encode, encode-decode, decoded-bytes}
-use Rattle.receipt.specs.Form.{nextAt, part, Parts, partsGood, PartsOfBytes, signedForm, goodParts, secondDot, partsOfForm, header}
-use Rattle.receipt.specs.CodeLaws.{FormIsRead, FormIsOne, FormIsShort}
-use Rattle.receipt.proofs.Finding.{Without, next-is, next-from, next-without}
-use Rattle.receipt.proofs.CodeTexts.{header-long, good-payload, good-signature, good-some, Inverted, good-inverted}
+use Rattle.receipt.specs.Form.{nextAt, part, Without, Parts, partsGood, PartsOfBytes, signedForm, goodParts, secondDot, partsOfForm, header, firstElement}
+use Rattle.receipt.specs.CodeLaws.{FormIsExact, FormIsShort}
+use Rattle.receipt.proofs.Finding.{next-is, next-from, next-without}
+use Rattle.receipt.proofs.Texts.{first-long}
+use Rattle.receipt.proofs.CodeTexts.{good-payload, good-signature, good-some, Inverted, good-inverted, exactly}
 
 -- a choice that gave parts
 pub chosen : (t : Bool) (o : Option Parts) {p : Parts} → cond t o none ≡ some p → (t ≡ true) × (o ≡ some p)
@@ -26,13 +27,6 @@ chosen true o e = (refl, e)
 chosen false o e = let z : _≡_ {A = ℕ} 0 1 = cc in absurd (omega arith)
 
 -- ---- compact form
-
--- the first element with its "."
-abbrev front : List ℕ
-front = encoding UrlSafe header ++ (46 ∷ [])
-
-front-long : length front ≡ 21
-front-long = omega (arith, length-append (encoding UrlSafe header) (46 ∷ []), header-long)
 
 regroup : (h x y : List ℕ) → h ++ (46 ∷ []) ++ x ++ (46 ∷ []) ++ y ≡ (h ++ (46 ∷ [])) ++ (x ++ (46 ∷ y))
 regroup h x y = simp append-assoc
@@ -65,15 +59,15 @@ module _ (p : Parts) where
   y : List ℕ
   y = encoding UrlSafe (p .signature)
 
-  form-is : signedForm p ≡ front ++ (x ++ (46 ∷ y))
+  form-is : signedForm p ≡ firstElement ++ (x ++ (46 ∷ y))
   unfolding signedForm x y
   form-is = regroup (encoding UrlSafe header) x y
 
-  dot-is : secondDot (front ++ (x ++ (46 ∷ y))) ≡ 21 + length x
+  dot-is : secondDot (firstElement ++ (x ++ (46 ∷ y))) ≡ 21 + length x
   unfolding secondDot x y
   dot-is =
-      rw (take-at front (x ++ (46 ∷ y)) 21 front-long, same-refl front)
-      (next-without 46 front x y 21 front-long (dotless (p .payload)))
+      rw (take-at firstElement (x ++ (46 ∷ y)) 21 first-long, same-refl firstElement)
+      (next-without 46 firstElement x y 21 first-long (dotless (p .payload)))
 
   -- the second "." stands behind the payload's element
   pub form-dot : secondDot (signedForm p) ≡ 21 + length (encoding UrlSafe (p .payload))
@@ -81,32 +75,32 @@ module _ (p : Parts) where
   form-dot = ap secondDot form-is ∙ dot-is
 
   -- good parts of bytes are read back from their compact form
-  form-back-of : partsGood p ≡ true → PartsOfBytes p → partsOfForm (signedForm p) ≡ some p
+  pub form-back : partsGood p ≡ true → PartsOfBytes p → partsOfForm (signedForm p) ≡ some p
   unfolding partsOfForm x y
-  form-back-of g b =
-      let t : List ℕ = front ++ (x ++ (46 ∷ y)) in
-      let l : secondDot t < length t = omega (arith, dot-is, spread front x y front-long) in
-      rw (form-is, lt-ltb (secondDot t) (length t) l, second front x y front-long (secondDot t) dot-is, third front x y front-long (secondDot t) dot-is, decode-encode UrlSafe (p .payload) (b .payload), decode-encode UrlSafe (p .signature) (b .signature))
+  form-back g b =
+      let t : List ℕ = firstElement ++ (x ++ (46 ∷ y)) in
+      let l : secondDot t < length t = omega (arith, dot-is, spread firstElement x y first-long) in
+      rw (form-is, lt-ltb (secondDot t) (length t) l, second firstElement x y first-long (secondDot t) dot-is, third firstElement x y first-long (secondDot t) dot-is, decode-encode UrlSafe (p .payload) (b .payload), decode-encode UrlSafe (p .signature) (b .signature))
       (good-some p g)
 
   pub length-form : length (signedForm p) ≡ 22 + (length (p .payload) * 4 + 2) / 3 + (length (p .signature) * 4 + 2) / 3
   unfolding x y
   length-form =
       ap length form-is
-      ∙ omega (arith, spread front x y front-long, length-encoding UrlSafe (p .payload), length-encoding UrlSafe (p .signature))
+      ∙ omega (arith, spread firstElement x y first-long, length-encoding UrlSafe (p .payload), length-encoding UrlSafe (p .signature))
 
   form-short-of : partsGood p ≡ true → length (signedForm p) ≤ 368
   form-short-of g = omega (arith, length-form, good-payload p g, good-signature p g)
 
 -- where there is a second dot, the first element is the header's
 module _ (t : List ℕ) where
-  pub dot-inverted : secondDot t < length t → (take 21 t ≡ front) × (secondDot t ≡ nextAt 46 t 21)
+  pub dot-inverted : secondDot t < length t → (take 21 t ≡ firstElement) × (secondDot t ≡ nextAt 46 t 21)
   unfolding secondDot
-  dot-inverted h = go (same (take 21 t) front) refl h
+  dot-inverted h = go (same (take 21 t) firstElement) refl h
     where
-      go : (b : Bool) → same (take 21 t) front ≡ b → cond b (nextAt 46 t 21) (length t) < length t
-          → (take 21 t ≡ front) × (cond b (nextAt 46 t 21) (length t) ≡ nextAt 46 t 21)
-      go true e k = (same-true (take 21 t) front e, refl)
+      go : (b : Bool) → same (take 21 t) firstElement ≡ b → cond b (nextAt 46 t 21) (length t) < length t
+          → (take 21 t ≡ firstElement) × (cond b (nextAt 46 t 21) (length t) ≡ nextAt 46 t 21)
+      go true e k = (same-true (take 21 t) firstElement e, refl)
       go false e k = absurd (omega arith)
 
   -- cut at a place where b stands
@@ -146,8 +140,8 @@ module _ (t : List ℕ) where
       third-is = encode-decode UrlSafe (drop (secondDot t + 1) t) (p .signature) (bytes-drop (secondDot t + 1) b) (form-inverted .1 .signature)
 
     -- an accepted text is the compact form of its parts
-    form-only-of : AllBytes t → t ≡ signedForm p
-    form-only-of b =
+    pub form-only : AllBytes t → t ≡ signedForm p
+    form-only b =
         let k : ℕ = secondDot t in
         let h : k < length t = form-inverted .0 in
         let n : k ≡ nextAt 46 t 21 = dot-inverted h .1 in
@@ -160,11 +154,11 @@ module _ (t : List ℕ) where
 
 -- ---- the laws
 
-pub form-back : FormIsRead
-form-back = form-back-of
-
-pub form-only : FormIsOne
-form-only = form-only-of
+pub form-exact : FormIsExact
+form-exact t b =
+    exactly signedForm t (partsOfForm t)
+    (λ p e. record { good = form-good t p e; bytes = form-bytes t p e; is = form-only t p e b })
+    (λ p w. ap partsOfForm (w .is) ∙ form-back p (w .good) (w .bytes))
 
 pub form-short : FormIsShort
 form-short = form-short-of

@@ -1,3 +1,4 @@
+pub mod Below
 pub mod Cents
 pub mod Chains
 pub mod CodeCalls
@@ -13,6 +14,7 @@ pub mod ExactEntry
 pub mod Finding
 pub mod FormCalls
 pub mod Forms
+pub mod IdFields
 pub mod Joined
 pub mod Loose
 pub mod Marks
@@ -22,4 +24,5 @@ pub mod PaperCases
 pub mod PayloadBack
 pub mod PayloadBytes
 pub mod Signs
+pub mod Texts
 pub mod Written

@@ -14,7 +14,6 @@ use lib.Seq.{getD-drop, drop-cons, take-all}
 use Rattle.receipt.specs.Decimal.{valueOf}
 use Rattle.receipt.specs.DateTime.{readDate}
 use Rattle.receipt.specs.Separated.{after, skip, At, readAmounts}
-use Rattle.receipt.specs.Payload.{zeros}
 use Rattle.receipt.specs.PayloadReading.{fieldWidth, kindOf, readCounter, readChain, readDetails, readable, Placed, foundIn, blank, readFields}
 use Rattle.receipt.specs.declared.datetime.DateTime.{DateTime}
 use Rattle.receipt.specs.declared.details.Kind.{Kind}
@@ -23,23 +22,6 @@ use Rattle.receipt.specs.declared.details.Details.{Details}
 use Rattle.receipt.specs.declared.settings.Settings.{Settings}
 use Rattle.receipt.specs.declared.payload.Places.{Places}
 use Rattle.primitives.proofs.Rows.{both, and-no, and-yes}
-
--- ---- the loop that looks for a byte that is not zero
-
-zeros-here : (b : List ℕ) (i : ℕ) → i < length b → drop i b ≡ getD b i 0 ∷ drop (i + 1) b
-zeros-here b i h = drop-cons b i 0 h ∙ ap (λ (k : ℕ). getD b i 0 ∷ drop k b) (sym (add-one i))
-
-pub zeros-no : (b : List ℕ) (i : ℕ) → i < length b → (getD b i 0 ≡ 0 → ⊥) → zeros (drop i b) ≡ false
-unfolding zeros
-zeros-no b i h n = ap zeros (zeros-here b i h) ∙ rw (ne-eqb (getD b i 0) 0 n)
-
-pub zeros-yes : (b : List ℕ) (i : ℕ) → i < length b → getD b i 0 ≡ 0 → zeros (drop i b) ≡ zeros (drop (i + 1) b)
-unfolding zeros
-zeros-yes b i h e = ap zeros (zeros-here b i h) ∙ rw (eq-eqb (getD b i 0) 0 e)
-
-pub zeros-end : (b : List ℕ) (i : ℕ) → length b ≤ i → zeros (drop i b) ≡ true
-unfolding zeros
-zeros-end b i h = ap zeros (drop-of-length-le b h)
 
 -- ---- places
 

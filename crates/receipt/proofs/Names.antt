@@ -11,6 +11,8 @@ use lib.Dec.{leb, eqb}
 use lib.ListN.{length, getD, take, drop, replicate, drop-of-length-le, length-take, length-drop, length-replicate, take-append-drop, replicate-append-replicate}
 use lib.Seq.{drop-cons, take-all, take-at, drop-at, length-take-le}
 use Rattle.primitives.specs.Bytes.{AllBytes}
+use Rattle.primitives.specs.Counter.{widthGood}
+use Rattle.primitives.specs.Questions.{ask}
 use Rattle.primitives.specs.Place.{overwrite, placed}
 use Rattle.primitives.proofs.ByteLists.{bytes-nil, bytes-cons}
 use Rattle.primitives.proofs.Over.{placed-room}
@@ -19,9 +21,9 @@ use Rattle.receipt.specs.declared.settings.Name.{Name}
 use Rattle.receipt.specs.declared.settings.Settings.{Settings}
 use Rattle.receipt.specs.declared.settings.Letters.{Letters}
 use Rattle.receipt.specs.declared.settings.Letters.the-variants.{Id, Serial, Zero}
-use Rattle.receipt.specs.Settings.{between, idLetter, serialLetter, letterGood, every, nameText, nameGood, nameOf, cspGood, idGood, serialGood, settingsGood, sized}
+use Rattle.receipt.specs.Settings.{between, idLetter, serialLetter, letterGood, every, nameText, nameGood, nameOf, cspGood, idGood, serialGood, settingsGood, settingsNumber, sized}
 use Rattle.primitives.proofs.Questions.{yes, no}
-use Rattle.primitives.proofs.Rows.{both}
+use Rattle.primitives.proofs.Rows.{both, ask-zero, ask-yes, ask-no}
 
 -- ---- the loop over the bytes of one class, at the place i
 
@@ -115,11 +117,11 @@ letters-no-mark class (b ∷ t) e zero q = letter-is class b (every-both class b
 letters-no-mark class (b ∷ t) e (suc i) q = letters-no-mark class t (every-both class b t e .1) i q
 
 -- zeros are zeros
-zeros-are : (t : List ℕ) → every Zero t ≡ true → t ≡ replicate (length t) 0
+pub zeros-are : (t : List ℕ) → every Zero t ≡ true → t ≡ replicate (length t) 0
 zeros-are [] e = refl
 zeros-are (b ∷ t) e = let p = every-both Zero b t e in (λ i. eqb-true b 0 (p .0) i ∷ zeros-are t (p .1) i)
 
-zeros-good : (n : ℕ) → every Zero (replicate n 0) ≡ true
+pub zeros-good : (n : ℕ) → every Zero (replicate n 0) ≡ true
 unfolding every
 zeros-good zero = refl
 zeros-good (suc n) = zeros-good n
@@ -182,6 +184,20 @@ good-of class t = go (leb (length t) 32) refl
         rw (text-of t h, z, and-true (every class t))
     go false e = refl
 
+-- what stands from a place on, whether or not the place is within the list
+pub drop-lesser : (at : ℕ) (b : List ℕ) {n k : ℕ} → length b ≡ k → n ≡ min at k → take (k - n) (drop n b) ≡ drop at b
+drop-lesser at b {n} {k} l e = go (leb at k) refl
+  where
+    go : (t : Bool) → leb at k ≡ t → take (k - n) (drop n b) ≡ drop at b
+    go true t =
+        let s : n ≡ at = omega (arith, leb-true at k t) in
+        take-all (k - n) (drop n b) (omega (arith, length-drop n b)) ∙ ap (λ (m : ℕ). drop m b) s
+    go false t =
+        let g : k < at = leb-false at k t in
+        let h : length b ≤ at = omega arith in
+        let j : length b ≤ n = omega arith in
+        ap (take (k - n)) (drop-of-length-le b j) ∙ take-all (k - n) [] (omega arith) ∙ sym (drop-of-length-le b h)
+
 -- ---- a text that is copied into an array of zeros
 
 -- the part of a list up to n or its end, whichever comes first
@@ -237,3 +253,40 @@ good-sized s e =
 
 csp-byte : (low high b : ℕ) → high < 256 → between low high b ≡ true → b < 256
 csp-byte low high b h e = omega (arith, between-true low high b e .1)
+
+-- ---- questions 1 to 4 in a row
+
+-- the questions after these decide where all four answers are yes
+pub settings-yes : (s : Settings) (n rest : ℕ) → settingsGood s ≡ true → widthGood n ≡ true → settingsNumber s n rest ≡ rest
+unfolding settingsGood settingsNumber
+settings-yes s n rest g w =
+    let a = both (cspGood (s .csp)) (idGood (s .id) && serialGood (s .serial)) g in
+    let b = both (idGood (s .id)) (serialGood (s .serial)) (a .1) in
+    ask-yes 1 _ (a .0) ∙ ask-yes 2 _ (b .0) ∙ ask-yes 3 _ (b .1) ∙ ask-yes 4 rest w
+
+pub settings-zero : (s : Settings) (n rest : ℕ) → settingsNumber s n rest ≡ 0 → (settingsGood s ≡ true) × (widthGood n ≡ true) × (rest ≡ 0)
+unfolding settingsGood settingsNumber
+settings-zero s n rest e =
+    let a = ask-zero (cspGood (s .csp)) 0 (ask (idGood (s .id)) 2 (ask (serialGood (s .serial)) 3 (ask (widthGood n) 4 rest))) e in
+    let b = ask-zero (idGood (s .id)) 1 (ask (serialGood (s .serial)) 3 (ask (widthGood n) 4 rest)) (a .1) in
+    let d = ask-zero (serialGood (s .serial)) 2 (ask (widthGood n) 4 rest) (b .1) in
+    let w = ask-zero (widthGood n) 3 rest (d .1) in
+    (rw (a .0, b .0, d .0), w .0, w .1)
+
+pub settings-pass : (s : Settings) (n rest : ℕ) → settingsNumber s n 0 ≡ 0 → settingsNumber s n rest ≡ rest
+settings-pass s n rest e = let z = settings-zero s n 0 e in settings-yes s n rest (z .0) (z .1)
+
+-- a question whose rest counts only where its answer is yes
+rest-of : (b : Bool) (n rest other : ℕ) → (b ≡ true → rest ≡ other) → ask b n rest ≡ ask b n other
+rest-of true n rest other h = ap (ask true n) (h refl)
+rest-of false n rest other h = ask-no n rest refl ∙ sym (ask-no n other refl)
+
+-- a row that says no before its end says the same before every rest
+pub settings-stop : (s : Settings) (n rest : ℕ) → (settingsNumber s n 0 ≡ 0 → ⊥) → settingsNumber s n rest ≡ settingsNumber s n 0
+unfolding settingsNumber
+settings-stop s n rest h =
+    rest-of (cspGood (s .csp)) 1 _ _
+    (λ a. rest-of (idGood (s .id)) 2 _ _
+    (λ b. rest-of (serialGood (s .serial)) 3 _ _
+    (λ d. rest-of (widthGood n) 4 rest 0
+    (λ w. absurd (h (ask-yes 1 _ a ∙ ask-yes 2 _ b ∙ ask-yes 3 _ d ∙ ask-yes 4 0 w))))))

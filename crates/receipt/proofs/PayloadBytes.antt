@@ -12,6 +12,8 @@ use Rattle.primitives.proofs.Base64Laws.{encoding-bytes}
 use Rattle.primitives.proofs.Each.{Each, none-left, one-more}
 use Rattle.receipt.specs.Settings.{nameText, SettingsBytes}
 use Rattle.receipt.specs.Amount.{amountsText}
+use Rattle.receipt.specs.Texts.{beginning}
+use Rattle.receipt.proofs.Texts.{beginning-long, beginning-bytes}
 use Rattle.receipt.specs.Payload.{registerPart, moment, counterField, closing, body, payload}
 use Rattle.receipt.specs.declared.datetime.DateTime.{DateTime}
 use Rattle.receipt.specs.declared.settings.Name.{Name}
@@ -40,7 +42,7 @@ unfolding registerPart
 register-bytes s p =
     bytes-append
     (bytes-append
-    (bytes-cons (omega arith) (bytes-cons (omega arith) (bytes-cons (omega arith) (bytes-cons (omega arith) bytes-nil))))
+    beginning-bytes
     (field-bytes (p .csp)))
     (field-bytes (name-bytes (s .id) (p .id)))
 
@@ -68,10 +70,10 @@ payload-bytes s n f p =
     (bytes-append (moment-bytes (f .details .number) (f .details .date)) (amounts-bytes (f .details .amounts)))
     (closing-bytes s n f p))
 
-pub payload-begins : (s : Settings) (n : ℕ) (f : PayloadFields) → take 4 (payload s n f) ≡ 95 ∷ 82 ∷ 49 ∷ 45 ∷ []
-unfolding payload registerPart
+pub payload-begins : (s : Settings) (n : ℕ) (f : PayloadFields) → take 4 (payload s n f) ≡ beginning
+unfolding payload registerPart beginning
 payload-begins s n f = refl
 
 pub payload-long : (s : Settings) (n : ℕ) (f : PayloadFields) → 4 ≤ length (payload s n f)
 unfolding payload registerPart
-payload-long s n f = simp length-append (omega arith)
+payload-long s n f = simp length-append (omega (arith, beginning-long))

@@ -18,6 +18,8 @@ use Rattle.receipt.specs.DateTime.{dateGood, dateText}
 use Rattle.receipt.specs.Settings.{nameText, sized, SettingsLengths}
 use Rattle.receipt.specs.Details.{amountsGood}
 use Rattle.receipt.specs.Amount.{amountsText}
+use Rattle.receipt.specs.Texts.{beginning, cancellationText, trainingText}
+use Rattle.receipt.proofs.Texts.{beginning-long, cancellation-long, training-long}
 use Rattle.receipt.specs.Payload.{base64, registerPart, moment, counterContent, counterField, closing, body, payload, longestPayload, counterGood, fieldsGood, TypedFields}
 use Rattle.receipt.specs.declared.datetime.DateTime.{DateTime}
 use Rattle.receipt.specs.declared.details.Kind.{Kind}
@@ -67,16 +69,16 @@ sized-short s e =
 module _ (s : Settings) (three : length (s .csp) ≡ 3) (whole : length (s .id .bytes) ≡ 32) (short : s .id .len ≤ 32) where
   pub length-register : length (registerPart s) ≡ 9 + s .id .len
   unfolding registerPart
-  length-register = let l = length-name (s .id) whole short in simp length-append (omega arith)
+  length-register = let l = length-name (s .id) whole short in simp length-append (omega (arith, beginning-long))
 
-  pub put-register : (b : List ℕ) (at : ℕ) {b₁ b₂ b₃ : List ℕ} → at + (9 + s .id .len) ≤ length b
-      → b₁ ≡ overwrite b at (95 ∷ 82 ∷ 49 ∷ 45 ∷ []) → b₂ ≡ overwrite b₁ (at + 4) (s .csp ++ (95 ∷ []))
+  pub put-register : (b : List ℕ) (at : ℕ) {begin b₁ b₂ b₃ : List ℕ} → at + (9 + s .id .len) ≤ length b
+      → begin ≡ beginning → b₁ ≡ overwrite b at begin → b₂ ≡ overwrite b₁ (at + 4) (s .csp ++ (95 ∷ []))
       → b₃ ≡ overwrite b₂ (at + 8) (take (s .id .len - 0) (drop 0 (s .id .bytes)) ++ (95 ∷ [])) → b₃ ≡ overwrite b at (registerPart s)
   unfolding registerPart
-  put-register b at {b₁} {b₂} room e₁ e₂ e₃ =
+  put-register b at {begin} {b₁} {b₂} room e e₁ e₂ e₃ =
       let l = length-name (s .id) whole short in
-      let q₂ = then _ _ _ _ _ e₁ e₂ refl (omega arith) in
-      then _ _ _ _ _ q₂ (e₃ ∙ ap (overwrite b₂ (at + 8)) (named (s .id))) (simp length-append (omega arith)) (simp length-append (omega arith))
+      let q₂ = then _ _ _ _ _ (e₁ ∙ ap (overwrite b at) e) e₂ (omega (arith, beginning-long)) (omega (arith, beginning-long)) in
+      then _ _ _ _ _ q₂ (e₃ ∙ ap (overwrite b₂ (at + 8)) (named (s .id))) (simp length-append (omega (arith, beginning-long))) (simp length-append (omega (arith, beginning-long)))
 
 -- ---- number and date
 
@@ -168,8 +170,8 @@ amounts-short (z ∷ zs) e =
 counter-short : (n : ℕ) (kind : Kind) (counter : List ℕ) → length counter ≡ 8 → length (counterField n kind counter) ≤ 12
 unfolding counterField counterContent
 counter-short n Standard counter e = omega (arith, length-base64 (take n counter), length-take n counter)
-counter-short n Cancellation counter e = omega (arith, length-base64 (83 ∷ 84 ∷ 79 ∷ []))
-counter-short n Training counter e = omega (arith, length-base64 (84 ∷ 82 ∷ 65 ∷ []))
+counter-short n Cancellation counter e = omega (arith, length-base64 cancellationText, cancellation-long)
+counter-short n Training counter e = omega (arith, length-base64 trainingText, training-long)
 
 -- what the test of the fields says
 pub record Good (n : ℕ) (f : PayloadFields) : Type 0 where

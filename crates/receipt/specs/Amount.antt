@@ -1,24 +1,26 @@
 -- Amounts in cents: "'-' only below zero, euros without leading zeros, ',', two digits".
 use Prim.Native.Nat.{ℕ, suc, _/_}
+use Prim.Native.Char.{code}
 use mathlib.Core.Bool.{Bool, cond}
 use mathlib.Core.List.{List, [], _∷_, _++_}
 use lib.Dec.{leb, eqb}
 use lib.IntN.{ℤ, pos, negsuc, natAbs, negℤ}
 use lib.ListN.{getD}
 use Rattle.receipt.specs.Decimal.{fixed, digits, valueOf}
+use Rattle.receipt.specs.Texts.{separator}
 
 -- cents without a sign
 unfoldable pub cents : ℕ → List ℕ
-cents m = digits (m / 100) ++ (44 ∷ []) ++ fixed 2 m
+cents m = digits (m / 100) ++ (code "," ∷ []) ++ fixed 2 m
 
 unfoldable pub amount : ℤ → List ℕ
 amount (pos m) = cents m
-amount (negsuc m) = (45 ∷ []) ++ cents (suc m)
+amount (negsuc m) = (code "-" ∷ []) ++ cents (suc m)
 
 -- amounts, each with a '_' behind it
 unfoldable pub amountsText : List ℤ → List ℕ
 amountsText [] = []
-amountsText (z ∷ zs) = (amount z ++ (95 ∷ [])) ++ amountsText zs
+amountsText (z ∷ zs) = (amount z ++ (separator ∷ [])) ++ amountsText zs
 
 -- "each from -9,999,999,999 to 9,999,999,999"
 abbrev pub amountLimit : ℕ
@@ -30,4 +32,4 @@ withinLimit z = leb (natAbs z) amountLimit
 -- ---- the loose reader: the digits are the cents, ',' and '-' count for nothing
 
 unfoldable pub readAmount : List ℕ → ℤ
-readAmount bs = cond (eqb (getD bs 0 0) 45) (negℤ (pos (valueOf bs))) (pos (valueOf bs))
+readAmount bs = cond (eqb (getD bs 0 0) (code "-")) (negℤ (pos (valueOf bs))) (pos (valueOf bs))

@@ -1,11 +1,13 @@
 -- The chain between receipts, and the encrypted counter.
 use Prim.Native.Nat.{ℕ}
+use mathlib.Core.Bool.{false}
 use mathlib.Core.List.{List, _++_}
+use mathlib.Core.Path.{_≡_}
 use lib.IntN.{ℤ}
-use lib.ListN.{take}
+use lib.ListN.{take, replicate}
 use Rattle.primitives.specs.Sha256.{sha256}
 use Rattle.primitives.specs.Aes.{cipher}
-use Rattle.primitives.specs.Counter.{counterBytes, counterValue, xorFirst}
+use Rattle.primitives.specs.Counter.{counterFits, counterBytes, counterValue, xorFirst}
 use Rattle.receipt.specs.Decimal.{digits}
 use Rattle.receipt.specs.Settings.{nameText}
 use Rattle.receipt.specs.declared.settings.Name.{Name}
@@ -26,9 +28,16 @@ iv id number = take 16 (sha256 (hashInput id number))
 unfoldable pub keyStream : List (List ℕ) → Name → ℕ → List ℕ
 keyStream schedule id number = cipher schedule (iv id number)
 
--- "N bytes, big-endian two's complement, combined by exclusive or with the first N bytes of AES-256 of the IV"
+-- "N bytes, big-endian two's complement, combined by exclusive or with the first N bytes of AES-256 of the IV".
+-- `counterBytes` are eight zeros where n is no width or the counter does not fit n bytes: then the key stream's own bytes come out, and no counter field
 unfoldable pub encryptedCounter : List (List ℕ) → Name → ℕ → ℕ → ℤ → List ℕ
 encryptedCounter schedule id number n counter = xorFirst n (counterBytes n counter) (keyStream schedule id number)
+
+-- what comes out then, as a statement
+abbrev pub NothingToEncrypt : Type 0
+NothingToEncrypt =
+    (schedule : List (List ℕ)) (id : Name) (number n : ℕ) (counter : ℤ) → counterFits n counter ≡ false
+    → encryptedCounter schedule id number n counter ≡ xorFirst n (replicate 8 0) (keyStream schedule id number)
 
 -- the same, back
 unfoldable pub decryptedCounter : List (List ℕ) → Name → ℕ → ℕ → List ℕ → ℤ

@@ -9,6 +9,7 @@ use Rattle.primitives.specs.Answers.{answerWith, bufferWith}
 use Rattle.primitives.specs.Base64.{encoding, decoding}
 use Rattle.primitives.specs.declared.base64.Alphabet.the-variants.{Standard}
 use Rattle.receipt.specs.Form.{nextAt, part, Parts, goodParts, signedForm, partsOfForm}
+use Rattle.receipt.specs.Texts.{separator}
 use Rattle.primitives.specs.declared.answer.Answer.{Answer}
 use Rattle.receipt.specs.declared.machine_code.Part.{Part}
 
@@ -25,13 +26,13 @@ lastAt b text = lastBefore b text (length text)
 
 -- code: payload, "_", BASE64 of the signature
 unfoldable pub codeText : Parts → List ℕ
-codeText p = p .payload ++ (95 ∷ []) ++ encoding Standard (p .signature)
+codeText p = p .payload ++ (separator ∷ []) ++ encoding Standard (p .signature)
 
 -- split at the last "_": the payload, and canonical BASE64 of the signature
 unfoldable pub partsOfCode : List ℕ → Option Parts
 partsOfCode text =
-    cond (ltb (lastAt 95 text) (length text))
-    (goodParts (some (take (lastAt 95 text) text)) (decoding Standard (drop (lastAt 95 text + 1) text))) none
+    cond (ltb (lastAt separator text) (length text))
+    (goodParts (some (take (lastAt separator text) text)) (decoding Standard (drop (lastAt separator text + 1) text))) none
 
 -- ---- what the calls answer, and the output after them
 
@@ -60,10 +61,10 @@ formMade code out = take (uncodeAnswer code out .length) (uncodeBuffer code out)
 
 -- of a payload, whose first "_" stands at 0: the ID starts behind the second "_" and ends before the third
 unfoldable pub idStart : List ℕ → ℕ
-idStart p = nextAt 95 p 1 + 1
+idStart p = nextAt separator p 1 + 1
 
 unfoldable pub idEnd : List ℕ → ℕ
-idEnd p = nextAt 95 p (idStart p)
+idEnd p = nextAt separator p (idStart p)
 
 -- "with a second and third '_' in the payload and something between them"
 unfoldable pub idThere : List ℕ → Bool
@@ -80,10 +81,6 @@ idPlaceOf (some p) = cond (idThere (p .payload)) (record { start = idStart (p .p
 unfoldable pub idPlace : List ℕ → Part
 idPlace code = idPlaceOf (partsOfCode code)
 
--- Fields: what stands between the second and the third "_" of the payload of a code; nothing where the code is refused
-abbrev pub idOf : Option Parts → List ℕ
-idOf none = []
-idOf (some p) = cond (idThere (p .payload)) (part (idStart (p .payload)) (idEnd (p .payload)) (p .payload)) []
-
+-- Fields: what stands at that place of the code
 unfoldable pub idField : List ℕ → List ℕ
-idField code = idOf (partsOfCode code)
+idField code = part (idPlace code .start) (idPlace code .end) code

@@ -8,8 +8,8 @@ use lib.Dec.{eqb}
 use lib.ListN.{length, replicate}
 use Rattle.primitives.specs.Bytes.{AllBytes, same}
 use Rattle.primitives.specs.Counter.{widthGood}
-use Rattle.receipt.specs.Settings.{sized}
-use Rattle.receipt.specs.Payload.{payload, zeros, fieldsGood, TypedFields}
+use Rattle.receipt.specs.Settings.{sized, zeros}
+use Rattle.receipt.specs.Payload.{payload, fieldsGood, TypedFields}
 use Rattle.receipt.specs.PayloadReading.{blank, readFields}
 use Rattle.receipt.specs.Form.{Parts, parts, signedInput, signedForm, partsOfForm, failureText}
 use Rattle.receipt.specs.declared.settings.Settings.{Settings}
@@ -48,15 +48,13 @@ pub record TypedEntry (e : Entry) : Type 0 where
 unfoldable pub signatureZero : Signature → Bool
 signatureZero g = not (g .failed) || zeros (g .bytes)
 
--- a payload's fields are good, and the signature
-unfoldable pub entryGood : ℕ → Entry → Bool
-entryGood n e = fieldsGood n (e .fields) && signatureZero (e .signature)
-
+-- these fields have a payload
 unfoldable pub preparable : Settings → ℕ → PayloadFields → Bool
 preparable s n f = sized s && (widthGood n && fieldsGood n f)
 
+-- and with this signature a compact form
 unfoldable pub spellable : Settings → ℕ → Entry → Bool
-spellable s n e = sized s && (widthGood n && entryGood n e)
+spellable s n e = preparable s n (e .fields) && signatureZero (e .signature)
 
 -- ---- what the writers write: nothing, where there is nothing to spell
 
@@ -74,7 +72,7 @@ signatureOf text = cond (eqb (length text) 64) (record { failed = false; bytes =
 
 -- the fields have a payload, and it is this text
 unfoldable pub spells : Settings → ℕ → PayloadFields → List ℕ → Bool
-spells s n f text = sized s && (widthGood n && (fieldsGood n f && same (payload s n f) text))
+spells s n f text = preparable s n f && same (payload s n f) text
 
 -- nothing is found
 unfoldable pub noEntry : Found

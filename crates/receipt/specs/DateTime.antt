@@ -1,5 +1,6 @@
 -- Date and time as 2016-02-29T08:05:00.
 use Prim.Native.Nat.{ℕ, _+_, _*_, _%_}
+use Prim.Native.Char.{code}
 use mathlib.Core.Bool.{Bool, true, false, cond, _&&_}
 use mathlib.Core.List.{List, [], _∷_, _++_}
 use lib.Dec.{leb, eqb}
@@ -34,11 +35,10 @@ dateGood t = dayGood t && timeGood t
 unfoldable pub pair : ℕ → ℕ → List ℕ
 pair letter n = (letter ∷ []) ++ fixed 2 n
 
--- '-' twice, 'T', ':' twice
 unfoldable pub dateText : DateTime → List ℕ
 dateText t =
-    fixed 4 (t .year) ++ pair 45 (t .month) ++ pair 45 (t .day) ++ pair 84 (t .hour) ++ pair 58 (t .minute)
-    ++ pair 58 (t .second)
+    fixed 4 (t .year) ++ pair (code "-") (t .month) ++ pair (code "-") (t .day) ++ pair (code "T") (t .hour) ++ pair (code ":") (t .minute)
+    ++ pair (code ":") (t .second)
 
 -- ---- the loose reader
 

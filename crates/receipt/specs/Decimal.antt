@@ -1,13 +1,15 @@
 -- Numbers in decimal: "number without leading zeros".
 use Prim.Native.Nat.{ℕ, zero, suc, _+_, _*_, _/_, _%_}
+use Prim.Native.Char.{code}
 use mathlib.Core.Bool.{cond}
 use mathlib.Core.List.{List, [], _∷_}
 use lib.Dec.{ltb, eqb}
+use Rattle.receipt.specs.Texts.{separator}
 
 -- the w last digits of n, before the bytes acc
 unfoldable pub fixedOnto : ℕ → ℕ → List ℕ → List ℕ
 fixedOnto zero n acc = acc
-fixedOnto (suc w) n acc = fixedOnto w (n / 10) ((48 + n % 10) ∷ acc)
+fixedOnto (suc w) n acc = fixedOnto w (n / 10) ((code "0" + n % 10) ∷ acc)
 
 -- the w last digits of n
 unfoldable pub fixed : ℕ → ℕ → List ℕ
@@ -34,11 +36,11 @@ readLimit = 1000000000000
 
 -- one byte more: one below '0' (as ',' and '-') counts for nothing, and any other for a digit
 unfoldable pub more : ℕ → ℕ → ℕ
-more v b = cond (ltb b 48) v ((v * 10 + b % 16) % readLimit)
+more v b = cond (ltb b (code "0")) v ((v * 10 + b % 16) % readLimit)
 
 unfoldable pub valueFrom : ℕ → List ℕ → ℕ
 valueFrom v [] = v
-valueFrom v (b ∷ bs) = cond (eqb b 95) v (valueFrom (more v b) bs)
+valueFrom v (b ∷ bs) = cond (eqb b separator) v (valueFrom (more v b) bs)
 
 unfoldable pub valueOf : List ℕ → ℕ
 valueOf bs = valueFrom 0 bs

@@ -44,8 +44,9 @@ countedOf Training zs = pos 0
 unfoldable pub counted : Details → ℤ
 counted d = countedOf (d .kind) (d .amounts)
 
--- question 11: "New counter fits N bytes?", asked of the counter behind all five amounts.
--- The counter before the receipt where it does not fit, or where an amount is beyond its limit
+-- question 11: "New counter fits N bytes?", asked of the counter after all five amounts.
+-- The counter before the receipt where it does not fit, or where an amount is beyond its limit: question 9 is asked before, so that
+-- answer is none of a call, and it keeps the sum within the code's numbers
 unfoldable pub counterAfter : ℕ → ℤ → Details → After
 counterAfter n z d =
     cond (amountsGood (d .amounts) && counterFits n (z +ℤ counted d)) (record { fits = true; counter = z +ℤ counted d })

@@ -1,7 +1,7 @@
 -- What holds of entries and their compact forms, as statements; the proofs are in proofs/ExactEntry.antt.
 use Prim.Native.Nat.{ℕ, _≤_, _<_}
 use mathlib.Core.Path.{_≡_}
-use mathlib.Core.Bool.{true}
+use mathlib.Core.Bool.{true, false}
 use mathlib.Core.List.{List, [], _∷_, _++_}
 use lib.ListN.{length, take}
 use Rattle.primitives.specs.Bytes.{AllBytes}
@@ -10,7 +10,8 @@ use Rattle.primitives.specs.declared.base64.Alphabet.the-variants.{UrlSafe}
 use Rattle.receipt.specs.Settings.{SettingsLengths, SettingsBytes}
 use Rattle.receipt.specs.Payload.{TypedFields}
 use Rattle.receipt.specs.Form.{secondDot}
-use Rattle.receipt.specs.Compact.{TypedEntry, signatureText, compact, signingInput, longestCompact, spellable, readEntry}
+use Rattle.receipt.specs.Texts.{dot}
+use Rattle.receipt.specs.Compact.{TypedEntry, signatureText, compact, signingInput, longestCompact, spellable, noEntry, readEntry}
 use Rattle.receipt.specs.declared.settings.Settings.{Settings}
 use Rattle.receipt.specs.declared.entry.Entry.{Entry}
 
@@ -21,15 +22,15 @@ pub record Spelled (s : Settings) (n : ℕ) (text : List ℕ) : Type 0 where
   pub spellable : spellable s n entry ≡ true
   pub is : text ≡ compact s n entry
 
--- question 16 is exact: the reader accepts the texts that are the compact form of an entry, and finds the entry; it accepts no other text
+-- question 16 is exact: the reader accepts the texts that are the compact form of an entry, and finds the entry; it accepts no other text, and then finds nothing
 abbrev pub Exact : Type 0
 Exact =
     (s : Settings) (n : ℕ) (text : List ℕ) → SettingsLengths s → SettingsBytes s → AllBytes text
-    → (readEntry s n text .ok ≡ true → Spelled s n text) × ((w : Spelled s n text) → readEntry s n text ≡ record { ok = true; entry = w .entry })
+    → (readEntry s n text .ok ≡ true → Spelled s n text) × ((w : Spelled s n text) → readEntry s n text ≡ record { ok = true; entry = w .entry }) × (readEntry s n text .ok ≡ false → readEntry s n text ≡ noEntry)
 
 -- an entry is read back from its compact form
-abbrev pub Back : Type 0
-Back =
+abbrev pub EntryIsReadBack : Type 0
+EntryIsReadBack =
     (s : Settings) (n : ℕ) (e : Entry) → SettingsLengths s → SettingsBytes s → TypedEntry e → spellable s n e ≡ true
     → readEntry s n (compact s n e) ≡ record { ok = true; entry = e }
 
@@ -54,7 +55,7 @@ CompactIsBytes = (s : Settings) (n : ℕ) (e : Entry) → AllBytes (compact s n 
 abbrev pub CompactIsSigned : Type 0
 CompactIsSigned =
     (s : Settings) (n : ℕ) (e : Entry)
-    → compact s n e ≡ signingInput s n (e .fields) ++ ((46 ∷ []) ++ encoding UrlSafe (signatureText (e .signature)))
+    → compact s n e ≡ signingInput s n (e .fields) ++ ((dot ∷ []) ++ encoding UrlSafe (signatureText (e .signature)))
 
 -- so the signing input is what stands before the second "."
 abbrev pub InputBeforeDot : Type 0

@@ -1,24 +1,31 @@
 -- The compact form of a receipt, as payload and signature: written, and read.
-use Prim.Native.Nat.{ℕ, suc, _+_, _-_}
+use Prim.Native.Nat.{ℕ, suc, _+_, _-_, _<_}
 use mathlib.Core.Bool.{Bool, cond, _&&_, _||_}
 use mathlib.Core.List.{List, [], _∷_, _++_}
 use mathlib.Core.Option.{Option, none, some}
+use mathlib.Core.Path.{_≡_}
 use lib.Dec.{ltb, leb, eqb}
-use lib.ListN.{length, take, drop}
+use lib.ListN.{length, getD, take, drop}
 use Rattle.primitives.specs.Bytes.{AllBytes, same}
+use Rattle.primitives.specs.Text.{ascii}
 use Rattle.primitives.specs.Base64.{encoding, decoding}
 use Rattle.primitives.specs.declared.base64.Alphabet.the-variants.{UrlSafe}
 use Rattle.receipt.specs.Payload.{longestPayload}
+use Rattle.receipt.specs.Texts.{dot, beginning}
 
 -- ---- fixed texts
 
--- {"alg":"ES256"}
 unfoldable pub header : List ℕ
-header = 123 ∷ 34 ∷ 97 ∷ 108 ∷ 103 ∷ 34 ∷ 58 ∷ 34 ∷ 69 ∷ 83 ∷ 50 ∷ 53 ∷ 54 ∷ 34 ∷ 125 ∷ []
+unfolding ascii
+header = ascii "{\"alg\":\"ES256\"}"
 
--- "Sicherheitseinrichtung ausgefallen"
 unfoldable pub failureText : List ℕ
-failureText = 83 ∷ 105 ∷ 99 ∷ 104 ∷ 101 ∷ 114 ∷ 104 ∷ 101 ∷ 105 ∷ 116 ∷ 115 ∷ 101 ∷ 105 ∷ 110 ∷ 114 ∷ 105 ∷ 99 ∷ 104 ∷ 116 ∷ 117 ∷ 110 ∷ 103 ∷ 32 ∷ 97 ∷ 117 ∷ 115 ∷ 103 ∷ 101 ∷ 102 ∷ 97 ∷ 108 ∷ 108 ∷ 101 ∷ 110 ∷ []
+unfolding ascii
+failureText = ascii "Sicherheitseinrichtung ausgefallen"
+
+-- the element of the header, with its "."
+abbrev pub firstElement : List ℕ
+firstElement = encoding UrlSafe header ++ (dot ∷ [])
 
 -- ---- finding a byte
 
@@ -35,6 +42,14 @@ nextAt b text from = from + firstAt b (drop from text)
 abbrev pub part : ℕ → ℕ → List ℕ → List ℕ
 part a e text = take (e - a) (drop a text)
 
+-- where such a part lies in memory, for a text that lies at p: p is a block and an offset in it
+abbrev pub further : ℕ × ℕ → ℕ → ℕ × ℕ
+further p a = (p .0, p .1 + a)
+
+-- b does not occur
+pub record Without (b : ℕ) (s : List ℕ) : Type 0 where
+  pub at : (i : ℕ) → i < length s → getD s i 0 ≡ b → ⊥
+
 -- ---- payload and signature
 
 pub record Parts : Type 0 where
@@ -46,7 +61,7 @@ parts p s = record { payload = p; signature = s }
 
 -- 4 to 195 bytes beginning "_R1-"
 unfoldable pub payloadGood : List ℕ → Bool
-payloadGood p = leb 4 (length p) && (leb (length p) longestPayload && same (take 4 p) (95 ∷ 82 ∷ 49 ∷ 45 ∷ []))
+payloadGood p = leb 4 (length p) && (leb (length p) longestPayload && same (take 4 p) beginning)
 
 -- 64 bytes, or the text of a failed device
 unfoldable pub signatureGood : List ℕ → Bool
@@ -62,13 +77,17 @@ pub record PartsOfBytes (p : Parts) : Type 0 where
 
 -- ---- the text
 
+-- "." and the element of a text
+abbrev pub element : List ℕ → List ℕ
+element xs = (dot ∷ []) ++ encoding UrlSafe xs
+
 -- what is signed: the elements of header and payload, with "." between them
 abbrev pub signedInput : List ℕ → List ℕ
-signedInput payload = encoding UrlSafe header ++ (46 ∷ []) ++ encoding UrlSafe payload
+signedInput payload = firstElement ++ encoding UrlSafe payload
 
 -- compact form: the elements of header, payload and signature, with "." between them
 unfoldable pub signedForm : Parts → List ℕ
-signedForm p = signedInput (p .payload) ++ (46 ∷ []) ++ encoding UrlSafe (p .signature)
+signedForm p = signedInput (p .payload) ++ (dot ∷ []) ++ encoding UrlSafe (p .signature)
 
 -- ---- reading it
 
@@ -80,7 +99,7 @@ goodParts none s = none
 
 -- the place of the "." behind the second element, where the first is the header's and a "." follows it; the length where there is none
 unfoldable pub secondDot : List ℕ → ℕ
-secondDot text = cond (same (take 21 text) (encoding UrlSafe header ++ (46 ∷ []))) (nextAt 46 text 21) (length text)
+secondDot text = cond (same (take 21 text) firstElement) (nextAt dot text 21) (length text)
 
 -- three canonical elements, the first fixed, and good parts
 unfoldable pub partsOfForm : List ℕ → Option Parts

@@ -4,7 +4,7 @@ use mathlib.Core.Bool.{Bool, false, cond}
 use mathlib.Core.List.{List, []}
 use mathlib.Core.Option.{Option, none, some}
 use lib.Dec.{leb}
-use lib.ListN.{length}
+use lib.ListN.{length, take}
 use Rattle.receipt.specs.declared.form.Reading.{Reading}
 use Rattle.receipt.specs.Form.{Parts, parts}
 
@@ -16,6 +16,10 @@ short most (some ys) = cond (leb (length ys) most) ys []
 -- the parts that a reader found
 unfoldable pub found : Bool → List ℕ → List ℕ → Option Parts
 found good p s = cond good (some (parts p s)) none
+
+-- and where it put them: each at the start of a text
+abbrev pub partsRead : Reading → List ℕ → List ℕ → Option Parts
+partsRead r payload signature = found (r .good) (take (r .payload) payload) (take (r .signature) signature)
 
 -- the answer where there are none
 abbrev pub nothing : Reading

@@ -14,3 +14,4 @@ pub mod Payload
 pub mod PayloadReading
 pub mod Separated
 pub mod Settings
+pub mod Texts

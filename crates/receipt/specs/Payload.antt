@@ -1,9 +1,9 @@
 -- The payload: "'_', then twelve fields joined by '_'".
 use Prim.Native.Nat.{ℕ, _<_}
-use mathlib.Core.Bool.{Bool, true, _&&_}
+use mathlib.Core.Bool.{Bool, _&&_}
 use mathlib.Core.List.{List, [], _∷_, _++_}
 use mathlib.Core.Path.{_≡_}
-use lib.Dec.{leb, eqb}
+use lib.Dec.{leb}
 use lib.ListN.{length, take, drop}
 use Rattle.primitives.specs.Base64.{encoding}
 use Rattle.primitives.specs.Bytes.{AllBytes}
@@ -11,8 +11,9 @@ use Rattle.primitives.specs.declared.base64.Alphabet.the-variants as alphabet
 use Rattle.receipt.specs.Decimal.{digits}
 use Rattle.receipt.specs.Amount.{amountsText}
 use Rattle.receipt.specs.DateTime.{dateGood, dateText}
-use Rattle.receipt.specs.Settings.{nameText}
+use Rattle.receipt.specs.Settings.{nameText, zeros}
 use Rattle.receipt.specs.Details.{amountsGood}
+use Rattle.receipt.specs.Texts.{separator, beginning, cancellationText, trainingText}
 use Rattle.receipt.specs.declared.datetime.DateTime.{DateTime}
 use Rattle.receipt.specs.declared.details.Kind.{Kind}
 use Rattle.receipt.specs.declared.details.Kind.the-variants.{Standard, Cancellation, Training}
@@ -27,17 +28,17 @@ base64 xs = encoding alphabet.Standard xs
 
 -- "_R1-", the CSP, '_', the ID, '_'
 unfoldable pub registerPart : Settings → List ℕ
-registerPart s = (95 ∷ 82 ∷ 49 ∷ 45 ∷ []) ++ (s .csp ++ (95 ∷ [])) ++ (nameText (s .id) ++ (95 ∷ []))
+registerPart s = beginning ++ (s .csp ++ (separator ∷ [])) ++ (nameText (s .id) ++ (separator ∷ []))
 
 -- number, '_', date, '_'
 unfoldable pub moment : ℕ → DateTime → List ℕ
-moment number date = digits number ++ (95 ∷ []) ++ dateText date ++ (95 ∷ [])
+moment number date = digits number ++ (separator ∷ []) ++ dateText date ++ (separator ∷ [])
 
 -- what the counter field holds: the n bytes of the encrypted counter, "STO" or "TRA"
 unfoldable pub counterContent : ℕ → Kind → List ℕ → List ℕ
 counterContent n Standard counter = take n counter
-counterContent n Cancellation counter = 83 ∷ 84 ∷ 79 ∷ []
-counterContent n Training counter = 84 ∷ 82 ∷ 65 ∷ []
+counterContent n Cancellation counter = cancellationText
+counterContent n Training counter = trainingText
 
 -- "standard, BASE64 of the encrypted counter after this receipt; cancellation, BASE64 of 'STO'; training, BASE64 of 'TRA'"
 unfoldable pub counterField : ℕ → Kind → List ℕ → List ℕ
@@ -46,7 +47,7 @@ counterField n kind counter = base64 (counterContent n kind counter)
 -- counter field, '_', serial, '_', chain field
 unfoldable pub closing : Settings → ℕ → PayloadFields → List ℕ
 closing s n f =
-    (counterField n (f .details .kind) (f .counter) ++ (95 ∷ [])) ++ (nameText (s .serial) ++ (95 ∷ [])) ++ base64 (f .chain)
+    (counterField n (f .details .kind) (f .counter) ++ (separator ∷ [])) ++ (nameText (s .serial) ++ (separator ∷ [])) ++ base64 (f .chain)
 
 -- what stands behind the register part
 unfoldable pub body : Settings → ℕ → PayloadFields → List ℕ
@@ -60,11 +61,6 @@ abbrev pub longestPayload : ℕ
 longestPayload = 195
 
 -- ---- which fields it may have
-
--- every byte is zero
-unfoldable pub zeros : List ℕ → Bool
-zeros [] = true
-zeros (b ∷ bs) = eqb b 0 && zeros bs
 
 -- no byte of the counter stands where its field does not spell it
 unfoldable pub counterGood : ℕ → Kind → List ℕ → Bool

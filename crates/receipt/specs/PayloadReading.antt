@@ -1,5 +1,6 @@
 -- The loose reader of a payload. It decides nothing: what it finds is spelled again, and compared.
 use Prim.Native.Nat.{ℕ, _+_, _-_, _%_}
+use Prim.Native.Char.{code}
 use mathlib.Core.Bool.{Bool, cond, _&&_}
 use mathlib.Core.List.{List}
 use lib.Dec.{leb, eqb}
@@ -10,6 +11,7 @@ use Rattle.primitives.specs.declared.base64.Alphabet.the-variants as alphabet
 use Rattle.receipt.specs.Decimal.{valueOf}
 use Rattle.receipt.specs.DateTime.{readDate}
 use Rattle.receipt.specs.Separated.{skip, At, readAmounts}
+use Rattle.receipt.specs.Texts.{separator}
 use Rattle.receipt.specs.declared.details.Kind.{Kind}
 use Rattle.receipt.specs.declared.details.Kind.the-variants.{Standard, Cancellation, Training}
 use Rattle.receipt.specs.declared.details.Details.{Details}
@@ -27,7 +29,7 @@ fieldWidth n = cond (leb n 6) 8 12
 
 -- four letters are "U1RP" or "VFJB"
 unfoldable pub kindOf : List ℕ → Kind
-kindOf bs = cond (eqb (getD bs 4 0) 95) (cond (eqb (getD bs 0 0) 85) Cancellation Training) Standard
+kindOf bs = cond (eqb (getD bs 4 0) separator) (cond (eqb (getD bs 0 0) (code "U")) Cancellation Training) Standard
 
 unfoldable pub readCounter : ℕ → Kind → List ℕ → List ℕ
 readCounter n Standard bs = eight (take (fieldWidth n) bs)

@@ -7,11 +7,12 @@ use lib.Dec.{eqb}
 use lib.IntN.{ℤ}
 use lib.ListN.{length, drop}
 use Rattle.receipt.specs.Amount.{readAmount}
+use Rattle.receipt.specs.Texts.{separator}
 
 -- what stands behind the first '_'
 unfoldable pub after : List ℕ → List ℕ
 after [] = []
-after (b ∷ bs) = cond (eqb b 95) bs (after bs)
+after (b ∷ bs) = cond (eqb b separator) bs (after bs)
 
 -- what stands behind the first k
 unfoldable pub skip : ℕ → List ℕ → List ℕ

@@ -1,11 +1,15 @@
 -- The settings of a register: CSP, register ID and serial, and which of them are good.
 use Prim.Native.Nat.{ℕ, _-_}
+use Prim.Native.Char.{code}
 use mathlib.Core.Bool.{Bool, true, not, _&&_, _||_}
 use mathlib.Core.List.{List, [], _∷_, _++_}
 use mathlib.Core.Path.{_≡_}
 use lib.Dec.{leb, eqb}
 use lib.ListN.{length, getD, take, drop, replicate}
 use Rattle.primitives.specs.Bytes.{AllBytes}
+use Rattle.primitives.specs.Counter.{widthGood}
+use Rattle.primitives.specs.Questions.{ask}
+use Rattle.receipt.specs.Texts.{separator}
 use Rattle.receipt.specs.declared.settings.Name.{Name}
 use Rattle.receipt.specs.declared.settings.Settings.{Settings}
 use Rattle.receipt.specs.declared.settings.Letters.{Letters}
@@ -18,19 +22,19 @@ between low high b = leb low b && leb b high
 
 -- A-Z
 abbrev pub capital : ℕ → Bool
-capital b = between 65 90 b
+capital b = between (code "A") (code "Z") b
 
 -- 0-9
 abbrev pub digit : ℕ → Bool
-digit b = between 48 57 b
+digit b = between (code "0") (code "9") b
 
 -- "each 33 to 126 decimal, never '_'"
 unfoldable pub idLetter : ℕ → Bool
-idLetter b = not (eqb b 95) && between 33 126 b
+idLetter b = not (eqb b separator) && between 33 126 b
 
 -- "0-9 a-f"
 unfoldable pub serialLetter : ℕ → Bool
-serialLetter b = digit b || between 97 102 b
+serialLetter b = digit b || between (code "a") (code "f") b
 
 abbrev pub letterGood : Letters → ℕ → Bool
 letterGood Id b = idLetter b
@@ -42,6 +46,10 @@ unfoldable pub every : Letters → List ℕ → Bool
 every class [] = true
 every class (b ∷ bs) = letterGood class b && every class bs
 
+-- every byte is zero
+abbrev pub zeros : List ℕ → Bool
+zeros bs = every Zero bs
+
 -- ---- names
 
 -- the bytes of a name, without the zeros behind its end
@@ -50,7 +58,7 @@ nameText n = take (n .len) (n .bytes)
 
 -- "1 to 32" letters; "a length over 32, or a byte behind the end that isn't zero, makes ID or serial bad"
 unfoldable pub nameGood : Letters → Name → Bool
-nameGood class n = leb 1 (n .len) && (leb (n .len) 32 && (every class (nameText n) && every Zero (drop (n .len) (n .bytes))))
+nameGood class n = leb 1 (n .len) && (leb (n .len) 32 && (every class (nameText n) && zeros (drop (n .len) (n .bytes))))
 
 -- the name with this text; of a text over 32 bytes the array holds the first 32, and the length makes the name bad
 unfoldable pub nameOf : List ℕ → Name
@@ -70,6 +78,11 @@ serialGood serial = nameGood Serial serial
 
 unfoldable pub settingsGood : Settings → Bool
 settingsGood s = cspGood (s .csp) && (idGood (s .id) && serialGood (s .serial))
+
+-- "CSP good? 1. ID good? 2. Serial good? 3. N from 5 to 8? 4.", and then the rest
+unfoldable pub settingsNumber : Settings → ℕ → ℕ → ℕ
+settingsNumber s n rest =
+    ask (cspGood (s .csp)) 1 (ask (idGood (s .id)) 2 (ask (serialGood (s .serial)) 3 (ask (widthGood n) 4 rest)))
 
 -- both names end within their arrays
 unfoldable pub sized : Settings → Bool

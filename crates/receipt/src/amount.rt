@@ -19,7 +19,7 @@ fn put_cents(out: &mut [u8], at: usize, m: u64) -> usize
     ensures { λ r. ⌜ (r ≡ at + length (cents m)) × (now (out .exit) ≡ overwrite (now (out .entry)) at (cents m)) ⌝ }
 {
     let p = put_decimal(out, at, m / 100);
-    put8(out, p, 44);
+    put8(out, p, b',');
     put_fixed(out, p + 1, 2, m);
     p + 3
 }
@@ -31,7 +31,7 @@ pub(crate) fn put_amount(out: &mut [u8], at: usize, z: i64) -> usize
 {
     let m = absolute(z);
     if z < 0 {
-        put8(out, at, 45);
+        put8(out, at, b'-');
         return put_cents(out, at + 1, m);
     }
     put_cents(out, at, m)
@@ -51,7 +51,7 @@ pub(crate) fn amount_at(text: &[u8], at: usize) -> i64
 {
     let m = value_at(text, at) as i64;
     if at < text.len() {
-        if text[at] == 45 {
+        if text[at] == b'-' {
             return -m;
         }
     }

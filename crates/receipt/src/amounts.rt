@@ -21,7 +21,7 @@ pub(crate) fn put_amounts(out: &mut [u8], at: usize, a: [i64; 5]) -> usize
     let mut i: usize = 0;
     while i < 5 {
         let e = put_amount(out, p, a[i]);
-        put8(out, e, 95);
+        put8(out, e, b'_');
         p = e + 1;
         i += 1;
     }

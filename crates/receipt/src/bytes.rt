@@ -4,6 +4,7 @@ ghost use mathlib.Core.List.{[], _∷_, _++_};
 ghost use Prim.Native.Nat.{_+_, _≤_};
 ghost use lib.ListN.{length};
 ghost use Rattle.primitives.specs.Place.{overwrite};
+ghost use Rattle.receipt.specs.Texts.{separator};
 
 // One byte, at a place.
 pub(crate) fn put8(out: &mut [u8], at: usize, x: u8)
@@ -24,8 +25,8 @@ pub(crate) fn put(out: &mut [u8], at: usize, src: &[u8])
 // All of a slice and a '_' behind it, at a place.
 pub(crate) fn put_field(out: &mut [u8], at: usize, src: &[u8])
     requires { ⌜ at + length (now src) + 1 ≤ length (now out) ⌝ }
-    ensures { λ _. ⌜ now (out .exit) ≡ overwrite (now (out .entry)) at (now (src .entry) ++ (95 ∷ [])) ⌝ }
+    ensures { λ _. ⌜ now (out .exit) ≡ overwrite (now (out .entry)) at (now (src .entry) ++ (separator ∷ [])) ⌝ }
 {
     put(out, at, src);
-    put8(out, at + src.len(), 95);
+    put8(out, at + src.len(), b'_');
 }

@@ -57,7 +57,9 @@ fn key_stream(schedule: &[[u8; 4]; 60], id: Name, number: u32) -> [u8; 16]
     primitives::encrypt_block(schedule, v)
 }
 
-// The n bytes of a counter, encrypted for the receipt with this number; zeros behind them.
+// The n bytes of a counter, encrypted for the receipt with this number; zeros after them.
+// Where n is not 5 to 8, or the counter does not fit n bytes, there are no such bytes: eight zeros take their place, so the first n bytes
+// of the result are those of the key stream, and the result is no counter field. Callers ask questions 4 and 11 first.
 pub fn encrypt_counter(
     schedule: &[[u8; 4]; 60],
     id: Name,

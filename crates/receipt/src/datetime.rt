@@ -104,11 +104,11 @@ pub(crate) fn put_date(out: &mut [u8], at: usize, t: DateTime)
     ensures { λ _. ⌜ now (out .exit) ≡ overwrite (now (out .entry)) at (dateText t) ⌝ }
 {
     put_fixed(out, at, 4, t.year as u64);
-    put_pair(out, at + 4, 45, t.month);
-    put_pair(out, at + 7, 45, t.day);
-    put_pair(out, at + 10, 84, t.hour);
-    put_pair(out, at + 13, 58, t.minute);
-    put_pair(out, at + 16, 58, t.second);
+    put_pair(out, at + 4, b'-', t.month);
+    put_pair(out, at + 7, b'-', t.day);
+    put_pair(out, at + 10, b'T', t.hour);
+    put_pair(out, at + 13, b':', t.minute);
+    put_pair(out, at + 16, b':', t.second);
 }
 
 // Two digits at a place, read loosely.

@@ -14,7 +14,7 @@ pub(crate) fn put_fixed(out: &mut [u8], at: usize, w: usize, n: u64)
     let mut i = w;
     while 0 < i {
         i -= 1;
-        out[at + i] = (48 + v % 10) as u8;
+        out[at + i] = b'0' + (v % 10) as u8;
         v = v / 10;
     }
 }
@@ -47,7 +47,7 @@ fn more(v: u64, b: u8) -> u64
     requires { ⌜ v < readLimit ⌝ }
     ensures { λ r. ⌜ r ≡ more v b ⌝ }
 {
-    if b < 48 {
+    if b < b'0' {
         return v;
     }
     (v * 10 + (b % 16) as u64) % 1000000000000
@@ -61,7 +61,7 @@ pub(crate) fn value_at(text: &[u8], at: usize) -> u64
     let mut v: u64 = 0;
     let mut i = at;
     while i < text.len() {
-        if text[i] == 95 {
+        if text[i] == b'_' {
             return v;
         }
         v = more(v, text[i]);

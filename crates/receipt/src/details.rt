@@ -82,7 +82,9 @@ fn counted(d: Details) -> i64
     }
 }
 
-// The counter behind a receipt: question 11. Only the counter behind all five amounts counts.
+// The counter after a receipt: question 11, asked of the counter after all five amounts.
+// An amount beyond its limit, the "no" of question 9, answers "does not fit" here: question 9 comes first, so no call gets as far with such
+// an amount, and the five amounts within their limits cannot overflow while they are added.
 pub fn counter_after(n: usize, counter: i64, d: Details) -> After
     ensures { λ r. ⌜ r ≡ counterAfter n counter d ⌝ }
 {

@@ -1,5 +1,6 @@
 // A receipt as a journal's entry spells it: its compact form, written and read.
 use super::form::LONGEST_PAYLOAD;
+use super::form::failure_text;
 use super::form::put_form;
 use super::form::put_signed_input;
 use super::form::read_form;
@@ -95,11 +96,12 @@ fn signature_zero(g: Signature) -> bool
 // The compact form of a payload with its signature, at a place; the place behind it.
 fn put_signed(payload: &[u8], g: Signature, out: &mut [u8], at: usize) -> usize
     requires { ⌜ length (now payload) ≤ longestPayload ⌝ }
-    ensures { λ r. ⌜ (r ≡ behind (now (out .entry)) at (signedForm (parts (now (payload .entry)) (signatureText g)))) × (now (out .exit) ≡ placed (now (out .entry)) at (signedForm (parts (now (payload .entry)) (signatureText g)))) ⌝ }
+    ensures { λ r. let y : _ = signedForm (parts (now (payload .entry)) (signatureText g)) in ⌜ (r ≡ behind (now (out .entry)) at y) × (now (out .exit) ≡ placed (now (out .entry)) at y) ⌝ }
 {
     let bytes = g.bytes;
     if g.failed {
-        return put_form(payload, b"Sicherheitseinrichtung ausgefallen", out, at);
+        let text = failure_text();
+        return put_form(payload, &text, out, at);
     }
     put_form(payload, &bytes, out, at)
 }

@@ -8,17 +8,39 @@ use primitives::put;
 use primitives::same;
 ghost use mathlib.Core.Path.{_≡_};
 ghost use Prim.Native.Nat.{_+_, _≤_};
-ghost use mathlib.Core.List.{[], _∷_, _++_};
 ghost use lib.ListN.{length, take};
 ghost use Rattle.primitives.specs.Place.{overwrite, placed, behind};
-ghost use Rattle.primitives.specs.Base64.{encoding, decoding};
-ghost use Rattle.primitives.specs.declared.base64.Alphabet.the-variants.{UrlSafe};
+ghost use Rattle.primitives.specs.Base64.{decoding};
 ghost use Rattle.receipt.specs.Payload.{longestPayload};
-ghost use Rattle.receipt.specs.Form.{nextAt, secondDot, payloadGood, signatureGood, parts, signedInput, signedForm, partsOfForm};
-ghost use Rattle.receipt.specs.FormReading.{short, found, nothing};
+ghost use Rattle.receipt.specs.Texts.{beginning};
+ghost use Rattle.receipt.specs.Form.{failureText, firstElement, element, nextAt, secondDot, payloadGood, signatureGood, parts, signedInput, signedForm, partsOfForm};
+ghost use Rattle.receipt.specs.FormReading.{short, partsRead, nothing};
 
 // The longest payload.
 pub(crate) const LONGEST_PAYLOAD: usize = 195;
+
+// ---- fixed texts
+
+// The first bytes of every payload.
+pub(crate) fn beginning() -> [u8; 4]
+    ensures { λ r. ⌜ r ≡ beginning ⌝ }
+{
+    *b"_R1-"
+}
+
+// What stands for the signature where the device has failed.
+pub(crate) fn failure_text() -> [u8; 34]
+    ensures { λ r. ⌜ r ≡ failureText ⌝ }
+{
+    *b"Sicherheitseinrichtung ausgefallen"
+}
+
+// The element of the header, with its '.'.
+fn first_element() -> [u8; 21]
+    ensures { λ r. ⌜ r ≡ firstElement ⌝ }
+{
+    *b"eyJhbGciOiJFUzI1NiJ9."
+}
 
 // ---- reading
 
@@ -45,7 +67,8 @@ pub(crate) fn payload_good(payload: &[u8]) -> bool
     if LONGEST_PAYLOAD < payload.len() {
         return false;
     }
-    same(&payload[0..4], b"_R1-")
+    let begin = beginning();
+    same(&payload[0..4], &begin)
 }
 
 pub(crate) fn signature_good(signature: &[u8]) -> bool
@@ -54,7 +77,8 @@ pub(crate) fn signature_good(signature: &[u8]) -> bool
     if signature.len() == 64 {
         return true;
     }
-    same(signature, b"Sicherheitseinrichtung ausgefallen")
+    let text = failure_text();
+    same(signature, &text)
 }
 
 // Writes the bytes of a text to the start of a buffer; how many. None where the text is refused or they have no room.
@@ -92,16 +116,17 @@ fn second_dot(form: &[u8]) -> usize
     if form.len() < 21 {
         return form.len();
     }
-    if !same(&form[0..21], b"eyJhbGciOiJFUzI1NiJ9.") {
+    let first = first_element();
+    if !same(&form[0..21], &first) {
         return form.len();
     }
-    next_at(46, form, 21)
+    next_at(b'.', form, 21)
 }
 
 // The parts of a compact form, each at the start of a buffer.
 pub(crate) fn read_form(form: &[u8], payload: &mut [u8], signature: &mut [u8]) -> Reading
     requires { ⌜ (length (now payload) ≡ longestPayload) × (length (now signature) ≡ 64) ⌝ }
-    ensures { λ r. ⌜ (r .payload ≤ longestPayload) × (r .signature ≤ 64) × (found (r .good) (take (r .payload) (now (payload .exit))) (take (r .signature) (now (signature .exit))) ≡ partsOfForm (now (form .entry))) ⌝ }
+    ensures { λ r. ⌜ (r .payload ≤ longestPayload) × (r .signature ≤ 64) × (partsRead r (now (payload .exit)) (now (signature .exit)) ≡ partsOfForm (now (form .entry))) ⌝ }
 {
     let e = second_dot(form);
     if form.len() <= e {
@@ -124,8 +149,8 @@ pub(crate) fn read_form(form: &[u8], payload: &mut [u8], signature: &mut [u8]) -
 
 // A '.' and an element, at a place; the place behind them.
 fn put_element(out: &mut [u8], at: usize, s: &[u8]) -> usize
-    requires { ⌜ at + length ((46 ∷ []) ++ encoding UrlSafe (now s)) ≤ length (now out) ⌝ }
-    ensures { λ r. ⌜ (r ≡ at + length ((46 ∷ []) ++ encoding UrlSafe (now (s .entry)))) × (now (out .exit) ≡ overwrite (now (out .entry)) at ((46 ∷ []) ++ encoding UrlSafe (now (s .entry)))) ⌝ }
+    requires { ⌜ at + length (element (now s)) ≤ length (now out) ⌝ }
+    ensures { λ r. ⌜ (r ≡ at + length (element (now (s .entry)))) × (now (out .exit) ≡ overwrite (now (out .entry)) at (element (now (s .entry)))) ⌝ }
 {
     put(out, at, b".");
     base64_encode(Alphabet::UrlSafe, s, out, at + 1)
@@ -134,20 +159,21 @@ fn put_element(out: &mut [u8], at: usize, s: &[u8]) -> usize
 // What is signed of a compact form: the elements of header and payload with the '.' between them, at a place; the place behind them.
 pub(crate) fn put_signed_input(payload: &[u8], out: &mut [u8], at: usize) -> usize
     requires { ⌜ length (now payload) ≤ longestPayload ⌝ }
-    ensures { λ r. ⌜ (r ≡ behind (now (out .entry)) at (signedInput (now (payload .entry)))) × (now (out .exit) ≡ placed (now (out .entry)) at (signedInput (now (payload .entry)))) ⌝ }
+    ensures { λ r. let y : _ = signedInput (now (payload .entry)) in ⌜ (r ≡ behind (now (out .entry)) at y) × (now (out .exit) ≡ placed (now (out .entry)) at y) ⌝ }
 {
     let total = 21 + (payload.len() * 4 + 2) / 3;
     if !has_room(out.len(), at, total) {
         return at;
     }
-    put(out, at, b"eyJhbGciOiJFUzI1NiJ9");
-    put_element(out, at + 20, payload)
+    let first = first_element();
+    put(out, at, &first);
+    base64_encode(Alphabet::UrlSafe, payload, out, at + 21)
 }
 
 // A compact form, at a place; the place behind it.
 pub(crate) fn put_form(payload: &[u8], signature: &[u8], out: &mut [u8], at: usize) -> usize
     requires { ⌜ (length (now payload) ≤ longestPayload) × (length (now signature) ≤ 64) ⌝ }
-    ensures { λ r. ⌜ (r ≡ behind (now (out .entry)) at (signedForm (parts (now (payload .entry)) (now (signature .entry))))) × (now (out .exit) ≡ placed (now (out .entry)) at (signedForm (parts (now (payload .entry)) (now (signature .entry))))) ⌝ }
+    ensures { λ r. let y : _ = signedForm (parts (now (payload .entry)) (now (signature .entry))) in ⌜ (r ≡ behind (now (out .entry)) at y) × (now (out .exit) ≡ placed (now (out .entry)) at y) ⌝ }
 {
     let total = 22 + (payload.len() * 4 + 2) / 3 + (signature.len() * 4 + 2) / 3;
     if !has_room(out.len(), at, total) {

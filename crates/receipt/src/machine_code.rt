@@ -14,11 +14,11 @@ use primitives::base64_encode;
 use primitives::put;
 ghost use mathlib.Core.Path.{_≡_};
 ghost use Prim.Native.Nat.{_≤_};
-ghost use lib.ListN.{length, take};
+ghost use lib.ListN.{length};
 ghost use Rattle.primitives.specs.Place.{placed};
 ghost use Rattle.receipt.specs.Payload.{longestPayload};
-ghost use Rattle.receipt.specs.Form.{parts, part};
-ghost use Rattle.receipt.specs.FormReading.{found};
+ghost use Rattle.receipt.specs.Form.{parts, further};
+ghost use Rattle.receipt.specs.FormReading.{partsRead};
 ghost use Rattle.receipt.specs.Code.{lastAt, codeText, partsOfCode, codeAnswer, codeBuffer, uncodeAnswer, uncodeBuffer, nowhere, idPlace, idField};
 ghost use Rattle.primitives.specs.Answers.{written};
 
@@ -41,9 +41,9 @@ fn last_at(b: u8, s: &[u8]) -> usize
 // The parts of a code: the payload stands at its start, the signature at the start of a buffer.
 fn read_code(code: &[u8], signature: &mut [u8]) -> Reading
     requires { ⌜ length (now signature) ≡ 64 ⌝ }
-    ensures { λ r. ⌜ (r .payload ≤ length (now (code .entry))) × (r .signature ≤ 64) × (found (r .good) (take (r .payload) (now (code .entry))) (take (r .signature) (now (signature .exit))) ≡ partsOfCode (now (code .entry))) ⌝ }
+    ensures { λ r. ⌜ (r .payload ≤ length (now (code .entry))) × (r .signature ≤ 64) × (partsRead r (now (code .entry)) (now (signature .exit)) ≡ partsOfCode (now (code .entry))) ⌝ }
 {
-    let n = last_at(95, code);
+    let n = last_at(b'_', code);
     if code.len() <= n {
         return nothing();
     }
@@ -64,7 +64,7 @@ fn read_code(code: &[u8], signature: &mut [u8]) -> Reading
 // A code, at the start of the output.
 fn put_code(payload: &[u8], signature: &[u8], out: &mut [u8]) -> Answer
     requires { ⌜ (length (now payload) ≤ longestPayload) × (length (now signature) ≤ 64) ⌝ }
-    ensures { λ r. ⌜ (r ≡ written (now (out .entry)) (codeText (parts (now (payload .entry)) (now (signature .entry))))) × (now (out .exit) ≡ placed (now (out .entry)) 0 (codeText (parts (now (payload .entry)) (now (signature .entry))))) ⌝ }
+    ensures { λ r. let y : _ = codeText (parts (now (payload .entry)) (now (signature .entry))) in ⌜ (r ≡ written (now (out .entry)) y) × (now (out .exit) ≡ placed (now (out .entry)) 0 y) ⌝ }
 {
     let n = payload.len();
     let length = n + 1 + (signature.len() + 2) / 3 * 4;
@@ -146,7 +146,7 @@ fn nowhere() -> Part
 
 // Where the ID field stands in a code; nowhere where uncode refuses the code or there is no such field.
 pub fn id_place(code: &[u8]) -> Part
-    ensures { λ r. ⌜ (r ≡ idPlace (now (code .entry))) × (r .start ≤ r .end) × (r .end ≤ length (now (code .entry))) × (part (r .start) (r .end) (now (code .entry)) ≡ idField (now (code .entry))) ⌝ }
+    ensures { λ r. ⌜ (r ≡ idPlace (now (code .entry))) × (r .start ≤ r .end) × (r .end ≤ length (now (code .entry))) ⌝ }
 {
     let mut signature = [0u8; 64];
     let r = read_code(code, &mut signature);
@@ -155,8 +155,8 @@ pub fn id_place(code: &[u8]) -> Part
     }
     let n = r.payload;
     let payload = &code[0..n];
-    let a = next_at(95, payload, 1) + 1;
-    let e = next_at(95, payload, a);
+    let a = next_at(b'_', payload, 1) + 1;
+    let e = next_at(b'_', payload, a);
     if n <= e {
         return nowhere();
     }
@@ -167,8 +167,9 @@ pub fn id_place(code: &[u8]) -> Part
 }
 
 // The ID field of a code, as a part of it; an empty part where uncode refuses the code or there is no such field.
+// The part is known by its bytes and by where it lies: in the code's own memory, at the place of the field.
 pub fn fields<'a>(code: &'a [u8]) -> &'a [u8]
-    ensures { λ r. ⌜ (now r ≡ idField (now (code .entry))) × (now r ≡ part (idPlace (now (code .entry)) .start) (idPlace (now (code .entry)) .end) (now (code .entry))) ⌝ }
+    ensures { λ r. ⌜ (now r ≡ idField (now (code .entry))) × (r .ptr ≡ further (code .entry .ptr) (idPlace (now (code .entry)) .start)) ⌝ }
 {
     let p = id_place(code);
     let a = p.start;

@@ -13,9 +13,13 @@ use super::decimal::put_decimal;
 use super::decimal::value_at;
 use super::details::Details;
 use super::details::Kind;
+use super::form::beginning;
 use super::separators::next_field;
 use super::separators::skip_fields;
+use super::settings::Letters;
 use super::settings::Settings;
+use super::settings::every;
+use super::settings::lesser;
 use primitives::Alphabet;
 ghost use mathlib.Core.Path.{_≡_};
 ghost use mathlib.Core.Bool.{true};
@@ -24,8 +28,9 @@ ghost use mathlib.Core.List.{[], _∷_, _++_};
 ghost use lib.ListN.{length, take, drop};
 ghost use Rattle.primitives.specs.Place.{overwrite};
 ghost use Rattle.primitives.specs.Counter.{widthGood};
-ghost use Rattle.receipt.specs.Settings.{sized};
-ghost use Rattle.receipt.specs.Payload.{base64, registerPart, moment, counterContent, counterField, closing, body, payload, zeros, counterGood, fieldsGood};
+ghost use Rattle.receipt.specs.Settings.{sized, zeros};
+ghost use Rattle.receipt.specs.Texts.{separator};
+ghost use Rattle.receipt.specs.Payload.{base64, registerPart, moment, counterContent, counterField, closing, body, payload, counterGood, fieldsGood};
 ghost use Rattle.receipt.specs.PayloadReading.{eight, fieldWidth, kindOf, readCounter, readChain, readDetails, readable, Placed, foundIn, blank, readFields};
 
 // What a payload spells. The counter: N bytes and zeros behind them; eight zeros where the kind is not Standard.
@@ -54,7 +59,8 @@ fn put_register(out: &mut [u8], at: usize, s: Settings) -> usize
     let id = s.id;
     let bytes = id.bytes;
     let n = id.len;
-    put(out, at, b"_R1-");
+    let begin = beginning();
+    put(out, at, &begin);
     put_field(out, at + 4, &csp);
     put_field(out, at + 8, &bytes[0..n]);
     at + 9 + n
@@ -66,9 +72,9 @@ fn put_moment(out: &mut [u8], at: usize, number: u32, date: DateTime) -> usize
     ensures { λ r. ⌜ (r ≡ at + length (moment number date)) × (now (out .exit) ≡ overwrite (now (out .entry)) at (moment number date)) ⌝ }
 {
     let p = put_decimal(out, at, number as u64);
-    put8(out, p, 95);
+    put8(out, p, b'_');
     put_date(out, p + 1, date);
-    put8(out, p + 20, 95);
+    put8(out, p + 20, b'_');
     p + 21
 }
 
@@ -88,11 +94,11 @@ fn counter_content(n: usize, kind: Kind, counter: [u8; 8]) -> Content
             len: n,
         },
         Kind::Cancellation => Content {
-            bytes: [83, 84, 79, 0, 0, 0, 0, 0],
+            bytes: [b'S', b'T', b'O', 0, 0, 0, 0, 0],
             len: 3,
         },
         Kind::Training => Content {
-            bytes: [84, 82, 65, 0, 0, 0, 0, 0],
+            bytes: [b'T', b'R', b'A', 0, 0, 0, 0, 0],
             len: 3,
         },
     }
@@ -101,13 +107,13 @@ fn counter_content(n: usize, kind: Kind, counter: [u8; 8]) -> Content
 // The counter field and a '_', at a place; the place behind them.
 fn put_counter(out: &mut [u8], at: usize, n: usize, kind: Kind, counter: [u8; 8]) -> usize
     requires { ⌜ (n ≤ 8) × (at + length (counterField n kind counter) + 1 ≤ length (now out)) ⌝ }
-    ensures { λ r. ⌜ (r ≡ at + length (counterField n kind counter) + 1) × (now (out .exit) ≡ overwrite (now (out .entry)) at (counterField n kind counter ++ (95 ∷ []))) ⌝ }
+    ensures { λ r. let y : _ = counterField n kind counter in ⌜ (r ≡ at + length y + 1) × (now (out .exit) ≡ overwrite (now (out .entry)) at (y ++ (separator ∷ []))) ⌝ }
 {
     let content = counter_content(n, kind, counter);
     let bytes = content.bytes;
     let m = content.len;
     let p = put_base64(out, at, &bytes[0..m]);
-    put8(out, p, 95);
+    put8(out, p, b'_');
     p + 1
 }
 
@@ -162,14 +168,8 @@ pub(crate) fn put_payload(
 fn zero_from(b: [u8; 8], at: usize) -> bool
     ensures { λ r. ⌜ r ≡ zeros (drop at b) ⌝ }
 {
-    let mut i = at;
-    while i < 8 {
-        if b[i] != 0 {
-            return false;
-        }
-        i += 1;
-    }
-    true
+    let n = lesser(at, 8);
+    every(Letters::Zero, &b[n..8])
 }
 
 // No byte of the counter stands where its field does not spell it.
@@ -243,8 +243,8 @@ fn kind_at(text: &[u8], at: usize) -> Kind
     requires { ⌜ at + 12 ≤ length (now text) ⌝ }
     ensures { λ r. ⌜ r ≡ kindOf (drop at (now (text .entry))) ⌝ }
 {
-    if text[at + 4] == 95 {
-        if text[at] == 85 {
+    if text[at + 4] == b'_' {
+        if text[at] == b'U' {
             return Kind::Cancellation;
         }
         return Kind::Training;

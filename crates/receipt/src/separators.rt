@@ -10,7 +10,7 @@ pub(crate) fn next_field(text: &[u8], at: usize) -> usize
 {
     let mut i = at;
     while i < text.len() {
-        if text[i] == 95 {
+        if text[i] == b'_' {
             return i + 1;
         }
         i += 1;

@@ -1,7 +1,8 @@
 // The settings of a register: CSP, register ID and serial.
+use primitives::width_good;
 ghost use mathlib.Core.Path.{_≡_};
 ghost use Prim.Native.Nat.{min};
-ghost use Rattle.receipt.specs.Settings.{between, idLetter, serialLetter, letterGood, every, nameGood, cspGood, idGood, serialGood, settingsGood, nameOf};
+ghost use Rattle.receipt.specs.Settings.{between, idLetter, serialLetter, letterGood, every, nameGood, cspGood, idGood, serialGood, settingsGood, settingsNumber, nameOf};
 
 // A register ID or a serial: its bytes up to its length, and zeros behind its end.
 pub struct Name {
@@ -35,7 +36,7 @@ fn between(low: u8, high: u8, b: u8) -> bool
 fn id_letter(b: u8) -> bool
     ensures { λ r. ⌜ r ≡ idLetter b ⌝ }
 {
-    if b == 95 {
+    if b == b'_' {
         return false;
     }
     between(33, 126, b)
@@ -45,10 +46,10 @@ fn id_letter(b: u8) -> bool
 fn serial_letter(b: u8) -> bool
     ensures { λ r. ⌜ r ≡ serialLetter b ⌝ }
 {
-    if between(48, 57, b) {
+    if between(b'0', b'9', b) {
         return true;
     }
-    between(97, 102, b)
+    between(b'a', b'f', b)
 }
 
 fn letter_good(class: Letters, b: u8) -> bool
@@ -97,13 +98,13 @@ fn name_good(class: Letters, name: Name) -> bool
 pub fn csp_good(csp: [u8; 3]) -> bool
     ensures { λ r. ⌜ r ≡ cspGood csp ⌝ }
 {
-    if !between(65, 90, csp[0]) {
+    if !between(b'A', b'Z', csp[0]) {
         return false;
     }
-    if !between(65, 90, csp[1]) {
+    if !between(b'A', b'Z', csp[1]) {
         return false;
     }
-    between(48, 57, csp[2])
+    between(b'0', b'9', csp[2])
 }
 
 // 1 to 32 bytes, each 33 to 126, never '_'.
@@ -133,6 +134,28 @@ pub fn settings_good(s: Settings) -> bool
     }
     let serial = s.serial;
     serial_good(serial)
+}
+
+// Questions 1 to 4, of settings and a counter's width; 0 where every answer is yes.
+pub fn settings_number(s: Settings, n: usize) -> u32
+    ensures { λ r. ⌜ r ≡ settingsNumber s n 0 ⌝ }
+{
+    let csp = s.csp;
+    if !csp_good(csp) {
+        return 1;
+    }
+    let id = s.id;
+    if !id_good(id) {
+        return 2;
+    }
+    let serial = s.serial;
+    if !serial_good(serial) {
+        return 3;
+    }
+    if !width_good(n) {
+        return 4;
+    }
+    0
 }
 
 // The lesser of two numbers.

@@ -17,11 +17,11 @@ loop-holds c = start _ _ _ _ (c .pre)
 sub-i : tie.Need-sub-i Inv-loop μ-loop
 sub-i c = search needs
 
-add-out : tie.Need-add-out Inv-loop μ-loop
-add-out c = search needs
-
 cast-out : tie.Need-cast-out Inv-loop μ-loop
 cast-out c = search needs
+
+add-out : tie.Need-add-out Inv-loop μ-loop
+add-out c = search needs
 
 add-out-2 : tie.Need-add-out-2 Inv-loop μ-loop
 add-out-2 c = omega (arith, c .before .loop .inv .room, c .before .loop .inv .long)
@@ -49,8 +49,8 @@ put-fixed-spec =
     μ-loop
     loop-holds
     sub-i
-    add-out
     cast-out
+    add-out
     add-out-2
     slice-write-out
     loop-less

@@ -1,5 +1,5 @@
 -- The part at the place of the ID field.
-use mathlib.Core.Path.{sym}
+use Rattle.receipt.proofs.CodeCalls.{field-at}
 use borrow.Author.Needs.{needs}
 use Rattle.receipt.proofs.machine_code.fields.Statement.{statement}
 use Rattle.receipt.proofs.machine_code.fields.Tie as tie
@@ -17,7 +17,7 @@ part-result-end : tie.Need-part-result-end
 part-result-end c = search needs
 
 returns : tie.Need-returns
-returns c = let r = c .before .id-place in (r .ensures .3, rw (sym (r .ensures .0)))
+returns c = let r = c .before .id-place in field-at (c .before .before .before .args .code .ptr) (c .before .before .before .args .code .now) (r .ensures .0)
 
 pub fields-spec : {M : Type 1} → statement M
 fields-spec =

@@ -1,6 +1,7 @@
 -- `payload::counter_content` meets its contract.
 use mathlib.Core.Path.{refl}
 use borrow.Author.Needs.{needs}
+use Rattle.receipt.specs.Texts.{cancellationText, trainingText}
 use Rattle.receipt.specs.Payload.{counterContent}
 use Rattle.receipt.proofs.payload.counter_content.Statement.{statement}
 use Rattle.receipt.proofs.payload.counter_content.Tie as tie
@@ -19,11 +20,11 @@ unfolding counterContent
 returns c = rw (c .enum-told .given .1) (c .before .before .pre, refl)
 
 returns-2 : tie.Need-returns-2
-unfolding counterContent
+unfolding counterContent cancellationText
 returns-2 c = rw (c .enum-told2 .given .1) (search needs, refl)
 
 returns-3 : tie.Need-returns-3
-unfolding counterContent
+unfolding counterContent trainingText
 returns-3 c = rw (c .enum-told3 .given .1) (search needs, refl)
 
 pub counter-content-spec : {M : Type 1} → statement M
