@@ -25,7 +25,6 @@ use Rattle.receipt.specs.declared.entry.Signature.{Signature}
 use Rattle.receipt.specs.declared.entry.Entry.{Entry}
 use Rattle.journal.specs.Head.{head, headLength, entryText}
 use Rattle.journal.specs.Step.{fresh, newCounter, fieldsOf}
-use Rattle.primitives.specs.Questions.{ask}
 use Rattle.journal.specs.Opening.{openNumber}
 use Rattle.journal.specs.Issuing.{signatureSized, givenSignature, entryOf, textOf, issueNumber}
 use Rattle.journal.specs.Checking.{accepted, takeOver}
@@ -34,13 +33,16 @@ use Rattle.journal.specs.Calls.{TypedCall, TypedCalls, none, more, Regis
 use Rattle.journal.specs.Demands.{Again, AcceptedIsWritten}
 use Rattle.journal.specs.declared.state.State.{State}
 use Rattle.journal.specs.declared.state.TakenOver.{TakenOver}
-use Rattle.receipt.proofs.Entries.{Admitted, admitted, settings-all, standard-is, counter-behind, counter-none, failed-bytes, encrypt-back}
+use Rattle.receipt.proofs.Entries.{Admitted, admitted, standard-is, counter-behind, counter-none, failed-bytes, encrypt-back}
 use Rattle.journal.proofs.Heads.{length-head}
 use Rattle.journal.proofs.Check as check
 use Rattle.journal.proofs.Check.{RightAt, textIn, step, AllRight, run, first-yes, right-new, step-length, step-texts}
 use Rattle.journal.proofs.Accepting.{valid-right, valid-taken}
 use Rattle.journal.proofs.CallLists.{Bounds, Sound, Detailed, issue-yes}
 use Rattle.journal.proofs.Registers.{run-bounds, counter-sum, entryIn, Holds, holds-behind, call-state, accepted-call, accepted-length, opening-holds, opening-length}
+use Rattle.journal.specs.State.{settingsNow}
+use Rattle.receipt.proofs.Names.{settings-yes}
+use Rattle.primitives.proofs.Rows.{ask-yes}
 
 -- ---- the signature of an entry, as a slice
 
@@ -80,24 +82,24 @@ module _ (st : State) (e : Entry) (h : RightAt st e) (kb : AllBytes (st .key)) w
   unfolding fieldsOf
   same-counter = go (standard (e .fields .details .kind)) refl
     where
-      a : Admitted (st .settings) (st .width) e
-      a = admitted (st .settings) (st .width) e (h .spelled)
+      a : Admitted (settingsNow st) (st .width) e
+      a = admitted (settingsNow st) (st .width) e (h .spelled)
 
       go : (t : Bool) → standard (e .fields .details .kind) ≡ t
-          → cond t (encryptedCounter (keySchedule (st .key)) (st .settings .id) (e .fields .details .number) (st .width) (newCounter st (e .fields .details) .counter)) (replicate 8 0) ≡ e .fields .counter
+          → cond t (encryptedCounter (keySchedule (st .key)) (settingsNow st .id) (e .fields .details .number) (st .width) (newCounter st (e .fields .details) .counter)) (replicate 8 0) ≡ e .fields .counter
       go true q =
           let k = standard-is (e .fields .details .kind) q in
-          let c : newCounter st (e .fields .details) .counter ≡ decryptedCounter (keySchedule (st .key)) (st .settings .id) (e .fields .details .number) (st .width) (e .fields .counter) =
+          let c : newCounter st (e .fields .details) .counter ≡ decryptedCounter (keySchedule (st .key)) (settingsNow st .id) (e .fields .details .number) (st .width) (e .fields .counter) =
           ap (λ (x : After). x .counter) (right-new st e h) ∙ sym (h .counter .decrypted k) in
           let z = counter-behind (st .width) (e .fields .counter) (h .typed .fields .counter) (subst (λ (x : Kind). counterGood (st .width) x (e .fields .counter) ≡ true) k (a .counter)) in
-          ap (encryptedCounter (keySchedule (st .key)) (st .settings .id) (e .fields .details .number) (st .width)) c
-          ∙ encrypt-back (keySchedule (st .key)) (st .settings .id) (e .fields .details .number) (st .width) (e .fields .counter) (schedule-bytes kb) (a .width) (h .typed .fields .counter) (h .typed .fields .counterBytes) z
+          ap (encryptedCounter (keySchedule (st .key)) (settingsNow st .id) (e .fields .details .number) (st .width)) c
+          ∙ encrypt-back (keySchedule (st .key)) (settingsNow st .id) (e .fields .details .number) (st .width) (e .fields .counter) (schedule-bytes kb) (a .width) (h .typed .fields .counter) (h .typed .fields .counterBytes) z
       go false q = sym (counter-none (st .width) (e .fields .details .kind) (e .fields .counter) q (h .typed .fields .counter) (a .counter))
 
   same-entry : entryOf st (callOf e .details) (callOf e .signature) ≡ e
   unfolding entryOf fieldsOf callOf sliceOf
   same-entry =
-      let a = admitted (st .settings) (st .width) e (h .spelled) in
+      let a = admitted (settingsNow st) (st .width) e (h .spelled) in
       λ i. record {
         fields = record { details = e .fields .details; counter = same-counter i; chain = sym (h .chained) i };
         signature = slice-given (e .signature) (h .typed .signature) (a .signature) i;
@@ -109,12 +111,12 @@ module _ (st : State) (e : Entry) (h : RightAt st e) (kb : AllBytes (st .key)) w
 
   text-same : textOf st (callOf e .details) (callOf e .signature) ≡ textIn st e
   unfolding textOf
-  text-same = ap (compact (st .settings) (st .width)) same-entry
+  text-same = ap (compact (settingsNow st) (st .width)) same-entry
 
   details-same : Detailed st (callOf e .details)
   unfolding callOf
   details-same =
-      let a = admitted (st .settings) (st .width) e (h .spelled) in
+      let a = admitted (settingsNow st) (st .width) e (h .spelled) in
       record {
         above = h .above;
         date = a .date;
@@ -194,13 +196,13 @@ module _ (s : Settings) (n : ℕ) (key : List ℕ) (ts : TypedSettings s) (good 
     numbers : numbersOf g (callsOf es) ≡ replicate (length es) 0
 
   again : (es : List Entry) (g : Register) (before : List Entry) → AllRight (g .state) es → Holds s n key g before
-      → g .state .length + length (texts (g .state .settings) (g .state .width) es) ≤ length (g .buf) → Issued g before es
+      → g .state .length + length (texts (settingsNow (g .state)) (g .state .width) es) ≤ length (g .buf) → Issued g before es
   unfolding calls callsOf numbersOf texts
   again [] g before check.none k room = record { holds = rw append-nil k; long = refl; numbers = refl }
   again (e ∷ es) g before (check.more h hs) k room =
       let c = callOf e in
       let t = entryText (textIn (g .state) e) in
-      let la = length-append t (texts (g .state .settings) (g .state .width) es) in
+      let la = length-append t (texts (settingsNow (g .state)) (g .state .width) es) in
       let r : g .state .length + length t ≤ length (g .buf) = omega arith in
       let q : call g c .state ≡ step (g .state) e = one-state g before e k h r in
       let sl = step-length (g .state) e in
@@ -217,8 +219,8 @@ module _ (s : Settings) (n : ℕ) (key : List ℕ) (ts : TypedSettings s) (good 
 -- ---- the journal
 
 open-yes : (s : Settings) (n room : ℕ) → settingsGood s ≡ true → widthGood n ≡ true → headLength s ≤ room → openNumber s n room ≡ 0
-unfolding openNumber ask
-open-yes s n room g w h = let a = settings-all s g in rw (a .csp, a .id, a .serial, w, le-leb _ _ h)
+unfolding openNumber
+open-yes s n room g w h = settings-yes s n _ g w ∙ ask-yes 5 0 (le-leb (headLength s) room h)
 
 accepted-state : (st : State) → accepted st .state ≡ st
 unfolding accepted

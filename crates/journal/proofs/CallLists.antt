@@ -35,7 +35,7 @@ use Rattle.receipt.specs.declared.entry.Signature.{Signature}
 use Rattle.primitives.proofs.Rows.{both, true-is-not-false, ask-zero}
 use Rattle.receipt.proofs.Names.{good-sized}
 use Rattle.receipt.proofs.Chains.{length-chain, bytes-chain, length-encrypted, bytes-encrypted, behind-encrypted, decrypt-back}
-use Rattle.journal.specs.Head.{head, headLength, entryText, front}
+use Rattle.journal.specs.Head.{head, entryText, front}
 use Rattle.primitives.specs.Questions.{ask, ifZero}
 use Rattle.journal.specs.Step.{soundAlone, sound, numberAbove, firstGood, newCounter, detailsNumber, fieldsOf, next}
 use Rattle.journal.specs.Issuing.{signatureSized, givenSignature, entryOf, textOf, entryFits, issueNumber, issued}
@@ -47,6 +47,7 @@ use Rattle.receipt.proofs.Entries.{spellable-yes, behind-counter, none-counter,
 use Rattle.journal.proofs.Heads.{head-front}
 use Rattle.journal.proofs.Check as check
 use Rattle.journal.proofs.Check.{RightAt, textIn, step, AllRight, run, run-length, step-counter, step-sum, above-true, first-true, new-fits, new-is}
+use Rattle.journal.specs.State.{settingsNow, headLengthNow}
 
 -- ---- one more entry at the end
 
@@ -82,7 +83,7 @@ pub record Kept (st st′ : State) (es : List Entry) : Type 0 where
   pub width : st′ .width ≡ st .width
   pub key : st′ .key ≡ st .key
   pub issued : st′ .issued ≡ st .issued + length es
-  pub length : st′ .length ≡ st .length + length (texts (st .settings) (st .width) es)
+  pub length : st′ .length ≡ st .length + length (texts (settingsNow st) (st .width) es)
   pub chain : Eight (st .chain) → Eight (st′ .chain)
 
 pub kept : (es : List Entry) (st : State) → Kept st (run st es) es
@@ -154,7 +155,7 @@ pub record Sound (st : State) : Type 0 where
   pub width : widthGood (st .width) ≡ true
   pub counter : counterFits (st .width) (st .counter) ≡ true
   pub issued : st .issued ≤ st .last
-  pub head : headLength (st .settings) ≤ st .length
+  pub head : headLengthNow st ≤ st .length
 
 pub sound-true : (st : State) → soundAlone st ≡ true → Sound st
 unfolding soundAlone
@@ -270,11 +271,11 @@ module _ (st : State) (d : Details) where
   unfolding fieldsOf
   counter-eight b = go (standard (d .kind))
     where
-      go : (t : Bool) → Eight (cond t (encryptedCounter (keySchedule (st .key)) (st .settings .id) (d .number) (st .width) (newCounter st d .counter)) (replicate 8 0))
+      go : (t : Bool) → Eight (cond t (encryptedCounter (keySchedule (st .key)) (settingsNow st .id) (d .number) (st .width) (newCounter st d .counter)) (replicate 8 0))
       go true =
           record {
-            long = length-encrypted (keySchedule (st .key)) (st .settings .id) (d .number) (st .width) (newCounter st d .counter);
-            bytes = bytes-encrypted (keySchedule (st .key)) (st .settings .id) (d .number) (st .width) (newCounter st d .counter) (schedule-bytes b);
+            long = length-encrypted (keySchedule (st .key)) (settingsNow st .id) (d .number) (st .width) (newCounter st d .counter);
+            bytes = bytes-encrypted (keySchedule (st .key)) (settingsNow st .id) (d .number) (st .width) (newCounter st d .counter) (schedule-bytes b);
           }
       go false = record { long = refl; bytes = bytes-replicate 8 (omega arith) }
 
@@ -282,28 +283,28 @@ module _ (st : State) (d : Details) where
   unfolding fieldsOf
   counter-good = go (d .kind)
     where
-      go : (k : Kind) → counterGood (st .width) k (cond (standard k) (encryptedCounter (keySchedule (st .key)) (st .settings .id) (d .number) (st .width) (newCounter st d .counter)) (replicate 8 0)) ≡ true
-      go Standard = behind-counter (st .width) _ (behind-encrypted (keySchedule (st .key)) (st .settings .id) (d .number) (st .width) (newCounter st d .counter))
+      go : (k : Kind) → counterGood (st .width) k (cond (standard k) (encryptedCounter (keySchedule (st .key)) (settingsNow st .id) (d .number) (st .width) (newCounter st d .counter)) (replicate 8 0)) ≡ true
+      go Standard = behind-counter (st .width) _ (behind-encrypted (keySchedule (st .key)) (settingsNow st .id) (d .number) (st .width) (newCounter st d .counter))
       go Cancellation = none-counter (st .width) Cancellation refl
       go Training = none-counter (st .width) Training refl
 
   counter-decrypted : newCounter st d .fits ≡ true → d .kind ≡ Standard
-      → decryptedCounter (keySchedule (st .key)) (st .settings .id) (d .number) (st .width) (fieldsOf st d .counter) ≡ st .counter +ℤ counted d
+      → decryptedCounter (keySchedule (st .key)) (settingsNow st .id) (d .number) (st .width) (fieldsOf st d .counter) ≡ st .counter +ℤ counted d
   unfolding fieldsOf
   counter-decrypted f k =
       let z = newCounter st d .counter in
       let e : z ≡ st .counter +ℤ counted d = ap (λ (a : After). a .counter) (new-is st d f) in
-      ap (λ (x : Kind). decryptedCounter (keySchedule (st .key)) (st .settings .id) (d .number) (st .width) (cond (standard x) (encryptedCounter (keySchedule (st .key)) (st .settings .id) (d .number) (st .width) z) (replicate 8 0))) k
-      ∙ decrypt-back (keySchedule (st .key)) (st .settings .id) (d .number) (st .width) z (ap (counterFits (st .width)) e ∙ new-fits st d f .fits)
+      ap (λ (x : Kind). decryptedCounter (keySchedule (st .key)) (settingsNow st .id) (d .number) (st .width) (cond (standard x) (encryptedCounter (keySchedule (st .key)) (settingsNow st .id) (d .number) (st .width) z) (replicate 8 0))) k
+      ∙ decrypt-back (keySchedule (st .key)) (settingsNow st .id) (d .number) (st .width) z (ap (counterFits (st .width)) e ∙ new-fits st d f .fits)
       ∙ e
 
 -- the entry of a call can be spelled once 6 to 12 are answered by yes
 module _ (st : State) (d : Details) (sig : List ℕ) (s : Sound st) (a : Detailed st d) (g : signatureSized sig ≡ true) where
-  pub call-spellable : spellable (st .settings) (st .width) (entryOf st d sig) ≡ true
+  pub call-spellable : spellable (settingsNow st) (st .width) (entryOf st d sig) ≡ true
   unfolding entryOf fieldsOf
   call-spellable =
-      spellable-yes (st .settings) (st .width) (entryOf st d sig) (record {
-        sized = good-sized (st .settings) (s .settings);
+      spellable-yes (settingsNow st) (st .width) (entryOf st d sig) (record {
+        sized = good-sized (settingsNow st) (s .settings);
         width = s .width;
         number = omega (arith, a .above);
         date = a .date;

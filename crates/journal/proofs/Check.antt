@@ -39,15 +39,16 @@ use Rattle.journal.specs.declared.state.State.{State}
 use Rattle.journal.proofs.Equal.{equal-true, equal-refl}
 use Rattle.receipt.proofs.Entries.{admitted, standard-is}
 use Rattle.journal.proofs.Places.{text-at, there-at, there-entry}
+use Rattle.journal.specs.State.{settingsNow}
 
 -- ---- a state's entries
 
 abbrev pub RightAt : State → Entry → Type 0
-RightAt st e = Right (st .settings) (st .key) (st .width) (st .last) (st .issued) (st .counter) (st .chain) e
+RightAt st e = Right (settingsNow st) (st .key) (st .width) (st .last) (st .issued) (st .counter) (st .chain) e
 
 -- the compact form of an entry under a state's settings
 abbrev pub textIn : State → Entry → List ℕ
-textIn st e = compact (st .settings) (st .width) e
+textIn st e = compact (settingsNow st) (st .width) e
 
 abbrev pub step : State → Entry → State
 step st e = next st (e .fields .details) (textIn st e)
@@ -99,7 +100,7 @@ module _ (st : State) (d : Details) where
 
 -- the decrypted counter of a standard receipt
 abbrev pub decryptedIn : State → PayloadFields → ℤ
-decryptedIn st f = decryptedCounter (keySchedule (st .key)) (st .settings .id) (f .details .number) (st .width) (f .counter)
+decryptedIn st f = decryptedCounter (keySchedule (st .key)) (settingsNow st .id) (f .details .number) (st .width) (f .counter)
 
 module _ (st : State) (f : PayloadFields) where
   pub right-yes : newCounter st (f .details) ≡ record { fits = true; counter = st .counter +ℤ counted (f .details) }
@@ -126,14 +127,14 @@ module _ (st : State) (f : PayloadFields) where
 
 pub right-new : (st : State) (e : Entry) → RightAt st e
     → newCounter st (e .fields .details) ≡ record { fits = true; counter = st .counter +ℤ counted (e .fields .details) }
-right-new st e h = new-yes st (e .fields .details) (admitted (st .settings) (st .width) e (h .spelled) .amounts) (h .counter .fits)
+right-new st e h = new-yes st (e .fields .details) (admitted (settingsNow st) (st .width) e (h .spelled) .amounts) (h .counter .fits)
 
-pub found-is : (st : State) (e : Entry) → TypedSettings (st .settings) → RightAt st e → found st (textIn st e) ≡ record { ok = true; entry = e }
+pub found-is : (st : State) (e : Entry) → TypedSettings (settingsNow st) → RightAt st e → found st (textIn st e) ≡ record { ok = true; entry = e }
 unfolding found
-found-is st e ts h = back (st .settings) (st .width) e (ts .lengths) (ts .bytes) (h .typed) (h .spelled)
+found-is st e ts h = back (settingsNow st) (st .width) e (ts .lengths) (ts .bytes) (h .typed) (h .spelled)
 
 -- the text of a right entry passes
-pub right-passes : (st : State) (e : Entry) → TypedSettings (st .settings) → RightAt st e → textNumber (scheduleOf st) st (textIn st e) ≡ 0
+pub right-passes : (st : State) (e : Entry) → TypedSettings (settingsNow st) → RightAt st e → textNumber (scheduleOf st) st (textIn st e) ≡ 0
 unfolding textNumber contextNumber ask
 right-passes st e ts h =
     rw (found-is st e ts h, above-yes st (e .fields .details) (h .above), right-yes st (e .fields) (right-new st e h) (h .counter .decrypted), first-yes st (e .fields .details) (h .first), h .chained, same-refl (st .chain))
@@ -145,7 +146,7 @@ pub record Passed (st : State) (text : List ℕ) : Type 0 where
   pub found : found st text ≡ record { ok = true; entry = entry }
   pub right : RightAt st entry
 
-right-from : (st : State) (e : Entry) → TypedEntry e → spellable (st .settings) (st .width) e ≡ true → contextNumber (scheduleOf st) st (e .fields) ≡ 0 → RightAt st e
+right-from : (st : State) (e : Entry) → TypedEntry e → spellable (settingsNow st) (st .width) e ≡ true → contextNumber (scheduleOf st) st (e .fields) ≡ 0 → RightAt st e
 unfolding contextNumber
 right-from st e te g z =
     let p₁ = ask-zero _ _ _ z in
@@ -161,23 +162,23 @@ right-from st e te g z =
       counter = record { fits = new-fits st (e .fields .details) (right-fits st (e .fields) (p₄ .0)) .fits; decrypted = right-true st (e .fields) (p₄ .0) };
     }
 
-pub passes-right : (st : State) (text : List ℕ) → TypedSettings (st .settings) → AllBytes text → textNumber (scheduleOf st) st text ≡ 0 → Passed st text
+pub passes-right : (st : State) (text : List ℕ) → TypedSettings (settingsNow st) → AllBytes text → textNumber (scheduleOf st) st text ≡ 0 → Passed st text
 unfolding textNumber found
 passes-right st text ts b z =
     let p = ask-zero _ _ _ z in
-    let x = exact (st .settings) (st .width) text (ts .lengths) (ts .bytes) b in
-    let w : Spelled (st .settings) (st .width) text = x .0 (p .0) in
-    let f : readEntry (st .settings) (st .width) text ≡ record { ok = true; entry = w .entry } = x .1 w in
+    let x = exact (settingsNow st) (st .width) text (ts .lengths) (ts .bytes) b in
+    let w : Spelled (settingsNow st) (st .width) text = x .0 (p .0) in
+    let f : readEntry (settingsNow st) (st .width) text ≡ record { ok = true; entry = w .entry } = x .1 w in
     let q : contextNumber (scheduleOf st) st (w .entry .fields) ≡ 0 = ap (λ (r : Found). contextNumber (scheduleOf st) st (r .entry .fields)) (sym f) ∙ p .1 in
     record { entry = w .entry; is = w .is; found = f; right = right-from st (w .entry) (w .typed) (w .spellable) q }
 
 -- ---- one step
 
 -- the length of a text fits two bytes
-pub text-small : (st : State) (e : Entry) → TypedSettings (st .settings) → RightAt st e → length (textIn st e) < 65536
-text-small st e ts h = omega (arith, compact-short (st .settings) (st .width) e (ts .lengths) (h .typed) (h .spelled))
+pub text-small : (st : State) (e : Entry) → TypedSettings (settingsNow st) → RightAt st e → length (textIn st e) < 65536
+text-small st e ts h = omega (arith, compact-short (settingsNow st) (st .width) e (ts .lengths) (h .typed) (h .spelled))
 
-module _ (st : State) (e : Entry) (p rest : List ℕ) (at : length p ≡ st .length) (ts : TypedSettings (st .settings)) (h : RightAt st e) where
+module _ (st : State) (e : Entry) (p rest : List ℕ) (at : length p ≡ st .length) (ts : TypedSettings (settingsNow st)) (h : RightAt st e) where
   pub step-zero : entryNumber (scheduleOf st) st (p ++ (entryText (textIn st e) ++ rest)) ≡ 0
   unfolding entryNumber ask
   step-zero =
@@ -198,7 +199,7 @@ step-length st e = refl
 
 -- ---- all of them
 
-pub step-texts : (st : State) (e : Entry) (es : List Entry) → texts (step st e .settings) (step st e .width) es ≡ texts (st .settings) (st .width) es
+pub step-texts : (st : State) (e : Entry) (es : List Entry) → texts (step st e .settings) (step st e .width) es ≡ texts (settingsNow st) (st .width) es
 unfolding next
 step-texts st e es = refl
 
@@ -211,21 +212,21 @@ ended : (st : State) (j : List ℕ) → length j ≤ st .length → checkFrom ze
 unfolding checkFrom
 ended st j h = rw (le-leb (length j) (st .length) h)
 
-pub run-length : (es : List Entry) (st : State) → run st es .length ≡ st .length + length (texts (st .settings) (st .width) es)
+pub run-length : (es : List Entry) (st : State) → run st es .length ≡ st .length + length (texts (settingsNow st) (st .width) es)
 unfolding run texts
 run-length [] st = omega arith
 run-length (e ∷ es) st =
-    let a = length-append (entryText (textIn st e)) (texts (st .settings) (st .width) es) in
+    let a = length-append (entryText (textIn st e)) (texts (settingsNow st) (st .width) es) in
     run-length es (step st e) ∙ omega (arith, step-length st e, ap length (step-texts st e es))
 
 -- right entries at the state's place are passed, whatever stands behind them
-pub passed : (es : List Entry) (m : ℕ) (st : State) (p rest j : List ℕ) → length p ≡ st .length → TypedSettings (st .settings) → AllRight st es
-    → j ≡ p ++ (texts (st .settings) (st .width) es ++ rest) → checkFrom (length es + m) st j ≡ checkFrom m (run st es) j
+pub passed : (es : List Entry) (m : ℕ) (st : State) (p rest j : List ℕ) → length p ≡ st .length → TypedSettings (settingsNow st) → AllRight st es
+    → j ≡ p ++ (texts (settingsNow st) (st .width) es ++ rest) → checkFrom (length es + m) st j ≡ checkFrom m (run st es) j
 unfolding texts run
 passed [] m st p rest j at ts none q = ap (λ (k : ℕ). checkFrom k st j) (zero-add m)
 passed (e ∷ es) m st p rest j at ts (more h hs) q =
     let t = textIn st e in
-    let u = texts (st .settings) (st .width) es in
+    let u = texts (settingsNow st) (st .width) es in
     let k : suc (length es) + m ≡ suc (length es + m) = omega arith in
     let q₁ : j ≡ p ++ (entryText t ++ (u ++ rest)) = q ∙ ap (λ (l : List ℕ). p ++ l) (append-assoc (entryText t) u rest) in
     let q₂ : j ≡ (p ++ entryText t) ++ (texts (step st e .settings) (step st e .width) es ++ rest) =
@@ -236,10 +237,10 @@ passed (e ∷ es) m st p rest j at ts (more h hs) q =
     ap (λ (k : ℕ). checkFrom k st j) k ∙ (turn (length es + m) st j z ∙ (ap (λ (x : State). checkFrom (length es + m) x j) a
     ∙ passed es m (step st e) (p ++ entryText t) rest j at′ (subst TypedSettings (sym (step-settings st e)) ts) hs q₂))
 
-pub complete : (es : List Entry) (st : State) (p : List ℕ) → length p ≡ st .length → TypedSettings (st .settings) → AllRight st es
-    → checkFrom (length es) st (p ++ texts (st .settings) (st .width) es) ≡ accepted (run st es)
+pub complete : (es : List Entry) (st : State) (p : List ℕ) → length p ≡ st .length → TypedSettings (settingsNow st) → AllRight st es
+    → checkFrom (length es) st (p ++ texts (settingsNow st) (st .width) es) ≡ accepted (run st es)
 complete es st p at ts h =
-    let u = texts (st .settings) (st .width) es in
+    let u = texts (settingsNow st) (st .width) es in
     let q : p ++ u ≡ p ++ (u ++ []) = ap (λ (l : List ℕ). p ++ l) (sym (append-nil u)) in
     ap (λ (k : ℕ). checkFrom k st (p ++ u)) (sym (add-zero (length es)))
     ∙ (passed es 0 st p [] (p ++ u) at ts h q ∙ ended (run st es) (p ++ u) (omega (arith, run-length es st, length-append p u)))
@@ -252,7 +253,7 @@ bytes-text j at b = bytes-take (lengthAt j at) (bytes-drop (at + 2) b)
 pub record Reads (n : ℕ) (st : State) (j : List ℕ) : Type 0 where
   pub entries : List Entry
   pub count : length entries ≡ n
-  pub bytes : drop (st .length) j ≡ texts (st .settings) (st .width) entries
+  pub bytes : drop (st .length) j ≡ texts (settingsNow st) (st .width) entries
   pub right : AllRight st entries
 
 -- the state behind an entry that passed
@@ -260,7 +261,7 @@ pub after-passed : (st : State) (text : List ℕ) (w : Passed st text) → after
 unfolding after
 after-passed st text w = rw (w .found) (ap (next st (w .entry .fields .details)) (w .is))
 
-first-of : (n : ℕ) (st : State) (j : List ℕ) → TypedSettings (st .settings) → AllBytes j → Reads n (after st (textAt j (st .length))) j → entryNumber (scheduleOf st) st j ≡ 0 → Reads (suc n) st j
+first-of : (n : ℕ) (st : State) (j : List ℕ) → TypedSettings (settingsNow st) → AllBytes j → Reads n (after st (textAt j (st .length))) j → entryNumber (scheduleOf st) st j ≡ 0 → Reads (suc n) st j
 unfolding entryNumber texts
 first-of n st j ts b r z =
     let q = ask-zero _ _ _ z in
@@ -279,7 +280,7 @@ first-of n st j ts b r z =
       right = more (w .right) (r′ .right);
     }
 
-sound-step : (n : ℕ) (st : State) (j : List ℕ) → TypedSettings (st .settings) → AllBytes j
+sound-step : (n : ℕ) (st : State) (j : List ℕ) → TypedSettings (settingsNow st) → AllBytes j
     → (checkFrom n (after st (textAt j (st .length))) j .number ≡ 0 → Reads n (after st (textAt j (st .length))) j)
     → checkFrom (suc n) st j .number ≡ 0 → Reads (suc n) st j
 unfolding checkFrom ifZero refused
@@ -294,7 +295,7 @@ after-settings : (st : State) (text : List ℕ) → after st text .settings ≡ 
 unfolding after next
 after-settings st text = refl
 
-pub sound-from : (n : ℕ) (st : State) (j : List ℕ) → TypedSettings (st .settings) → AllBytes j → checkFrom n st j .number ≡ 0 → Reads n st j
+pub sound-from : (n : ℕ) (st : State) (j : List ℕ) → TypedSettings (settingsNow st) → AllBytes j → checkFrom n st j .number ≡ 0 → Reads n st j
 unfolding checkFrom refused texts
 sound-from zero st j ts b z = go (leb (length j) (st .length)) refl z
   where
@@ -310,8 +311,8 @@ sound-from (suc n) st j ts b z =
 -- right behind the entries before it, from a state on
 abbrev pub RightFrom : State → List Entry → Entry → Type 0
 RightFrom st before e =
-    Right (st .settings) (st .key) (st .width) (lastOf (st .last) before) (st .issued + length before) (st .counter +ℤ sum (receiptsIn before))
-    (chainOf (st .settings) (st .width) (st .chain) before) e
+    Right (settingsNow st) (st .key) (st .width) (lastOf (st .last) before) (st .issued + length before) (st .counter +ℤ sum (receiptsIn before))
+    (chainOf (settingsNow st) (st .width) (st .chain) before) e
 
 abbrev pub EachRight : State → List Entry → Type 0
 EachRight st es = (before : List Entry) (e : Entry) (behind : List Entry) → es ≡ before ++ (e ∷ behind) → RightFrom st before e
@@ -335,13 +336,13 @@ module _ (st : State) (x : Entry) (before : List Entry) (e : Entry) (h : RightAt
 
   one-more : RightFrom (step st x) before e ≡ RightFrom st (x ∷ before) e
   unfolding next lastOf chainOf
-  one-more = λ i. Right (st .settings) (st .key) (st .width) (lastOf (x .fields .details .number) before) (count-more i) (step-sum st x before h i)
-      (chainOf (st .settings) (st .width) (chainValue (textIn st x)) before) e
+  one-more = λ i. Right (settingsNow st) (st .key) (st .width) (lastOf (x .fields .details .number) before) (count-more i) (step-sum st x before h i)
+      (chainOf (settingsNow st) (st .width) (chainValue (textIn st x)) before) e
 
 -- nothing before it
 none-before : (st : State) (e : Entry) → RightFrom st [] e ≡ RightAt st e
 unfolding lastOf chainOf sum receiptsIn
-none-before st e = λ i. Right (st .settings) (st .key) (st .width) (st .last) (add-zero (st .issued) i) (+ℤ-idr (st .counter) i) (st .chain) e
+none-before st e = λ i. Right (settingsNow st) (st .key) (st .width) (st .last) (add-zero (st .issued) i) (+ℤ-idr (st .counter) i) (st .chain) e
 
 pub all-each : (es : List Entry) (st : State) → AllRight st es → EachRight st es
 all-each [] st none [] e behind q = absurd (let z : _≡_ {A = ℕ} 0 1 = cc in omega arith)

@@ -26,7 +26,7 @@ use Rattle.primitives.proofs.Rows.{both, true-is-not-false, and-no, and-yes, no
 use Rattle.journal.specs.Step.{fresh, newCounter, next, soundAlone, sound}
 use Rattle.primitives.specs.Questions.{ask, ifZero}
 use Rattle.primitives.specs.Number.{countAt}
-use Rattle.journal.specs.Head.{headSettings, headGood, lengthAt, there, textAt, countPlace, headLength, entryText}
+use Rattle.journal.specs.Head.{headSettings, headGood, lengthAt, there, textAt, headLength, entryText}
 use Rattle.journal.proofs.Remaining.{step-end, step-entry, idle, passed-step, after-settings, after-below}
 use Rattle.journal.specs.Checking.{headNumber, found, equal, counterRight, contextNumber, textNumber, after, entryNumber, refused, accepted, takeOver, checked, stopped, textChecked, placeChecked, endChecked, oneStep, steps, answerOf, entryReady, entryChecked, stepChecked, full}
 use Rattle.journal.specs.declared.state.State.{State}
@@ -38,6 +38,7 @@ use Rattle.journal.specs.declared.checking.Step.{Step}
 use Rattle.journal.proofs.Places.{length-entry}
 use Rattle.receipt.specs.Settings.{settingsGood}
 use Rattle.journal.proofs.CallLists.{sound-true}
+use Rattle.journal.specs.State.{settingsNow, headLengthNow, countPlaceNow}
 
 -- ---- the bytes of an entry
 
@@ -115,12 +116,12 @@ module _ (k : List (List ℕ)) (st : State) (f : PayloadFields) {a : After} (e :
     counter-other q = and-yes _ _ _ fits (sym (rw q))
 
     pub counter-standard : {t : Bool} → standard (f .details .kind) ≡ true → SFits w64 (a .counter)
-        → t ≡ equal (decryptedCounter k (st .settings .id) (f .details .number) (st .width) (f .counter)) (toZ w64 (ofZ w64 (a .counter)))
+        → t ≡ equal (decryptedCounter k (settingsNow st .id) (f .details .number) (st .width) (f .counter)) (toZ w64 (ofZ w64 (a .counter)))
         → t ≡ counterRight k st f
     unfolding counterRight
     counter-standard s g q =
         and-yes _ _ _ fits
-        (q ∙ ap (equal _) (toZ-ofZ g) ∙ (λ i. equal (decryptedCounter k (st .settings .id) (f .details .number) (st .width) (f .counter)) (new-is i .counter)) ∙ sym (rw s))
+        (q ∙ ap (equal _) (toZ-ofZ g) ∙ (λ i. equal (decryptedCounter k (settingsNow st .id) (f .details .number) (st .width) (f .counter)) (new-is i .counter)) ∙ sym (rw s))
 
 pub above-of : (k : List (List ℕ)) (st : State) (f : PayloadFields) → contextNumber k st f ≡ 0 → st .last < f .details .number
 unfolding contextNumber
@@ -128,7 +129,7 @@ above-of k st f z = above-true st (f .details) (ask-zero _ _ _ z .0)
 
 -- ---- one entry
 
-module _ (k : List (List ℕ)) (st : State) (text : List ℕ) {r : Found} (e : r ≡ readEntry (st .settings) (st .width) text) where
+module _ (k : List (List ℕ)) (st : State) (text : List ℕ) {r : Found} (e : r ≡ readEntry (settingsNow st) (st .width) text) where
   found-is : r ≡ found st text
   unfolding found
   found-is = e
@@ -168,7 +169,7 @@ module _ (k : List (List ℕ)) (st : State) (text : List ℕ) {r : Found} (e : r
 -- ---- the end of a journal
 
 module _ (st : State) (j : List ℕ) where
-  pub full-is : {count place : ℕ} → place ≡ countPlace (st .settings) → count ≡ countAt j place 4 → leb count (st .issued) ≡ full st j
+  pub full-is : {count place : ℕ} → place ≡ countPlaceNow st → count ≡ countAt j place 4 → leb count (st .issued) ≡ full st j
   unfolding full
   full-is p q = ap (λ (n : ℕ). leb n (st .issued)) (q ∙ ap (λ (x : ℕ). countAt j x 4) p)
 
@@ -304,7 +305,7 @@ module _ (j key : List ℕ) (n : ℕ) (s : Settings) {st : State} (e : st ≡ fr
   fresh-keeps = (omega arith, refl)
 
   pub fresh-starts : settingsGood s ≡ true → headLength s ≤ length j
-      → (st .issued ≤ st .last) × (settingsGood (st .settings) ≡ true) × (headLength (st .settings) ≤ length j)
+      → (st .issued ≤ st .last) × (settingsGood (settingsNow st) ≡ true) × (headLengthNow st ≤ length j)
   fresh-starts g h =
       let q : st .settings ≡ s = ap (λ (x : State). x .settings) e ∙ fresh-keeps .1 in
       (subst (λ (x : State). x .issued ≤ x .last) (sym e) (fresh-keeps .0), ap settingsGood q ∙ g, subst (λ (x : Settings). headLength x ≤ length j) (sym q) h)
@@ -349,7 +350,7 @@ module _ (st : State) (j : List ℕ) where
   unfolding stepChecked
   step-checked k h q = q ∙ sym (rw h)
 
-  pub sound-step : sound st (length j) ≡ true → (st .issued ≤ st .last) × (settingsGood (st .settings) ≡ true) × (headLength (st .settings) ≤ length j)
+  pub sound-step : sound st (length j) ≡ true → (st .issued ≤ st .last) × (settingsGood (settingsNow st) ≡ true) × (headLengthNow st ≤ length j)
   unfolding sound
   sound-step h =
       let p = both _ _ h in

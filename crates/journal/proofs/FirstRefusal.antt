@@ -41,6 +41,7 @@ use Rattle.journal.proofs.Check.{step, AllRight, run, first-yes, first-
 use Rattle.journal.proofs.Accepting.{fresh-each, head-checks}
 use Rattle.journal.proofs.CallLists.{run-snoc, texts-snoc, right-snoc}
 use Rattle.journal.proofs.Registers.{Behind, run-behind, counter-sum}
+use Rattle.journal.specs.State.{settingsNow}
 
 -- ---- the state behind entries, field by field
 
@@ -49,7 +50,7 @@ unfolding run lastOf next
 run-last [] st = refl
 run-last (e ∷ es) st = run-last es (step st e)
 
-run-chain : (es : List Entry) (st : State) → run st es .chain ≡ chainOf (st .settings) (st .width) (st .chain) es
+run-chain : (es : List Entry) (st : State) → run st es .chain ≡ chainOf (settingsNow st) (st .width) (st .chain) es
 unfolding run chainOf next
 run-chain [] st = refl
 run-chain (e ∷ es) st = run-chain es (step st e)

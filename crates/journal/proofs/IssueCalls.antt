@@ -32,7 +32,7 @@ use Rattle.primitives.proofs.Rows.{both, ask-zero, ask-yes, ask-no, ifZero-yes,
 use Rattle.receipt.proofs.Entries.{input-some}
 use Rattle.receipt.proofs.EntryCalls.{spellable-true, preparable-made, spelled-is, prepared-is}
 use Rattle.receipt.proofs.ExactEntry.{compact-signed}
-use Rattle.journal.specs.Head.{headLength, countPlace, entryText}
+use Rattle.journal.specs.Head.{entryText}
 use Rattle.primitives.specs.Questions.{ask, ifZero}
 use Rattle.journal.specs.Step.{soundAlone, sound, newCounter, detailsNumber, fieldsOf, next}
 use Rattle.journal.specs.Issuing.{signatureSized, givenSignature, entryOf, textOf, entryFits, issueNumber, issued, written, issueBuffer}
@@ -40,6 +40,7 @@ use Rattle.journal.specs.Preparing.{preparedText, prepareNumber, prepare
 use Rattle.journal.specs.declared.state.State.{State}
 use Rattle.journal.proofs.Places.{length-entry}
 use Rattle.journal.proofs.CallLists.{sound-true, details-zero, details-yes, details-then, sized-cases, call-spellable}
+use Rattle.journal.specs.State.{settingsNow, headLengthNow, countPlaceNow}
 
 -- ---- the questions 7 to 11, and then the rest
 
@@ -53,17 +54,17 @@ module _ (st : State) (d : Details) {k : ℕ} (e : k ≡ detailsNumber st d 0) (
 -- ---- the counter field
 
 pub encrypted-is : (st : State) (d : Details) {k : List (List ℕ)} {a : After} {z : ℤ} {r : List ℕ} → k ≡ keySchedule (st .key) → a ≡ newCounter st d → z ≡ a .counter
-    → r ≡ encryptedCounter k (st .settings .id) (d .number) (st .width) z
-    → r ≡ encryptedCounter (keySchedule (st .key)) (st .settings .id) (d .number) (st .width) (newCounter st d .counter)
+    → r ≡ encryptedCounter k (settingsNow st .id) (d .number) (st .width) z
+    → r ≡ encryptedCounter (keySchedule (st .key)) (settingsNow st .id) (d .number) (st .width) (newCounter st d .counter)
 encrypted-is st d e q f h =
     let p = f ∙ ap (λ (x : After). x .counter) q in
-    h ∙ (λ i. encryptedCounter (e i) (st .settings .id) (d .number) (st .width) (p i))
+    h ∙ (λ i. encryptedCounter (e i) (settingsNow st .id) (d .number) (st .width) (p i))
 
 pub field-standard : (st : State) (d : Details) {r : List ℕ} → d .kind ≡ Standard
-    → r ≡ encryptedCounter (keySchedule (st .key)) (st .settings .id) (d .number) (st .width) (newCounter st d .counter) → r ≡ fieldsOf st d .counter
+    → r ≡ encryptedCounter (keySchedule (st .key)) (settingsNow st .id) (d .number) (st .width) (newCounter st d .counter) → r ≡ fieldsOf st d .counter
 unfolding fieldsOf
 field-standard st d e q =
-    q ∙ sym (ap (λ (k : Kind). cond (standard k) (encryptedCounter (keySchedule (st .key)) (st .settings .id) (d .number) (st .width) (newCounter st d .counter)) (replicate 8 0)) e)
+    q ∙ sym (ap (λ (k : Kind). cond (standard k) (encryptedCounter (keySchedule (st .key)) (settingsNow st .id) (d .number) (st .width) (newCounter st d .counter)) (replicate 8 0)) e)
 
 -- ---- the signature
 
@@ -87,7 +88,7 @@ module _ (sig : List ℕ) where
 -- ---- the entry can be spelled
 
 pub spellable-asked : (st : State) (d : Details) (sig : List ℕ) → soundAlone st ≡ true → detailsNumber st d 0 ≡ 0 → signatureSized sig ≡ true
-    → spellable (st .settings) (st .width) (entryOf st d sig) ≡ true
+    → spellable (settingsNow st) (st .width) (entryOf st d sig) ≡ true
 spellable-asked st d sig s z g = call-spellable st d sig (sound-true st s) (details-zero st d 0 z .0) g
 
 pub compact-some : (s : Settings) (n : ℕ) (e : Entry) → 0 < length (compact s n e)
@@ -213,7 +214,7 @@ module _ (st : State) (d : Details) (sig b : List ℕ) (a : Asked st d sig (leng
   pub append-count : d .number < 4294967296 → st .issued + 1 < 4294967296
   append-count h = omega (arith, h, sound-true st (asked-alone .0) .issued, details-zero st d 0 (a .details) .0 .above)
 
-  pub append-head : (settingsGood (st .settings) ≡ true) × (headLength (st .settings) ≤ length b)
+  pub append-head : (settingsGood (settingsNow st) ≡ true) × (headLengthNow st ≤ length b)
   append-head = let s = sound-true st (asked-alone .0) in (s .settings, omega (arith, s .head, asked-alone .1))
 
   -- the number, as far as it is not known
@@ -223,12 +224,12 @@ module _ (st : State) (d : Details) (sig b : List ℕ) (a : Asked st d sig (leng
       ask-yes 6 _ (a .sound) ∙ details-past st d refl _ (a .details) ∙ ask-yes 12 _ (a .signature)
 
   module _ {e : Entry} (q : e ≡ entryOf st d sig) {r : ℕ} {b₁ : List ℕ}
-      (w : (r ≡ behind b (st .length) (entryText (compact (st .settings) (st .width) e))) × (b₁ ≡ placed b (st .length) (entryText (compact (st .settings) (st .width) e)))) where
+      (w : (r ≡ behind b (st .length) (entryText (compact (settingsNow st) (st .width) e))) × (b₁ ≡ placed b (st .length) (entryText (compact (settingsNow st) (st .width) e)))) where
     -- the same of the text that the definitions speak of
     w′ : (r ≡ behind b (st .length) (entryText (textOf st d sig))) × (b₁ ≡ placed b (st .length) (entryText (textOf st d sig)))
     unfolding textOf
     w′ =
-        let p : entryText (compact (st .settings) (st .width) e) ≡ entryText (textOf st d sig) = λ i. entryText (compact (st .settings) (st .width) (q i)) in
+        let p : entryText (compact (settingsNow st) (st .width) e) ≡ entryText (textOf st d sig) = λ i. entryText (compact (settingsNow st) (st .width) (q i)) in
         (w .0 ∙ ap (behind b (st .length)) p, w .1 ∙ ap (placed b (st .length)) p)
 
     pub append-refused : r ≡ st .length → (record { number = 13; state = st } ≡ issued st d sig (length b)) × (b₁ ≡ issueBuffer st d sig b)
@@ -263,13 +264,13 @@ module _ (st : State) (d : Details) (sig b : List ℕ) (a : Asked st d sig (leng
           }
 
       pub append-done : {st₁ : State} {b₂ : List ℕ} → st₁ ≡ next st d (take (r - (st .length + 2)) (drop (st .length + 2) b₁))
-          → b₂ ≡ overwrite b₁ (countPlace (st .settings)) (bytesOf 4 (st .issued + 1))
+          → b₂ ≡ overwrite b₁ (countPlaceNow st) (bytesOf 4 (st .issued + 1))
           → (record { number = 0; state = st₁ } ≡ issued st d sig (length b)) × (b₂ ≡ issueBuffer st d sig b)
       unfolding issued issueBuffer written
       append-done f g =
           let n : issueNumber st d sig (length b) ≡ 0 = number-is ∙ ask-yes 13 0 (le-leb _ _ (appended .room)) in (
             (λ i. record { number = sym n i; state = (f ∙ ap (next st d) text-is ∙ sym (ifZero-yes (next st d (textOf st d sig)) st n)) i }),
-            g ∙ ap (λ (l : List ℕ). overwrite l (countPlace (st .settings)) (bytesOf 4 (st .issued + 1))) (appended .wrote) ∙ sym (ifZero-yes (written st (textOf st d sig) b) b n),
+            g ∙ ap (λ (l : List ℕ). overwrite l (countPlaceNow st) (bytesOf 4 (st .issued + 1))) (appended .wrote) ∙ sym (ifZero-yes (written st (textOf st d sig) b) b n),
           )
 
 -- ---- the questions of an Issue
@@ -321,11 +322,11 @@ module _ (st : State) (d : Details) (out : List ℕ) {k : ℕ} (e : k ≡ ask (s
       go true (suc m) rest h = refl
 
   module _ (z : k ≡ 0) {f : PayloadFields} (q : f ≡ fieldsOf st d) {r : ℕ} {out₁ : List ℕ}
-      (w : (r ≡ behind out 0 (prepared (st .settings) (st .width) f)) × (out₁ ≡ placed out 0 (prepared (st .settings) (st .width) f))) where
+      (w : (r ≡ behind out 0 (prepared (settingsNow st) (st .width) f)) × (out₁ ≡ placed out 0 (prepared (settingsNow st) (st .width) f))) where
     asked : (soundAlone st ≡ true) × (detailsNumber st d 0 ≡ 0)
     asked = ask-zero _ _ _ (sym e ∙ z)
 
-    prepared-as : prepared (st .settings) (st .width) f ≡ preparedText st d
+    prepared-as : prepared (settingsNow st) (st .width) f ≡ preparedText st d
     unfolding preparedText entryOf signatureSized
     prepared-as =
         let s = st .settings in
@@ -341,7 +342,7 @@ module _ (st : State) (d : Details) (out : List ℕ) {k : ℕ} (e : k ≡ ask (s
 
     some-text : 0 < length (preparedText st d)
     unfolding preparedText
-    some-text = input-some (st .settings) (st .width) (fieldsOf st d)
+    some-text = input-some (settingsNow st) (st .width) (fieldsOf st d)
 
     number-left : prepareNumber st d (length out) ≡ ask (leb (length (preparedText st d)) (length out)) 13 0
     unfolding prepareNumber

@@ -1,5 +1,5 @@
 -- What the functions of an Open show at their returns, over plain variables.
-use Prim.Native.Nat.{ℕ, _+_, _-_, _≤_}
+use Prim.Native.Nat.{ℕ, _+_, _-_, _≤_, _<_}
 use mathlib.Core.Path.{_≡_, sym, ap, _∙_}
 use mathlib.Core.Bool.{true}
 use mathlib.Core.List.{List, _++_}
@@ -9,18 +9,21 @@ use Rattle.primitives.specs.Place.{overwrite, placed}
 use Rattle.primitives.specs.Number.{bytesOf}
 use Rattle.primitives.proofs.Numbers.{length-bytesOf}
 use Rattle.primitives.proofs.Over.{length-over, placed-room, then}
-use Rattle.receipt.specs.Settings.{nameText, settingsGood, SettingsLengths}
+use Rattle.receipt.specs.Settings.{nameText, settingsGood, SettingsLengths, settingsNumber}
 use Rattle.receipt.specs.declared.settings.Settings.{Settings}
-use Rattle.receipt.proofs.Names.{good-settings, length-text}
+use Rattle.receipt.proofs.Names.{good-settings, length-text, settings-zero, settings-pass, settings-stop}
 use Rattle.receipt.proofs.Entries.{lent-name}
 use Rattle.journal.specs.Head.{head, headLength, countPlace, front, section}
 use Rattle.journal.specs.State.{unopened}
 use Rattle.journal.specs.Step.{fresh}
 use Rattle.journal.specs.Opening.{openNumber, opened, openBuffer}
 use Rattle.journal.specs.declared.state.State.{State}
-use Rattle.primitives.proofs.Rows.{ifZero-yes, ifZero-no}
+use Rattle.primitives.proofs.Rows.{ifZero-yes, ifZero-no, ask-yes, ask-no}
 use Rattle.journal.proofs.Heads.{front-place}
 use Rattle.journal.proofs.Sections.{length-section}
+use Rattle.primitives.specs.Questions.{ask}
+use borrow.Author.Tests.{le-leb, lt-leb}
+use lib.Dec.{leb}
 
 -- ---- writers in a row
 
@@ -113,3 +116,24 @@ module _ (s : Settings) (key : List ℕ) (n : ℕ) (b : List ℕ) (k : ℕ) (e :
   open-done z w q =
       let m : openNumber s n (length b) ≡ 0 = sym e ∙ z in
       ((λ i. record { number = sym m i; state = (q ∙ sym (ifZero-yes (fresh s n key) unopened m)) i }), w ∙ sym (ifZero-yes (overwrite b 0 (head s 0)) b m))
+
+-- ---- questions 1 to 5
+
+module _ (s : Settings) (n room : ℕ) {k : ℕ} (e : k ≡ settingsNumber s n 0) where
+  pub number-stops : (k ≡ 0 → ⊥) → k ≡ openNumber s n room
+  unfolding openNumber
+  number-stops h = e ∙ sym (settings-stop s n (ask (leb (headLength s) room) 5 0) (λ z. h (e ∙ z)))
+
+  module _ (z : k ≡ 0) where
+    pub number-good : settingsGood s ≡ true
+    number-good = settings-zero s n 0 (sym e ∙ z) .0
+
+    number-five : openNumber s n room ≡ ask (leb (headLength s) room) 5 0
+    unfolding openNumber
+    number-five = settings-pass s n (ask (leb (headLength s) room) 5 0) (sym e ∙ z)
+
+    pub number-short : {m : ℕ} → m ≡ headLength s → room < m → 5 ≡ openNumber s n room
+    number-short q h = sym (number-five ∙ ask-no 5 0 (lt-leb (headLength s) room (omega (arith, q))))
+
+    pub number-zero : {m : ℕ} → m ≡ headLength s → m ≤ room → 0 ≡ openNumber s n room
+    number-zero q h = sym (number-five ∙ ask-yes 5 0 (le-leb (headLength s) room (omega (arith, q))))

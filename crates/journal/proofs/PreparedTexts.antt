@@ -7,10 +7,11 @@ use Rattle.journal.specs.Issuing.{entryOf, textOf}
 use Rattle.journal.specs.Preparing.{preparedText, prepareNumber}
 use Rattle.journal.specs.Demands.{PreparedIsIssued, PreparedBefore}
 use Rattle.journal.proofs.CallLists.{issue-zero, sound-yes, details-yes}
+use Rattle.journal.specs.State.{settingsNow}
 
 pub prepared-is-issued : PreparedIsIssued
 unfolding textOf preparedText entryOf
-prepared-is-issued st d sig = input-before-dot (st .settings) (st .width) (entryOf st d sig)
+prepared-is-issued st d sig = input-before-dot (settingsNow st) (st .width) (entryOf st d sig)
 
 pub prepared-before : PreparedBefore
 unfolding prepareNumber ask

@@ -16,7 +16,7 @@ use Rattle.receipt.specs.Settings.{settingsGood, TypedSettings}
 use Rattle.receipt.specs.Compact.{noEntry}
 use Rattle.receipt.specs.declared.settings.Settings.{Settings}
 use Rattle.receipt.specs.declared.entry.Entry.{Entry}
-use Rattle.journal.specs.Head.{head, headLength, countPlace, entryText, lengthAt, there, textAt}
+use Rattle.journal.specs.Head.{head, countPlace, entryText, lengthAt, there, textAt}
 use Rattle.journal.specs.Step.{fresh, soundAlone, sound, next}
 use Rattle.journal.specs.Checking.{found, entryNumber, textNumber, stopped, checked, textChecked, placeChecked, full, oneStep, entryReady, entryChecked, stepChecked, readBySteps}
 use Rattle.journal.specs.Valid.{texts}
@@ -31,10 +31,11 @@ use Rattle.journal.proofs.CallLists.{Bounds, bounds, sound-yes}
 use Rattle.journal.proofs.Remaining.{scheduleOf, full-yes, full-no, end-yes, step-entry}
 use Rattle.journal.proofs.Registers.{fresh-bounds}
 use Rattle.journal.proofs.Accepting.{valid-right}
+use Rattle.journal.specs.State.{settingsNow, headLengthNow, countPlaceNow}
 
 -- ---- one step over a right entry
 
-module _ (st : State) (e : Entry) (p rest : List ℕ) (at : length p ≡ st .length) (ts : TypedSettings (st .settings)) (h : RightAt st e) where
+module _ (st : State) (e : Entry) (p rest : List ℕ) (at : length p ≡ st .length) (ts : TypedSettings (settingsNow st)) (h : RightAt st e) where
   read-step : full st (p ++ (entryText (textIn st e) ++ rest)) ≡ false
       → oneStep (scheduleOf st) st (p ++ (entryText (textIn st e) ++ rest)) ≡ record { number = 0; found = record { ok = true; entry = e }; state = step st e }
   unfolding placeChecked checked
@@ -48,11 +49,11 @@ module _ (st : State) (e : Entry) (p rest : List ℕ) (at : length p ≡ st .len
 
 -- what the states on the way keep
 record Way (st : State) : Type 0 where
-  typed : TypedSettings (st .settings)
-  good : settingsGood (st .settings) ≡ true
+  typed : TypedSettings (settingsNow st)
+  good : settingsGood (settingsNow st) ≡ true
   width : widthGood (st .width) ≡ true
   inside : Bounds st
-  head : headLength (st .settings) ≤ st .length
+  head : headLengthNow st ≤ st .length
 
 way-sound : (st : State) (j : List ℕ) → Way st → st .length ≤ length j → sound st (length j) ≡ true
 unfolding sound
@@ -90,13 +91,13 @@ same-key : (st : State) (x : Entry) → scheduleOf st ≡ scheduleOf (step st x)
 unfolding next
 same-key st x = refl
 
-same-count : (st : State) (x : Entry) (j : List ℕ) (n : ℕ) → countAt j (countPlace (st .settings)) 4 ≡ st .issued + suc n
+same-count : (st : State) (x : Entry) (j : List ℕ) (n : ℕ) → countAt j (countPlaceNow st) 4 ≡ st .issued + suc n
     → countAt j (countPlace (step st x .settings)) 4 ≡ step st x .issued + n
 unfolding next
 same-count st x j n c = omega (arith, c)
 
 read-all : (es : List Entry) (m : ℕ) (k : List (List ℕ)) (st : State) (p j : List ℕ) → length es ≤ m → k ≡ scheduleOf st → Way st → length p ≡ st .length
-    → AllRight st es → j ≡ p ++ texts (st .settings) (st .width) es → countAt j (countPlace (st .settings)) 4 ≡ st .issued + length es
+    → AllRight st es → j ≡ p ++ texts (settingsNow st) (st .width) es → countAt j (countPlaceNow st) 4 ≡ st .issued + length es
     → readBySteps k m st j ≡ es
 unfolding texts
 read-all [] m k st p j few e w at check.none q c =
@@ -105,7 +106,7 @@ read-all [] m k st p j few e w at check.none q c =
 read-all (x ∷ es) zero k st p j few e w at (check.more h hs) q c = absurd (omega arith)
 read-all (x ∷ es) (suc m) k st p j few e w at (check.more h hs) q c =
     let t = entryText (textIn st x) in
-    let u = texts (st .settings) (st .width) es in
+    let u = texts (settingsNow st) (st .width) es in
     let lp = length-append p (t ++ u) in
     let lt = length-append t u in
     let i : st .length ≤ length j = omega (arith, ap length q, lp, at) in

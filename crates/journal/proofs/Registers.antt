@@ -30,11 +30,11 @@ use Rattle.journal.specs.Valid.{texts}
 use Rattle.journal.specs.Calls.{Call, TypedCall, TypedCalls, none, more, Register, opening, numberOf, call, calls, receiptOfCall, receiptsOf}
 use Rattle.journal.specs.declared.state.State.{State}
 use Rattle.primitives.proofs.Rows.{ask-zero, ifZero-yes, ifZero-no}
-use Rattle.receipt.proofs.Entries.{all-settings}
 use Rattle.journal.proofs.Heads.{front-place, length-head}
 use Rattle.journal.proofs.Check as check
 use Rattle.journal.proofs.Check.{RightAt, textIn, step, AllRight, run, step-length}
 use Rattle.journal.proofs.CallLists.{run-snoc, texts-snoc, right-snoc, Eight, chain-eight, kept, Bounds, bounds, run-sum, written-bytes, written-length, Answered, issue-zero, right-call}
+use Rattle.receipt.proofs.Names.{settings-zero}
 
 -- ---- the fresh state
 
@@ -173,12 +173,8 @@ receipts-same (c ∷ cs) g = go (numberOf g c) (receipts-same cs (call g c))
 pub open-zero : (s : Settings) (n room : ℕ) → openNumber s n room ≡ 0 → (settingsGood s ≡ true) × (widthGood n ≡ true) × (headLength s ≤ room)
 unfolding openNumber
 open-zero s n room z =
-    let p₁ = ask-zero _ _ _ z in
-    let p₂ = ask-zero _ _ _ (p₁ .1) in
-    let p₃ = ask-zero _ _ _ (p₂ .1) in
-    let p₄ = ask-zero _ _ _ (p₃ .1) in
-    let p₅ = ask-zero _ _ _ (p₄ .1) in
-    (all-settings s (record { csp = p₁ .0; id = p₂ .0; serial = p₃ .0 }), p₄ .0, leb-true _ _ (p₅ .0))
+    let p = settings-zero s n _ z in
+    (p .0, p .1, leb-true (headLength s) room (ask-zero _ _ _ (p .2) .0))
 
 -- since it was opened, the register has taken up these entries
 pub record Holds (s : Settings) (n : ℕ) (key : List ℕ) (g : Register) (es : List Entry) : Type 0 where

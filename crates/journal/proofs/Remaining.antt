@@ -18,6 +18,7 @@ use Rattle.journal.specs.declared.state.State.{State}
 use Rattle.journal.specs.declared.state.TakenOver.{TakenOver}
 use Rattle.journal.specs.declared.checking.Checked.{Checked}
 use Rattle.journal.proofs.Places.{length-entry}
+use Rattle.journal.specs.State.{countPlaceNow}
 
 -- the schedule of a state's key
 abbrev pub scheduleOf : State → List (List ℕ)
@@ -103,13 +104,13 @@ answer-no : (m : ℕ) (st : State) → (m ≡ 0 → ⊥) → answerOf (record { 
 unfolding answerOf
 answer-no m st h = ifZero-no m _ _ h
 
-pub full-yes : (st : State) (j : List ℕ) → countAt j (countPlace (st .settings)) 4 ≡ st .issued + 0 → full st j ≡ true
+pub full-yes : (st : State) (j : List ℕ) → countAt j (countPlaceNow st) 4 ≡ st .issued + 0 → full st j ≡ true
 unfolding full
-full-yes st j e = le-leb (countAt j (countPlace (st .settings)) 4) (st .issued) (omega (arith, e))
+full-yes st j e = le-leb (countAt j (countPlaceNow st) 4) (st .issued) (omega (arith, e))
 
-pub full-no : (st : State) (j : List ℕ) (m : ℕ) → countAt j (countPlace (st .settings)) 4 ≡ st .issued + suc m → full st j ≡ false
+pub full-no : (st : State) (j : List ℕ) (m : ℕ) → countAt j (countPlaceNow st) 4 ≡ st .issued + suc m → full st j ≡ false
 unfolding full
-full-no st j m e = lt-leb (countAt j (countPlace (st .settings)) 4) (st .issued) (omega (arith, e))
+full-no st j m e = lt-leb (countAt j (countPlaceNow st) 4) (st .issued) (omega (arith, e))
 
 -- what stays, and what grows
 pub after-settings : (st : State) (text : List ℕ) → after st text .settings ≡ st .settings
@@ -125,7 +126,7 @@ after-key : (st : State) (text : List ℕ) → after st text .key ≡ st .key
 unfolding after next
 after-key st text = refl
 
-after-count : (st : State) (text j : List ℕ) (m : ℕ) → countAt j (countPlace (st .settings)) 4 ≡ st .issued + suc m
+after-count : (st : State) (text j : List ℕ) (m : ℕ) → countAt j (countPlaceNow st) 4 ≡ st .issued + suc m
     → countAt j (countPlace (after st text .settings)) 4 ≡ after st text .issued + m
 unfolding after next
 after-count st text j m e = omega (arith, e)
@@ -161,7 +162,7 @@ module _ (k : List (List ℕ)) (j : List ℕ) where
           ap answerOf (refused-step k j f st h (entry-refused k st j q h)) ∙ (answer-no (entryNumber k st j) st h
           ∙ (ap (λ (x : ℕ). refused x (st .issued)) same ∙ sym (ifZero-no (entryNumber (scheduleOf st) st j) _ _ (λ y. h (same ∙ y)))))
 
-  pub steps-check : (f m : ℕ) (st : State) → k ≡ scheduleOf st → countAt j (countPlace (st .settings)) 4 ≡ st .issued + m
+  pub steps-check : (f m : ℕ) (st : State) → k ≡ scheduleOf st → countAt j (countPlaceNow st) 4 ≡ st .issued + m
       → st .length ≤ length j → length j < f + st .length → Same f st m
   steps-check zero m st e c i l = absurd (omega arith)
   steps-check (suc f) zero st e c i l = at-end f st (full-yes st j c)

@@ -21,6 +21,7 @@ use Rattle.journal.specs.Demands.{TouchesNoOther}
 use Rattle.journal.specs.declared.state.State.{State}
 use Rattle.primitives.proofs.Rows.{ifZero-yes, ifZero-no}
 use Rattle.journal.proofs.CallLists.{issue-zero}
+use Rattle.journal.specs.State.{settingsNow, countPlaceNow}
 
 -- a byte outside of what is written
 outside : (xs : List ℕ) (at : ℕ) (ys : List ℕ) (i : ℕ) → at + length ys ≤ length xs → (at ≤ i → i < at + length ys → ⊥) → getD (overwrite xs at ys) i 0 ≡ getD xs i 0
@@ -38,7 +39,7 @@ place-head : (s : Settings) → countPlace s + 4 ≡ headLength s
 unfolding countPlace headLength
 place-head s = omega arith
 
-module _ (st : State) (d : Details) (sig buf : List ℕ) (i : ℕ) (c : countPlace (st .settings) ≤ i → i < countPlace (st .settings) + 4 → ⊥)
+module _ (st : State) (d : Details) (sig buf : List ℕ) (i : ℕ) (c : countPlaceNow st ≤ i → i < countPlaceNow st + 4 → ⊥)
     (e : st .length ≤ i → i < st .length + length (entryText (textOf st d sig)) → ⊥) where
   taken : issueNumber st d sig (length buf) ≡ 0 → getD (written st (textOf st d sig) buf) i 0 ≡ getD buf i 0
   unfolding written
@@ -48,11 +49,11 @@ module _ (st : State) (d : Details) (sig buf : List ℕ) (i : ℕ) (c : countPla
       let n = bytesOf 4 (st .issued + 1) in
       let l = length-bytesOf 4 (st .issued + 1) in
       let o = length-over buf (st .length) t (a .fits) in
-      let p = place-head (st .settings) in
+      let p = place-head (settingsNow st) in
       let h = a .sound .head in
       let w = a .within in
-      let c′ : countPlace (st .settings) ≤ i → i < countPlace (st .settings) + length n → ⊥ = λ x y. c x (omega arith) in
-      outside (overwrite buf (st .length) t) (countPlace (st .settings)) n i (omega arith) c′ ∙ outside buf (st .length) t i (a .fits) e
+      let c′ : countPlaceNow st ≤ i → i < countPlaceNow st + length n → ⊥ = λ x y. c x (omega arith) in
+      outside (overwrite buf (st .length) t) (countPlaceNow st) n i (omega arith) c′ ∙ outside buf (st .length) t i (a .fits) e
 
   same-byte : getD (issueBuffer st d sig buf) i 0 ≡ getD buf i 0
   unfolding issueBuffer

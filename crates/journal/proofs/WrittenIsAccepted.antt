@@ -26,6 +26,7 @@ use Rattle.journal.proofs.Heads.{read-settings, read-count, behind-head
 use Rattle.journal.proofs.Check.{step, AllRight, none, more}
 use Rattle.journal.proofs.Accepting.{takes, fresh-each, valid-right, valid-accepted, accepted-valid}
 use Rattle.journal.proofs.Registers.{few-entries, counter-sum, Holds, entriesOf, receipts-same, holds-calls, opening-holds, open-zero}
+use Rattle.journal.specs.State.{settingsNow}
 
 pub accepted-is-valid : AcceptedIsValid
 accepted-is-valid j key n b = (accepted-valid j key n b, valid-accepted j key n)
@@ -50,7 +51,7 @@ data AllSpelled (s : Settings) (n : ℕ) : List Entry → Type 0 where
   nothing : AllSpelled s n []
   one : {e : Entry} {es : List Entry} → TypedEntry e → spellable s n e ≡ true → AllSpelled s n es → AllSpelled s n (e ∷ es)
 
-all-spelled : (es : List Entry) (st : State) → AllRight st es → AllSpelled (st .settings) (st .width) es
+all-spelled : (es : List Entry) (st : State) → AllRight st es → AllSpelled (settingsNow st) (st .width) es
 unfolding next
 all-spelled [] st none = nothing
 all-spelled (e ∷ es) st (more h hs) = one (h .typed) (h .spelled) (all-spelled es (step st e) hs)

@@ -16,8 +16,8 @@ use Rattle.receipt.specs.Compact.{noEntry, readEntry}
 use Rattle.receipt.specs.declared.payload.PayloadFields.{PayloadFields}
 use Rattle.receipt.specs.declared.entry.Entry.{Entry}
 use Rattle.receipt.specs.declared.entry.Found.{Found}
-use Rattle.journal.specs.State.{unopened}
-use Rattle.journal.specs.Head.{countPlace, headSettings, headGood, entryText, there, textAt}
+use Rattle.journal.specs.State.{unopened, settingsNow, countPlaceNow}
+use Rattle.journal.specs.Head.{headSettings, headGood, entryText, there, textAt}
 use Rattle.journal.specs.Step.{fresh, soundAlone, sound, numberAbove, firstGood, newCounter, next}
 use Rattle.primitives.specs.Questions.{ask, ifZero}
 use Rattle.journal.specs.declared.state.State.{State}
@@ -27,7 +27,7 @@ use Rattle.journal.specs.declared.checking.Step.{Step}
 
 -- 16: "spelled as above, with the head's CSP, ID and serial, number, date with its time and amounts within limits, a counter field of U1RP, VFJB or N bytes, a chain field of 8 bytes?"
 unfoldable pub found : State → List ℕ → Found
-found st text = readEntry (st .settings) (st .width) text
+found st text = readEntry (settingsNow st) (st .width) text
 
 -- the same number: neither is below the other
 unfoldable pub equal : ℤ → ℤ → Bool
@@ -38,7 +38,7 @@ unfoldable pub counterRight : List (List ℕ) → State → PayloadFields → Bo
 counterRight schedule st f =
     newCounter st (f .details) .fits
     && (not (standard (f .details .kind))
-    || equal (decryptedCounter schedule (st .settings .id) (f .details .number) (st .width) (f .counter)) (newCounter st (f .details) .counter))
+    || equal (decryptedCounter schedule (settingsNow st .id) (f .details .number) (st .width) (f .counter)) (newCounter st (f .details) .counter))
 
 -- 17: "Number above the last?" 18: "First one standard with five zeros?" 19: "Chain field right?" 20
 unfoldable pub contextNumber : List (List ℕ) → State → PayloadFields → ℕ
@@ -80,7 +80,7 @@ endChecked st j = stopped (ask (leb (length j) (st .length)) 21 0) st
 
 -- as many entries were read as the count at the state's place says
 unfoldable pub full : State → List ℕ → Bool
-full st j = leb (countAt j (countPlace (st .settings)) 4) (st .issued)
+full st j = leb (countAt j (countPlaceNow st) 4) (st .issued)
 
 unfoldable pub oneStep : List (List ℕ) → State → List ℕ → Checked
 oneStep schedule st j = cond (full st j) (endChecked st j) (placeChecked schedule st j)

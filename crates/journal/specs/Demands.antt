@@ -12,7 +12,7 @@ use Rattle.receipt.specs.declared.settings.Settings.{Settings}
 use Rattle.receipt.specs.declared.details.Details.{Details}
 use Rattle.receipt.specs.declared.entry.Entry.{Entry}
 use Rattle.journal.specs.Head.{headLength, countPlace, entryText, there, textAt}
-use Rattle.journal.specs.State.{unopened}
+use Rattle.journal.specs.State.{unopened, countPlaceNow}
 use Rattle.receipt.specs.Settings.{TypedSettings}
 use Rattle.journal.specs.Opening.{openNumber, opened, openBuffer}
 use Rattle.journal.specs.Issuing.{textOf, issueNumber, issued, issueBuffer}
@@ -103,7 +103,7 @@ InputsDiffer =
 -- "appends an entry, rewrites the receipts count, and touches no other byte"
 abbrev pub TouchesNoOther : Type 0
 TouchesNoOther =
-    (st : State) (d : Details) (sig buf : List ℕ) (i : ℕ) → (countPlace (st .settings) ≤ i → i < countPlace (st .settings) + 4 → ⊥)
+    (st : State) (d : Details) (sig buf : List ℕ) (i : ℕ) → (countPlaceNow st ≤ i → i < countPlaceNow st + 4 → ⊥)
     → (st .length ≤ i → i < st .length + length (entryText (textOf st d sig)) → ⊥) → getD (issueBuffer st d sig buf) i 0 ≡ getD buf i 0
 
 -- ---- refused calls

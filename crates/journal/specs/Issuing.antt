@@ -10,11 +10,12 @@ use Rattle.receipt.specs.Compact.{compact}
 use Rattle.receipt.specs.declared.details.Details.{Details}
 use Rattle.receipt.specs.declared.entry.Signature.{Signature}
 use Rattle.receipt.specs.declared.entry.Entry.{Entry}
-use Rattle.journal.specs.Head.{countPlace, entryText}
+use Rattle.journal.specs.Head.{entryText}
 use Rattle.primitives.specs.Questions.{ask, ifZero}
 use Rattle.journal.specs.declared.state.State.{State}
 use Rattle.journal.specs.declared.state.Issued.{Issued}
 use Rattle.journal.specs.Step.{sound, detailsNumber, fieldsOf, next}
+use Rattle.journal.specs.State.{settingsNow, countPlaceNow}
 
 -- ---- the questions
 
@@ -33,7 +34,7 @@ entryOf st d sig = record { fields = fieldsOf st d; signature = givenSignature s
 
 -- its compact form
 unfoldable pub textOf : State → Details → List ℕ → List ℕ
-textOf st d sig = compact (st .settings) (st .width) (entryOf st d sig)
+textOf st d sig = compact (settingsNow st) (st .width) (entryOf st d sig)
 
 -- 13: "Entry fits behind the journal length?"
 unfoldable pub entryFits : State → List ℕ → ℕ → Bool
@@ -52,7 +53,7 @@ issued st d sig room =
 
 -- the entry behind the journal, and the count anew
 unfoldable pub written : State → List ℕ → List ℕ → List ℕ
-written st text buf = overwrite (overwrite buf (st .length) (entryText text)) (countPlace (st .settings)) (bytesOf 4 (st .issued + 1))
+written st text buf = overwrite (overwrite buf (st .length) (entryText text)) (countPlaceNow st) (bytesOf 4 (st .issued + 1))
 
 unfoldable pub issueBuffer : State → Details → List ℕ → List ℕ → List ℕ
 issueBuffer st d sig buf = ifZero (issueNumber st d sig (length buf)) (written st (textOf st d sig) buf) buf

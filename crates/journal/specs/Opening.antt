@@ -4,8 +4,7 @@ use mathlib.Core.List.{List}
 use lib.Dec.{leb}
 use lib.ListN.{length}
 use Rattle.primitives.specs.Place.{overwrite}
-use Rattle.primitives.specs.Counter.{widthGood}
-use Rattle.receipt.specs.Settings.{cspGood, idGood, serialGood}
+use Rattle.receipt.specs.Settings.{settingsNumber}
 use Rattle.receipt.specs.declared.settings.Settings.{Settings}
 use Rattle.journal.specs.Head.{head, headLength}
 use Rattle.journal.specs.State.{unopened}
@@ -15,8 +14,7 @@ use Rattle.journal.specs.declared.state.Opened.{Opened}
 
 -- "CSP good? 1. ID good? 2. Serial good? 3. N from 5 to 8? 4. Head fits the buffer? 5."
 unfoldable pub openNumber : Settings → ℕ → ℕ → ℕ
-openNumber s n room =
-    ask (cspGood (s .csp)) 1 (ask (idGood (s .id)) 2 (ask (serialGood (s .serial)) 3 (ask (widthGood n) 4 (ask (leb (headLength s) room) 5 0))))
+openNumber s n room = settingsNumber s n (ask (leb (headLength s) room) 5 0)
 
 -- "A refusal returns the unopened state."
 unfoldable pub opened : Settings → List ℕ → ℕ → ℕ → Opened

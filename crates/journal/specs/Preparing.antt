@@ -10,10 +10,11 @@ use Rattle.primitives.specs.declared.answer.Answer.{Answer}
 use Rattle.primitives.specs.Questions.{ask, ifZero}
 use Rattle.journal.specs.Step.{soundAlone, detailsNumber, fieldsOf}
 use Rattle.journal.specs.declared.state.State.{State}
+use Rattle.journal.specs.State.{settingsNow}
 
 -- the text for the device to sign
 unfoldable pub preparedText : State → Details → List ℕ
-preparedText st d = signingInput (st .settings) (st .width) (fieldsOf st d)
+preparedText st d = signingInput (settingsNow st) (st .width) (fieldsOf st d)
 
 -- "questions 6 (with the journal length alone at least the head), 7 to 11, then 13 for the output"
 unfoldable pub prepareNumber : State → Details → ℕ → ℕ

@@ -10,6 +10,7 @@ use Rattle.primitives.specs.Counter.{fitsIn}
 use Rattle.receipt.specs.Settings.{SettingsLengths}
 use Rattle.receipt.specs.declared.settings.Name.{Name}
 use Rattle.receipt.specs.declared.settings.Settings.{Settings}
+use Rattle.journal.specs.Head.{headLength, countPlace}
 use Rattle.journal.specs.declared.state.State.{State}
 
 -- ---- states
@@ -30,6 +31,20 @@ unopened =
       chain = replicate 8 0;
       length = 0;
     }
+
+-- ---- what a state says of its journal
+
+-- the settings in force: with them the next receipt is spelled
+abbrev pub settingsNow : State → Settings
+settingsNow st = st .settings
+
+-- the length of the journal's head
+abbrev pub headLengthNow : State → ℕ
+headLengthNow st = headLength (st .settings)
+
+-- the place of the receipts count, which Issue rewrites and a step reads
+abbrev pub countPlaceNow : State → ℕ
+countPlaceNow st = countPlace (st .settings)
 
 -- ---- what the code's types say
 

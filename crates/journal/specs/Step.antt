@@ -19,6 +19,7 @@ use Rattle.receipt.specs.declared.details.After.{After}
 use Rattle.receipt.specs.declared.payload.PayloadFields.{PayloadFields}
 use Rattle.journal.specs.Head.{headLength, entryText}
 use Rattle.journal.specs.declared.state.State.{State}
+use Rattle.journal.specs.State.{settingsNow, headLengthNow}
 
 -- ---- the state of a register without receipts
 
@@ -41,9 +42,9 @@ fresh s n key =
 -- 6, as far as it asks nothing of a buffer: "settings meet 1 to 4, counter fits N bytes, receipts issued no more than last number, head length ≤ journal length"
 unfoldable pub soundAlone : State → Bool
 soundAlone st =
-    settingsGood (st .settings)
+    settingsGood (settingsNow st)
     && (widthGood (st .width)
-    && (counterFits (st .width) (st .counter) && (leb (st .issued) (st .last) && leb (headLength (st .settings)) (st .length))))
+    && (counterFits (st .width) (st .counter) && (leb (st .issued) (st .last) && leb (headLengthNow st) (st .length))))
 
 -- 6: and "journal length ≤ buffer length"
 unfoldable pub sound : State → ℕ → Bool
@@ -77,7 +78,7 @@ fieldsOf st d =
       details = d;
       counter =
           cond (standard (d .kind))
-          (encryptedCounter (keySchedule (st .key)) (st .settings .id) (d .number) (st .width) (newCounter st d .counter)) (replicate 8 0);
+          (encryptedCounter (keySchedule (st .key)) (settingsNow st .id) (d .number) (st .width) (newCounter st d .counter)) (replicate 8 0);
       chain = st .chain;
     }
 

@@ -24,6 +24,7 @@ ghost use Rattle.receipt.specs.Settings.{settingsGood};
 ghost use Rattle.receipt.specs.Chain.{decryptedCounter};
 ghost use Rattle.journal.specs.Head.{headLength};
 ghost use Rattle.journal.specs.Checking.{equal, counterRight, contextNumber, full, stopped, textChecked, placeChecked, endChecked, oneStep, steps, refused, answerOf, takeOver, entryReady, entryChecked, stepChecked};
+ghost use Rattle.journal.specs.State.{settingsNow, headLengthNow};
 
 // ---- one entry
 
@@ -38,7 +39,7 @@ fn chain_right(st: State, f: PayloadFields) -> bool
 
 // The decrypted counter is this one.
 fn decrypts_to(schedule: &[[u8; 4]; 60], st: State, f: PayloadFields, z: i64) -> bool
-    ensures { λ r. ⌜ r ≡ equal (decryptedCounter (now (schedule .entry)) (st .settings .id) (f .details .number) (st .width) (f .counter)) z ⌝ }
+    ensures { λ r. ⌜ r ≡ equal (decryptedCounter (now (schedule .entry)) (settingsNow st .id) (f .details .number) (st .width) (f .counter)) z ⌝ }
 {
     let settings = st.settings;
     let id = settings.id;
@@ -147,7 +148,7 @@ fn check_place(schedule: &[[u8; 4]; 60], st: State, j: &[u8]) -> Checked
 
 // As many entries were read as the count at the state's place says.
 fn full(st: State, j: &[u8]) -> bool
-    requires { ⌜ (settingsGood (st .settings) ≡ true) × (headLength (st .settings) ≤ length (now j)) ⌝ }
+    requires { ⌜ (settingsGood (settingsNow st) ≡ true) × (headLengthNow st ≤ length (now j)) ⌝ }
     ensures { λ r. ⌜ r ≡ full st (now (j .entry)) ⌝ }
 {
     let settings = st.settings;
@@ -167,7 +168,7 @@ fn check_end(st: State, j: &[u8]) -> Checked
 
 // An entry where the count says one more, and else the end.
 fn take_step(schedule: &[[u8; 4]; 60], st: State, j: &[u8]) -> Checked
-    requires { ⌜ (st .issued ≤ st .last) × (settingsGood (st .settings) ≡ true) × (headLength (st .settings) ≤ length (now j)) ⌝ }
+    requires { ⌜ (st .issued ≤ st .last) × (settingsGood (settingsNow st) ≡ true) × (headLengthNow st ≤ length (now j)) ⌝ }
     ensures { λ r. ⌜ r ≡ oneStep (now (schedule .entry)) st (now (j .entry)) ⌝ }
 {
     if full(st, j) {
@@ -186,7 +187,7 @@ struct Step {
 
 // So many steps, up to the first that is refused. Where a step reads nothing, so do all that follow.
 fn steps(schedule: &[[u8; 4]; 60], n: usize, start: State, j: &[u8]) -> Step
-    requires { ⌜ (start .issued ≤ start .last) × (settingsGood (start .settings) ≡ true) × (headLength (start .settings) ≤ length (now j)) ⌝ }
+    requires { ⌜ (start .issued ≤ start .last) × (settingsGood (settingsNow start) ≡ true) × (headLengthNow start ≤ length (now j)) ⌝ }
     ensures { λ r. ⌜ r ≡ steps (now (schedule .entry)) n start (now (j .entry)) ⌝ }
 {
     let mut st = start;

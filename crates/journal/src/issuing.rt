@@ -18,6 +18,7 @@ ghost use Rattle.receipt.specs.Compact.{compact, spellable};
 ghost use Rattle.journal.specs.Head.{entryText};
 ghost use Rattle.journal.specs.Step.{sound, detailsNumber};
 ghost use Rattle.journal.specs.Issuing.{signatureSized, givenSignature, entryOf, issued, issueBuffer};
+ghost use Rattle.journal.specs.State.{settingsNow};
 
 // Question 12.
 fn signature_sized(signature: &[u8]) -> bool
@@ -66,8 +67,8 @@ fn entry_of(st: State, d: Details, signature: &[u8]) -> Entry
 
 // The compact form with its length before it, behind the journal; the place behind it. Nothing where there is no room.
 fn put_entry(st: State, e: Entry, buf: &mut [u8]) -> usize
-    requires { ⌜ spellable (st .settings) (st .width) e ≡ true ⌝ }
-    ensures { λ r. ⌜ (r ≡ behind (now (buf .entry)) (st .length) (entryText (compact (st .settings) (st .width) e))) × (now (buf .exit) ≡ placed (now (buf .entry)) (st .length) (entryText (compact (st .settings) (st .width) e))) ⌝ }
+    requires { ⌜ spellable (settingsNow st) (st .width) e ≡ true ⌝ }
+    ensures { λ r. ⌜ (r ≡ behind (now (buf .entry)) (st .length) (entryText (compact (settingsNow st) (st .width) e))) × (now (buf .exit) ≡ placed (now (buf .entry)) (st .length) (entryText (compact (settingsNow st) (st .width) e))) ⌝ }
 {
     let at = st.length;
     let settings = st.settings;

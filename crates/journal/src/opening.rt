@@ -13,20 +13,9 @@ ghost use Rattle.journal.specs.Opening.{openNumber, opened, openBuffer};
 fn open_number(s: Settings, n: usize, room: usize) -> u32
     ensures { λ r. ⌜ r ≡ openNumber s n room ⌝ }
 {
-    let csp = s.csp;
-    if !receipt::csp_good(csp) {
-        return 1;
-    }
-    let id = s.id;
-    if !receipt::id_good(id) {
-        return 2;
-    }
-    let serial = s.serial;
-    if !receipt::serial_good(serial) {
-        return 3;
-    }
-    if !receipt::width_good(n) {
-        return 4;
+    let number = receipt::settings_number(s, n);
+    if number != 0 {
+        return number;
     }
     if room < head_length(s) {
         return 5;

@@ -15,6 +15,7 @@ ghost use Rattle.primitives.specs.Aes.{keySchedule};
 ghost use Rattle.receipt.specs.Settings.{settingsGood, nameText};
 ghost use Rattle.receipt.specs.Chain.{chainValue, encryptedCounter};
 ghost use Rattle.journal.specs.Step.{fresh, soundAlone, sound, firstGood, newCounter, detailsNumber, fieldsOf, next};
+ghost use Rattle.journal.specs.State.{settingsNow};
 
 // ---- the state of a register without receipts
 
@@ -133,7 +134,7 @@ pub(crate) fn details_number(st: State, d: Details) -> u32
 
 // The counter behind a receipt, encrypted.
 fn encrypted(st: State, d: Details) -> [u8; 8]
-    ensures { λ r. ⌜ r ≡ encryptedCounter (keySchedule (st .key)) (st .settings .id) (d .number) (st .width) (newCounter st d .counter) ⌝ }
+    ensures { λ r. ⌜ r ≡ encryptedCounter (keySchedule (st .key)) (settingsNow st .id) (d .number) (st .width) (newCounter st d .counter) ⌝ }
 {
     let settings = st.settings;
     let id = settings.id;

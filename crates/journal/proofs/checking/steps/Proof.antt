@@ -18,12 +18,13 @@ use Rattle.journal.specs.Head.{headLength}
 use Rattle.journal.specs.declared.state.State.{State}
 use Rattle.receipt.specs.Settings.{settingsGood}
 use Rattle.receipt.specs.declared.settings.Settings.{Settings}
+use Rattle.journal.specs.State.{settingsNow, headLengthNow}
 
 -- what a turn keeps
 record Turn (schedule : List (List ℕ)) (j : List ℕ) (st₀ st : State) (left₀ left : ℕ) : Type 0 where
   pub below : st .issued ≤ st .last
-  pub good : settingsGood (st .settings) ≡ true
-  pub head : headLength (st .settings) ≤ length j
+  pub good : settingsGood (settingsNow st) ≡ true
+  pub head : headLengthNow st ≤ length j
   pub same : steps schedule left₀ st₀ j ≡ steps schedule left st j
 
 abbrev Inv-loop : tie.InvT-loop
