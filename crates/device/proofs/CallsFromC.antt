@@ -95,7 +95,7 @@ module _ (b : List ℕ) where
     register-typed good width =
         let g = good-settings (settingsOf b) good in
         record {
-          settings = settings-typed;
+          settings = settings-typed .lengths;
           id = omega (arith, g .id .most);
           serial = omega (arith, g .serial .most);
           width = omega (arith, width-true (widthOf b) width .most);
@@ -132,7 +132,7 @@ issued-same g c t =
     let r = t .register in
     let d = callIn c .details in
     let q = state-is-read st t in
-    let l = length-state st (r .settings .lengths) (r .keyLength) (t .chain) in
+    let l = length-state st (r .settings) (r .keyLength) (t .chain) in
     let e = ap (λ (x : State). issued x d (c .signature) (length (g .buf)) .state) q in
     let k = kept-all (stateBytes st) (issued (stateOf (stateBytes st)) d (c .signature) (length (g .buf)) .state) l ∙ ap stateBytes e in
     λ i. record { state = k i; journal = issueBuffer (q i) d (c .signature) (g .buf) }
@@ -141,11 +141,12 @@ number-same : (g : Register) (c : IssueCall) → TypedState (g .state) → issue
 unfolding issuedNumber slicesOf numberOf issued callIn
 number-same g c t = ap (λ (x : State). issueNumber x (callIn c .details) (c .signature) (length (g .buf))) (state-is-read (g .state) t)
 
-module _ (s : Settings) (n : ℕ) (key : List ℕ) (t : TypedRegister s n key) (good : settingsGood s ≡ true) (width : widthGood n ≡ true) where
+module _ (s : Settings) (n : ℕ) (key : List ℕ) (ts : TypedSettings s) (t : TypedRegister s n key)
+    (good : settingsGood s ≡ true) (width : widthGood n ≡ true) where
   module _ (g : Register) (es : List Entry) (h : Holds s n key g es) where
     held-typed : length (g .buf) < 18446744073709551616 → TypedState (g .state)
     held-typed l =
-        let b = holds-behind s n key (t .settings) good width (t .keyBytes) g es h in
+        let b = holds-behind s n key ts good width (t .keyBytes) g es h in
         let o = subst Bounds (sym (h .state)) (run-bounds s n key es width (h .right)) in
         let m = g .state .width in
         let z = g .state .counter in
@@ -164,7 +165,7 @@ module _ (s : Settings) (n : ℕ) (key : List ℕ) (t : TypedRegister s n key) (
     same-length c = go (numberOf g c) refl
       where
         go : (k : ℕ) → numberOf g c ≡ k → length (call g c .buf) ≡ length (g .buf)
-        go zero e = accepted-length s n key (t .settings) good width (t .keyBytes) g es h c e
+        go zero e = accepted-length s n key ts good width (t .keyBytes) g es h c e
         go (suc k) e = ap (λ (x : Register). length (x .buf)) (refused-same g c (λ q. omega (arith, e, q)))
 
   all-same : (cs : List IssueCall) (g : Register) (es : List Entry) → TypedIssueCalls cs → Holds s n key g es → length (g .buf) < 18446744073709551616
@@ -173,7 +174,7 @@ module _ (s : Settings) (n : ℕ) (key : List ℕ) (t : TypedRegister s n key) (
   all-same [] g es demand.none h l = (refl, refl, held-typed g es h l)
   all-same (c ∷ cs) g es (demand.more tc tcs) h l =
       let k = callIn c in
-      let h₁ = holds-calls s n key (t .settings) good width (t .keyBytes) (k ∷ []) g es (more (call-typed c tc) none) h in
+      let h₁ = holds-calls s n key ts good width (t .keyBytes) (k ∷ []) g es (more (call-typed c tc) none) h in
       let p = all-same cs (call g k) (es ++ entriesOf g (k ∷ [])) tcs h₁ (omega (arith, same-length g es h k)) in
       let e = issued-same g c (held-typed g es h l) in
       let r = ap (λ (x : Slices). issuedNumbers x cs) e ∙ p .1 in
@@ -211,11 +212,13 @@ calls-from-c b journal state a l z cs tcs =
     let n = widthOf b in
     let p = open-accepted b (length journal) (length state) z in
     let o = open-zero s n (length journal) (p .1) in
-    let t = register-typed b a (settings-long b (length journal) (p .1)) (o .0) (o .1) in
-    let h = opening-holds s n key (t .settings) (o .0) (o .1) (t .keyBytes) journal (p .1) in
-    let m = opening-length s n key (t .settings) (o .0) (o .1) (t .keyBytes) journal (p .1) in
-    let q = all-same s n key t (o .0) (o .1) cs (registerIn b journal) [] tcs h (omega (arith, m)) in
-    let w = forth s key n journal (t .settings) (t .keyBytes) (p .1) (map callIn cs) (calls-typed cs tcs) in
+    let l₁ = settings-long b (length journal) (p .1) in
+    let ts = settings-typed b a l₁ in
+    let t = register-typed b a l₁ (o .0) (o .1) in
+    let h = opening-holds s n key ts (o .0) (o .1) (t .keyBytes) journal (p .1) in
+    let m = opening-length s n key ts (o .0) (o .1) (t .keyBytes) journal (p .1) in
+    let q = all-same s n key ts t (o .0) (o .1) cs (registerIn b journal) [] tcs h (omega (arith, m)) in
+    let w = forth s key n journal ts (t .keyBytes) (p .1) (map callIn cs) (calls-typed cs tcs) in
     let f = opened-same b journal state (p .0) in
     let e = ap (λ (x : Slices). issuedAll x cs) f ∙ q .0 in
     let r = ap (λ (x : Slices). issuedNumbers x cs) f ∙ q .1 in

@@ -14,16 +14,16 @@ use Rattle.primitives.specs.Counter.{widthGood, counterFits, counterBytes, coun
 use Rattle.primitives.proofs.ByteLists.{bytes-take, bytes-drop}
 use Rattle.primitives.proofs.Numbers.{length-bytesOf}
 use Rattle.primitives.proofs.Twos.{fits-wide, counter-back, counter-whole, length-counterBytes}
+use Rattle.primitives.proofs.Rows.{ifZero-no}
 use Rattle.receipt.specs.declared.settings.Name.{Name}
 use Rattle.receipt.specs.declared.settings.Settings.{Settings}
 use Rattle.receipt.specs.declared.details.Details.{Details}
+use Rattle.journal.specs.State.{TypedRegister, TypedState}
 use Rattle.journal.specs.Issue.{issueNumber, next, textOf, issued}
 use Rattle.journal.specs.declared.state.State.{State}
-use Rattle.primitives.proofs.Rows.{ifZero-no}
 use Rattle.journal.proofs.Places.{part-at, count-in, part-length, count-bytes}
 use Rattle.device.specs.Layout.{nameBytes, settingsBytes, figuresBytes, stateBytes, nameAt, settingsAt, widthAt, keyAt, stateAt, settingsOf, widthOf, keyOf, stateOf, kept}
 use Rattle.device.specs.Laws.{SettingsAreRead, SettingsBytesAreKept, StateIsRead, BytesAreKept, RefusedIssueKeepsState}
-use Rattle.journal.specs.State.{TypedRegister, TypedState}
 use Rattle.device.proofs.Writers.{front-long, names-long, length-settings, length-state}
 
 -- ---- what was written is read
@@ -50,14 +50,14 @@ module _ (s : Settings) (n : ℕ) (key : List ℕ) (t : TypedRegister s n key) (
   csp-read =
       let q = nameBytes (s .id) ++ (nameBytes (s .serial) ++ (bytesOf 8 n ++ (key ++ more))) in
       let e : b ≡ [] ++ (s .csp ++ q) = simp append-assoc in
-      ap (λ (x : List ℕ). take 3 (drop 0 x)) e ∙ part-at [] (s .csp) q 0 3 refl (t .settings .lengths .csp)
+      ap (λ (x : List ℕ). take 3 (drop 0 x)) e ∙ part-at [] (s .csp) q 0 3 refl (t .settings .csp)
 
   id-read : nameAt b 3 ≡ s .id
   unfolding b settingsBytes
   id-read =
       let q = nameBytes (s .serial) ++ (bytesOf 8 n ++ (key ++ more)) in
       let e : b ≡ s .csp ++ (nameBytes (s .id) ++ q) = simp append-assoc in
-      ap (λ (x : List ℕ). nameAt x 3) e ∙ name-in (s .csp) q (s .id) 3 (t .settings .lengths .csp) (t .settings .lengths .id) (t .id)
+      ap (λ (x : List ℕ). nameAt x 3) e ∙ name-in (s .csp) q (s .id) 3 (t .settings .csp) (t .settings .id) (t .id)
 
   serial-read : nameAt b 43 ≡ s .serial
   unfolding b settingsBytes
@@ -65,7 +65,7 @@ module _ (s : Settings) (n : ℕ) (key : List ℕ) (t : TypedRegister s n key) (
       let q = bytesOf 8 n ++ (key ++ more) in
       let e : b ≡ (s .csp ++ nameBytes (s .id)) ++ (nameBytes (s .serial) ++ q) = simp append-assoc in
       ap (λ (x : List ℕ). nameAt x 43) e
-      ∙ name-in (s .csp ++ nameBytes (s .id)) q (s .serial) 43 (front-long s (t .settings .lengths)) (t .settings .lengths .serial) (t .serial)
+      ∙ name-in (s .csp ++ nameBytes (s .id)) q (s .serial) 43 (front-long s (t .settings)) (t .settings .serial) (t .serial)
 
   settings-read : settingsAt b ≡ s
   unfolding settingsAt
@@ -77,14 +77,14 @@ module _ (s : Settings) (n : ℕ) (key : List ℕ) (t : TypedRegister s n key) (
       let p = s .csp ++ nameBytes (s .id) ++ nameBytes (s .serial) in
       let e : b ≡ p ++ (bytesOf 8 n ++ (key ++ more)) = simp append-assoc in
       ap (λ (x : List ℕ). countAt x 83 8) e
-      ∙ count-in p (key ++ more) 83 8 n (names-long s (t .settings .lengths)) (omega (arith, t .width))
+      ∙ count-in p (key ++ more) 83 8 n (names-long s (t .settings)) (omega (arith, t .width))
 
   key-read : keyAt b ≡ key
   unfolding b settingsBytes keyAt
   key-read =
       let p = s .csp ++ nameBytes (s .id) ++ nameBytes (s .serial) in
       let e : b ≡ (p ++ bytesOf 8 n) ++ (key ++ more) = simp append-assoc in
-      let l : length (p ++ bytesOf 8 n) ≡ 91 = length-append p (bytesOf 8 n) ∙ omega (arith, names-long s (t .settings .lengths), length-bytesOf 8 n) in
+      let l : length (p ++ bytesOf 8 n) ≡ 91 = length-append p (bytesOf 8 n) ∙ omega (arith, names-long s (t .settings), length-bytesOf 8 n) in
       ap (λ (x : List ℕ). take 32 (drop 91 x)) e ∙ part-at (p ++ bytesOf 8 n) key more 91 32 l (t .keyLength)
 
 pub settings-are-read : SettingsAreRead
@@ -92,7 +92,7 @@ unfolding b settingsOf widthOf keyOf
 settings-are-read s n key t =
     let x = settingsBytes s n key in
     let e : x ++ [] ≡ x = append-nil x in
-    let f = eq-eqb (length x) 123 (length-settings s (t .settings .lengths) n key (t .keyLength)) in
+    let f = eq-eqb (length x) 123 (length-settings s (t .settings) n key (t .keyLength)) in
     rw f (ap settingsAt (sym e) ∙ settings-read s n key t [], ap widthAt (sym e) ∙ width-read s n key t [], ap keyAt (sym e) ∙ key-read s n key t [])
 
 eight-good : widthGood 8 ≡ true
@@ -105,7 +105,7 @@ module _ (st : State) (t : TypedState st) where
 
   x-long : length x ≡ 123
   unfolding x
-  x-long = length-settings (st .settings) (t .register .settings .lengths) (st .width) (st .key) (t .register .keyLength)
+  x-long = length-settings (st .settings) (t .register .settings) (st .width) (st .key) (t .register .keyLength)
 
   -- what stands before each figure
   before-last : length (x ++ counterBytes 8 (st .counter)) ≡ 131
@@ -187,7 +187,7 @@ pub state-is-read : StateIsRead
 unfolding stateOf
 state-is-read st t =
     let r = t .register in
-    rw (eq-eqb (length (stateBytes st)) 155 (length-state st (r .settings .lengths) (r .keyLength) (t .chain))) (state-read st t)
+    rw (eq-eqb (length (stateBytes st)) 155 (length-state st (r .settings) (r .keyLength) (t .chain))) (state-read st t)
 
 -- ---- what was read is written
 

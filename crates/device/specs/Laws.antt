@@ -1,15 +1,12 @@
 -- What holds of the bytes of settings and states. Proved in proofs/.
-use Prim.Native.Nat.{ℕ, _<_}
+use Prim.Native.Nat.{ℕ}
 use mathlib.Core.Path.{_≡_}
-use mathlib.Core.Bool.{true}
 use mathlib.Core.List.{List}
 use lib.ListN.{length, replicate}
 use Rattle.primitives.specs.Bytes.{AllBytes}
-use Rattle.primitives.specs.Counter.{fitsIn}
 use Rattle.receipt.specs.declared.settings.Settings.{Settings}
 use Rattle.receipt.specs.declared.details.Details.{Details}
-use Rattle.journal.specs.State.{unopened}
-use Rattle.receipt.specs.Settings.{TypedSettings}
+use Rattle.journal.specs.State.{unopened, TypedRegister, TypedState}
 use Rattle.journal.specs.Open.{openNumber}
 use Rattle.journal.specs.Prepare.{prepareNumber}
 use Rattle.journal.specs.Issue.{detailsNumber, issueNumber, issued}
