@@ -21,6 +21,7 @@ use Rattle.receipt.specs.declared.details.Details.{Details}
 use Rattle.primitives.specs.declared.answer.Answer.{Answer}
 use Rattle.receipt.proofs.Entries.{length-array}
 use Rattle.primitives.proofs.Rows.{true-is-not-false, ask-zero, ifZero-yes, ifZero-no}
+use Rattle.journal.specs.State.{unopened}
 use Rattle.journal.specs.Open.{opened, openBuffer}
 use Rattle.journal.specs.Prepare.{prepareAnswer, prepareBuffer}
 use Rattle.journal.specs.Issue.{issued, issueBuffer}
@@ -29,8 +30,8 @@ use Rattle.journal.specs.declared.state.State.{State}
 use Rattle.journal.specs.declared.state.Opened.{Opened}
 use Rattle.journal.specs.declared.state.Issued.{Issued}
 use Rattle.journal.specs.declared.state.TakenOver.{TakenOver}
-use Rattle.device.specs.Layout.{settingsBytes, settingsOf, widthOf, keyOf, stateOf, kept}
-use Rattle.device.specs.Calls.{cspOf, settingsFrom, keyFrom, widthWith, settingsNumber, settingsBuffer, openAnswer, openJournal, dateOf, ofKind, detailsOf, takeOverAnswer}
+use Rattle.device.specs.Layout.{settingsBytes, stateBytes, settingsOf, widthOf, keyOf, stateOf, kept}
+use Rattle.device.specs.Calls.{cspOf, settingsFrom, keyFrom, widthWith, settingsNumber, settingsBuffer, Slices, openAnswer, openedNumber, openedSlices, dateOf, ofKind, detailsOf, IssueCall, callIn, issueAnswer, issuedNumber, issuedSlices, takeOverAnswer}
 use Rattle.device.proofs.Reading.{over-all, placed-all}
 use Rattle.device.proofs.Writers.{length-settings}
 
@@ -109,23 +110,45 @@ module _ (s : Settings) (key : List ℕ) (n : ℕ) (out : List ℕ) {s₁ : Sett
 
 -- ---- open
 
-module _ (settings journal state : List ℕ) where
-  pub open-none : (length state ≡ 155 → ⊥)
-      → (6 ≡ openAnswer settings (length journal) (length state) .number) × (journal ≡ openJournal settings (length state) journal)
-      × (state ≡ kept state (openAnswer settings (length journal) (length state) .state))
-  unfolding openAnswer openJournal kept
-  open-none h = rw (ne-eqb (length state) 155 h) (refl, refl, refl)
+module _ (settings : List ℕ) (room size : ℕ) where
+  pub open-six : (size ≡ 155 → ⊥) → openAnswer settings room size ≡ record { number = 6; state = unopened }
+  unfolding openAnswer
+  open-six h = rw (ne-eqb size 155 h)
 
-  pub open-some : {s : Settings} {n : ℕ} {key : List ℕ} {o : Opened} {j b : List ℕ} → length state ≡ 155 → s ≡ settingsOf settings → n ≡ widthOf settings
-      → key ≡ keyOf settings → (o ≡ opened s key n (length journal)) × (j ≡ openBuffer s n journal) → b ≡ kept state (o .state)
-      → (o .number ≡ openAnswer settings (length journal) (length state) .number) × (j ≡ openJournal settings (length state) journal)
-      × (b ≡ kept state (openAnswer settings (length journal) (length state) .state))
-  unfolding openAnswer openJournal
+  pub open-answer : size ≡ 155 → openAnswer settings room size ≡ opened (settingsOf settings) (keyOf settings) (widthOf settings) room
+  unfolding openAnswer
+  open-answer h = rw (eq-eqb size 155 h)
+
+pub kept-not : (b : List ℕ) (st : State) → (length b ≡ 155 → ⊥) → kept b st ≡ b
+unfolding kept
+kept-not b st h = rw (ne-eqb (length b) 155 h)
+
+pub kept-all : (b : List ℕ) (st : State) → length b ≡ 155 → kept b st ≡ stateBytes st
+unfolding kept
+kept-all b st h = rw (eq-eqb (length b) 155 h)
+
+module _ (settings : List ℕ) (g : Slices) where
+  pub open-none : (length (g .state) ≡ 155 → ⊥)
+      → (6 ≡ openedNumber settings g) × (g .journal ≡ openedSlices settings g .journal) × (g .state ≡ openedSlices settings g .state)
+  unfolding openedNumber openedSlices
+  open-none h =
+      let a = openAnswer settings (length (g .journal)) (length (g .state)) in
+      let e : a ≡ record { number = 6; state = unopened } = open-six settings (length (g .journal)) (length (g .state)) h in
+      let q = openBuffer (settingsOf settings) (widthOf settings) (g .journal) in
+      (sym (ap (λ (x : Opened). x .number) e), sym (ap (λ (t : Bool). cond t q (g .journal)) (ne-eqb (length (g .state)) 155 h)), sym (kept-not (g .state) (a .state) h))
+
+  pub open-some : {s : Settings} {n : ℕ} {key : List ℕ} {o : Opened} {j b : List ℕ} → length (g .state) ≡ 155 → s ≡ settingsOf settings → n ≡ widthOf settings
+      → key ≡ keyOf settings → (o ≡ opened s key n (length (g .journal))) × (j ≡ openBuffer s n (g .journal)) → b ≡ kept (g .state) (o .state)
+      → (o .number ≡ openedNumber settings g) × (j ≡ openedSlices settings g .journal) × (b ≡ openedSlices settings g .state)
+  unfolding openedNumber openedSlices
   open-some {o = o} h es en ek p q =
-      let t = eq-eqb (length state) 155 h in
-      let e : o ≡ opened (settingsOf settings) (keyOf settings) (widthOf settings) (length journal) =
-      p .0 ∙ (λ i. opened (es i) (ek i) (en i) (length journal)) in
-      rw t (ap (λ (x : Opened). x .number) e, p .1 ∙ (λ i. openBuffer (es i) (en i) journal), q ∙ ap (λ (x : Opened). kept state (x .state)) e)
+      let a = openAnswer settings (length (g .journal)) (length (g .state)) in
+      let e : o ≡ a = p .0 ∙ (λ i. opened (es i) (ek i) (en i) (length (g .journal))) ∙ sym (open-answer settings (length (g .journal)) (length (g .state)) h) in
+      let f = openBuffer (settingsOf settings) (widthOf settings) (g .journal) in (
+        ap (λ (x : Opened). x .number) e,
+        p .1 ∙ (λ i. openBuffer (es i) (en i) (g .journal)) ∙ sym (ap (λ (t : Bool). cond t f (g .journal)) (eq-eqb (length (g .state)) 155 h)),
+        q ∙ ap (λ (x : Opened). kept (g .state) (x .state)) e,
+      )
 
 -- ---- the details of a receipt
 
@@ -144,23 +167,26 @@ module _ (number year month day hour minute second kind : ℕ) {a b c d e : ℤ}
   details-plain p =
       p ∙ (λ i. detailsOf number year month day hour minute second (toZ-ofZ w64 a fa i) (toZ-ofZ w64 b fb i) (toZ-ofZ w64 c fc i) (toZ-ofZ w64 d fd i) (toZ-ofZ w64 e fe i) kind)
 
--- ---- prepare and issue
+-- ---- prepare
 
-module _ (state : List ℕ) {D d : Details} {st : State} (es : st ≡ stateOf state) (ed : d ≡ D) where
-  pub prepare-is : (out : List ℕ) {a : Answer} {out₁ : List ℕ} → (a ≡ prepareAnswer st d (length out)) × (out₁ ≡ prepareBuffer st d out)
-      → (a .number ≡ prepareAnswer (stateOf state) D (length out) .number) × (out₁ ≡ prepareBuffer (stateOf state) D out)
-      × (a .length ≡ prepareAnswer (stateOf state) D (length out) .length)
-  prepare-is out {a} p =
-      let e : a ≡ prepareAnswer (stateOf state) D (length out) = p .0 ∙ (λ i. prepareAnswer (es i) (ed i) (length out)) in
-      (ap (λ (x : Answer). x .number) e, p .1 ∙ (λ i. prepareBuffer (es i) (ed i) out), ap (λ (x : Answer). x .length) e)
+pub prepare-is : (state out : List ℕ) {D d : Details} {st : State} {a : Answer} {out₁ : List ℕ} → st ≡ stateOf state → d ≡ D
+    → (a ≡ prepareAnswer st d (length out)) × (out₁ ≡ prepareBuffer st d out)
+    → (a .number ≡ prepareAnswer (stateOf state) D (length out) .number) × (out₁ ≡ prepareBuffer (stateOf state) D out)
+    × (a .length ≡ prepareAnswer (stateOf state) D (length out) .length)
+prepare-is state out {D} {a = a} es ed p =
+    let e : a ≡ prepareAnswer (stateOf state) D (length out) = p .0 ∙ (λ i. prepareAnswer (es i) (ed i) (length out)) in
+    (ap (λ (x : Answer). x .number) e, p .1 ∙ (λ i. prepareBuffer (es i) (ed i) out), ap (λ (x : Answer). x .length) e)
 
-  pub issue-is : (sig journal : List ℕ) {a : Issued} {j b : List ℕ} → (a ≡ issued st d sig (length journal)) × (j ≡ issueBuffer st d sig journal)
-      → b ≡ kept state (a .state)
-      → (a .number ≡ issued (stateOf state) D sig (length journal) .number) × (b ≡ kept state (issued (stateOf state) D sig (length journal) .state))
-      × (j ≡ issueBuffer (stateOf state) D sig journal)
-  issue-is sig journal {a} p q =
-      let e : a ≡ issued (stateOf state) D sig (length journal) = p .0 ∙ (λ i. issued (es i) (ed i) sig (length journal)) in
-      (ap (λ (x : Issued). x .number) e, q ∙ ap (λ (x : Issued). kept state (x .state)) e, p .1 ∙ (λ i. issueBuffer (es i) (ed i) sig journal))
+-- ---- issue
+
+pub issue-is : (g : Slices) (c : IssueCall) {d : Details} {st : State} {a : Issued} {j b : List ℕ} → st ≡ stateOf (g .state)
+    → d ≡ detailsOf (c .number) (c .year) (c .month) (c .day) (c .hour) (c .minute) (c .second) (c .standard) (c .reduced1) (c .reduced2) (c .zero) (c .special) (c .kind)
+    → (a ≡ issued st d (c .signature) (length (g .journal))) × (j ≡ issueBuffer st d (c .signature) (g .journal)) → b ≡ kept (g .state) (a .state)
+    → (a .number ≡ issuedNumber g c) × (b ≡ issuedSlices g c .state) × (j ≡ issuedSlices g c .journal)
+unfolding issuedNumber issuedSlices issueAnswer callIn
+issue-is g c {a = a} es ed p q =
+    let e : a ≡ issueAnswer g c = p .0 ∙ (λ i. issued (es i) (ed i) (c .signature) (length (g .journal))) in
+    (ap (λ (x : Issued). x .number) e, q ∙ ap (λ (x : Issued). kept (g .state) (x .state)) e, p .1 ∙ (λ i. issueBuffer (es i) (ed i) (c .signature) (g .journal)))
 
 -- ---- take over
 

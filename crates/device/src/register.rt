@@ -13,10 +13,9 @@ use receipt::Kind;
 use receipt::Settings;
 ghost use mathlib.Core.Path.{_≡_};
 ghost use lib.ListN.{length};
-ghost use Rattle.journal.specs.Issue.{issued, issueBuffer};
 ghost use Rattle.journal.specs.Prepare.{prepareAnswer, prepareBuffer};
 ghost use Rattle.device.specs.Layout.{stateOf, kept};
-ghost use Rattle.device.specs.Calls.{cspOf, settingsFrom, keyFrom, widthWith, settingsNumber, settingsBuffer, openAnswer, openJournal, noDetails, detailsWith, ofKind, dateOf, detailsOf, takeOverAnswer};
+ghost use Rattle.device.specs.Calls.{cspOf, settingsFrom, keyFrom, widthWith, settingsNumber, settingsBuffer, slicesWith, openedNumber, openedSlices, noDetails, detailsWith, ofKind, dateOf, detailsOf, callWith, issuedNumber, issuedSlices, takeOverAnswer};
 
 // ---- settings
 
@@ -102,7 +101,7 @@ pub extern "C" fn ditgrux_settings(
     key: &[u8],
     settings: &mut [u8],
 ) -> u32
-    ensures { λ r. ⌜ (r ≡ settingsNumber (settingsFrom (now (csp .entry)) (now (id .entry)) (now (serial .entry))) (widthWith (now (key .entry)) width) (length (now (settings .entry)))) × (now (settings .exit) ≡ settingsBuffer (settingsFrom (now (csp .entry)) (now (id .entry)) (now (serial .entry))) (now (key .entry)) width (now (settings .entry))) ⌝ }
+    ensures { λ r. let s : _ = settingsFrom (now (csp .entry)) (now (id .entry)) (now (serial .entry)) in let k : _ = now (key .entry) in let out : _ = now (settings .entry) in ⌜ (r ≡ settingsNumber s (widthWith k width) (length out)) × (now (settings .exit) ≡ settingsBuffer s k width out) ⌝ }
 {
     let s = settings_from(csp, id, serial);
     let n = width_with(key, width);
@@ -158,7 +157,7 @@ pub extern "C" fn ditgrux_journal_length(state: &[u8]) -> usize
 // Writes the head of a journal, and the state behind it. 6 where the state has not 155 bytes, then questions 1 to 5.
 #[no_mangle]
 pub extern "C" fn ditgrux_open(settings: &[u8], journal: &mut [u8], state: &mut [u8]) -> u32
-    ensures { λ r. ⌜ (r ≡ openAnswer (now (settings .entry)) (length (now (journal .entry))) (length (now (state .entry))) .number) × (now (journal .exit) ≡ openJournal (now (settings .entry)) (length (now (state .entry))) (now (journal .entry))) × (now (state .exit) ≡ kept (now (state .entry)) (openAnswer (now (settings .entry)) (length (now (journal .entry))) (length (now (state .entry))) .state)) ⌝ }
+    ensures { λ r. let s : _ = now (settings .entry) in let g : _ = slicesWith (now (state .entry)) (now (journal .entry)) in ⌜ (r ≡ openedNumber s g) × (now (journal .exit) ≡ openedSlices s g .journal) × (now (state .exit) ≡ openedSlices s g .state) ⌝ }
 {
     if state.len() != STATE {
         return 6;
@@ -276,7 +275,7 @@ pub extern "C" fn ditgrux_prepare(
     output: &mut [u8],
     length: &mut usize,
 ) -> u32
-    ensures { λ r. ⌜ (r ≡ prepareAnswer (stateOf (now (state .entry))) (detailsOf number year month day hour minute second standard «reduced_1» «reduced_2» zero special kind) (lib.ListN.length (now (output .entry))) .number) × (now (output .exit) ≡ prepareBuffer (stateOf (now (state .entry))) (detailsOf number year month day hour minute second standard «reduced_1» «reduced_2» zero special kind) (now (output .entry))) × (now (length .exit) ≡ prepareAnswer (stateOf (now (state .entry))) (detailsOf number year month day hour minute second standard «reduced_1» «reduced_2» zero special kind) (lib.ListN.length (now (output .entry))) .length) ⌝ }
+    ensures { λ r. let st : _ = stateOf (now (state .entry)) in let d : _ = detailsOf number year month day hour minute second standard «reduced_1» «reduced_2» zero special kind in let a : _ = prepareAnswer st d (lib.ListN.length (now (output .entry))) in ⌜ (r ≡ a .number) × (now (output .exit) ≡ prepareBuffer st d (now (output .entry))) × (now (length .exit) ≡ a .length) ⌝ }
 {
     let st = state_of(state);
     let d = details_of(
@@ -321,7 +320,7 @@ pub extern "C" fn ditgrux_issue(
     signature: &[u8],
     journal: &mut [u8],
 ) -> u32
-    ensures { λ r. ⌜ (r ≡ issued (stateOf (now (state .entry))) (detailsOf number year month day hour minute second standard «reduced_1» «reduced_2» zero special kind) (now (signature .entry)) (length (now (journal .entry))) .number) × (now (state .exit) ≡ kept (now (state .entry)) (issued (stateOf (now (state .entry))) (detailsOf number year month day hour minute second standard «reduced_1» «reduced_2» zero special kind) (now (signature .entry)) (length (now (journal .entry))) .state)) × (now (journal .exit) ≡ issueBuffer (stateOf (now (state .entry))) (detailsOf number year month day hour minute second standard «reduced_1» «reduced_2» zero special kind) (now (signature .entry)) (now (journal .entry))) ⌝ }
+    ensures { λ r. let g : _ = slicesWith (now (state .entry)) (now (journal .entry)) in let c : _ = callWith number year month day hour minute second standard «reduced_1» «reduced_2» zero special kind (now (signature .entry)) in ⌜ (r ≡ issuedNumber g c) × (now (state .exit) ≡ issuedSlices g c .state) × (now (journal .exit) ≡ issuedSlices g c .journal) ⌝ }
 {
     let st = state_of(state);
     let d = details_of(
@@ -356,7 +355,7 @@ pub extern "C" fn ditgrux_take_over(
     state: &mut [u8],
     index: &mut u32,
 ) -> u32
-    ensures { λ r. ⌜ (r ≡ takeOverAnswer (now (journal .entry)) (now (key .entry)) width (length (now (state .entry))) .number) × (now (state .exit) ≡ kept (now (state .entry)) (takeOverAnswer (now (journal .entry)) (now (key .entry)) width (length (now (state .entry))) .state)) × (now (index .exit) ≡ takeOverAnswer (now (journal .entry)) (now (key .entry)) width (length (now (state .entry))) .index) ⌝ }
+    ensures { λ r. let a : _ = takeOverAnswer (now (journal .entry)) (now (key .entry)) width (length (now (state .entry))) in ⌜ (r ≡ a .number) × (now (state .exit) ≡ kept (now (state .entry)) (a .state)) × (now (index .exit) ≡ a .index) ⌝ }
 {
     if state.len() != STATE {
         *index = 0;
