@@ -11,6 +11,8 @@ use lib.Dec.{leb, eqb}
 use lib.ListN.{length, getD, take, drop, replicate, drop-of-length-le, length-take, length-drop, length-replicate, take-append-drop, replicate-append-replicate}
 use lib.Seq.{drop-cons, take-all, take-at, drop-at, length-take-le}
 use Rattle.primitives.specs.Bytes.{AllBytes}
+use Rattle.primitives.specs.Counter.{widthGood}
+use Rattle.primitives.specs.Questions.{ask}
 use Rattle.primitives.specs.Place.{overwrite, placed}
 use Rattle.primitives.proofs.ByteLists.{bytes-nil, bytes-cons}
 use Rattle.primitives.proofs.Over.{placed-room}
@@ -19,9 +21,9 @@ use Rattle.receipt.specs.declared.settings.Name.{Name}
 use Rattle.receipt.specs.declared.settings.Settings.{Settings}
 use Rattle.receipt.specs.declared.settings.Letters.{Letters}
 use Rattle.receipt.specs.declared.settings.Letters.the-variants.{Id, Serial, Zero}
-use Rattle.receipt.specs.Settings.{between, idLetter, serialLetter, letterGood, every, nameText, nameGood, nameOf, cspGood, idGood, serialGood, settingsGood, sized}
+use Rattle.receipt.specs.Settings.{between, idLetter, serialLetter, letterGood, every, nameText, nameGood, nameOf, cspGood, idGood, serialGood, settingsGood, settingsNumber, sized}
 use Rattle.primitives.proofs.Questions.{yes, no}
-use Rattle.primitives.proofs.Rows.{both}
+use Rattle.primitives.proofs.Rows.{both, ask-zero, ask-yes, ask-no}
 
 -- ---- the loop over the bytes of one class, at the place i
 
@@ -237,3 +239,37 @@ good-sized s e =
 
 csp-byte : (low high b : ℕ) → high < 256 → between low high b ≡ true → b < 256
 csp-byte low high b h e = omega (arith, between-true low high b e .1)
+
+-- ---- questions 1 to 4 in a row
+
+-- the questions after these decide where all four answers are yes
+pub settings-yes : (s : Settings) (n rest : ℕ) → settingsGood s ≡ true → widthGood n ≡ true → settingsNumber s n rest ≡ rest
+unfolding settingsGood settingsNumber
+settings-yes s n rest g w =
+    let a = both (cspGood (s .csp)) (idGood (s .id) && serialGood (s .serial)) g in
+    let b = both (idGood (s .id)) (serialGood (s .serial)) (a .1) in
+    ask-yes 1 _ (a .0) ∙ ask-yes 2 _ (b .0) ∙ ask-yes 3 _ (b .1) ∙ ask-yes 4 rest w
+
+pub settings-zero : (s : Settings) (n rest : ℕ) → settingsNumber s n rest ≡ 0 → (settingsGood s ≡ true) × (widthGood n ≡ true) × (rest ≡ 0)
+unfolding settingsGood settingsNumber
+settings-zero s n rest e =
+    let a = ask-zero (cspGood (s .csp)) 0 (ask (idGood (s .id)) 2 (ask (serialGood (s .serial)) 3 (ask (widthGood n) 4 rest))) e in
+    let b = ask-zero (idGood (s .id)) 1 (ask (serialGood (s .serial)) 3 (ask (widthGood n) 4 rest)) (a .1) in
+    let d = ask-zero (serialGood (s .serial)) 2 (ask (widthGood n) 4 rest) (b .1) in
+    let w = ask-zero (widthGood n) 3 rest (d .1) in
+    (rw (a .0, b .0, d .0), w .0, w .1)
+
+pub settings-pass : (s : Settings) (n rest : ℕ) → settingsNumber s n 0 ≡ 0 → settingsNumber s n rest ≡ rest
+settings-pass s n rest e = let z = settings-zero s n 0 e in settings-yes s n rest (z .0) (z .1)
+
+-- a row that says no before its end says the same before every rest
+pub settings-stop : (s : Settings) (n rest : ℕ) → (settingsNumber s n 0 ≡ 0 → ⊥) → settingsNumber s n rest ≡ settingsNumber s n 0
+unfolding settingsNumber ask
+settings-stop s n rest h = go (cspGood (s .csp)) (idGood (s .id)) (serialGood (s .serial)) (widthGood n) h
+  where
+    go : (a b d w : Bool) → (ask a 1 (ask b 2 (ask d 3 (ask w 4 0))) ≡ 0 → ⊥) → ask a 1 (ask b 2 (ask d 3 (ask w 4 rest))) ≡ ask a 1 (ask b 2 (ask d 3 (ask w 4 0)))
+    go false b d w k = refl
+    go true false d w k = refl
+    go true true false w k = refl
+    go true true true false k = refl
+    go true true true true k = absurd (k refl)

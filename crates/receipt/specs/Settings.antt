@@ -6,6 +6,8 @@ use mathlib.Core.Path.{_≡_}
 use lib.Dec.{leb, eqb}
 use lib.ListN.{length, getD, take, drop, replicate}
 use Rattle.primitives.specs.Bytes.{AllBytes}
+use Rattle.primitives.specs.Counter.{widthGood}
+use Rattle.primitives.specs.Questions.{ask}
 use Rattle.receipt.specs.declared.settings.Name.{Name}
 use Rattle.receipt.specs.declared.settings.Settings.{Settings}
 use Rattle.receipt.specs.declared.settings.Letters.{Letters}
@@ -70,6 +72,11 @@ serialGood serial = nameGood Serial serial
 
 unfoldable pub settingsGood : Settings → Bool
 settingsGood s = cspGood (s .csp) && (idGood (s .id) && serialGood (s .serial))
+
+-- "CSP good? 1. ID good? 2. Serial good? 3. N from 5 to 8? 4.", and then the rest
+unfoldable pub settingsNumber : Settings → ℕ → ℕ → ℕ
+settingsNumber s n rest =
+    ask (cspGood (s .csp)) 1 (ask (idGood (s .id)) 2 (ask (serialGood (s .serial)) 3 (ask (widthGood n) 4 rest)))
 
 -- both names end within their arrays
 unfoldable pub sized : Settings → Bool

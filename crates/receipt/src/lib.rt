@@ -46,6 +46,7 @@ pub use settings::id_good;
 pub use settings::name_of;
 pub use settings::serial_good;
 pub use settings::settings_good;
+pub use settings::settings_number;
 
 // What the journal needs of the primitives: answers, bytes and numbers at a place of a buffer, and the widths of a counter.
 pub use primitives::Answer;

@@ -1,7 +1,8 @@
 // The settings of a register: CSP, register ID and serial.
+use primitives::width_good;
 ghost use mathlib.Core.Path.{_≡_};
 ghost use Prim.Native.Nat.{min};
-ghost use Rattle.receipt.specs.Settings.{between, idLetter, serialLetter, letterGood, every, nameGood, cspGood, idGood, serialGood, settingsGood, nameOf};
+ghost use Rattle.receipt.specs.Settings.{between, idLetter, serialLetter, letterGood, every, nameGood, cspGood, idGood, serialGood, settingsGood, settingsNumber, nameOf};
 
 // A register ID or a serial: its bytes up to its length, and zeros behind its end.
 pub struct Name {
@@ -133,6 +134,28 @@ pub fn settings_good(s: Settings) -> bool
     }
     let serial = s.serial;
     serial_good(serial)
+}
+
+// Questions 1 to 4, of settings and a counter's width; 0 where every answer is yes.
+pub fn settings_number(s: Settings, n: usize) -> u32
+    ensures { λ r. ⌜ r ≡ settingsNumber s n 0 ⌝ }
+{
+    let csp = s.csp;
+    if !csp_good(csp) {
+        return 1;
+    }
+    let id = s.id;
+    if !id_good(id) {
+        return 2;
+    }
+    let serial = s.serial;
+    if !serial_good(serial) {
+        return 3;
+    }
+    if !width_good(n) {
+        return 4;
+    }
+    0
 }
 
 // The lesser of two numbers.
