@@ -13,14 +13,16 @@ use mir.Val.{SFits, toZ, ofZ}
 use mir.ValLaws.{toZ-ofZ}
 use Rattle.primitives.specs.Place.{overwrite, placed}
 use Rattle.primitives.specs.Counter.{widthGood}
+use Rattle.primitives.specs.Questions.{ask}
+use Rattle.primitives.specs.declared.answer.Answer.{Answer}
 use Rattle.primitives.proofs.Twos.{width-low}
-use Rattle.receipt.specs.Settings.{SettingsLengths}
+use Rattle.primitives.proofs.Rows.{true-is-not-false, ask-zero, ask-yes, ask-no, ifZero-yes, ifZero-no}
+use Rattle.receipt.specs.Settings.{settingsNumber, SettingsLengths}
 use Rattle.receipt.specs.declared.settings.Settings.{Settings}
 use Rattle.receipt.specs.declared.datetime.DateTime.{DateTime}
 use Rattle.receipt.specs.declared.details.Details.{Details}
-use Rattle.primitives.specs.declared.answer.Answer.{Answer}
+use Rattle.receipt.proofs.Names.{settings-zero, settings-pass, settings-stop}
 use Rattle.receipt.proofs.Entries.{length-array}
-use Rattle.primitives.proofs.Rows.{true-is-not-false, ask-zero, ifZero-yes, ifZero-no}
 use Rattle.journal.specs.State.{unopened}
 use Rattle.journal.specs.Open.{opened, openBuffer}
 use Rattle.journal.specs.Prepare.{prepareAnswer, prepareBuffer}
@@ -31,7 +33,7 @@ use Rattle.journal.specs.declared.state.Opened.{Opened}
 use Rattle.journal.specs.declared.state.Issued.{Issued}
 use Rattle.journal.specs.declared.state.TakenOver.{TakenOver}
 use Rattle.device.specs.Layout.{settingsBytes, stateBytes, settingsOf, widthOf, keyOf, stateOf, kept}
-use Rattle.device.specs.Calls.{cspOf, settingsFrom, keyFrom, widthWith, settingsNumber, settingsBuffer, Slices, openAnswer, openedNumber, openedSlices, dateOf, ofKind, detailsOf, IssueCall, callIn, issueAnswer, issuedNumber, issuedSlices, takeOverAnswer}
+use Rattle.device.specs.Calls.{cspOf, settingsFrom, keyFrom, widthWith, settingsAnswer, settingsBuffer, Slices, openAnswer, openedNumber, openedSlices, dateOf, ofKind, detailsOf, IssueCall, callIn, issueAnswer, issuedNumber, issuedSlices, takeOverAnswer}
 use Rattle.device.proofs.Reading.{over-all, placed-all}
 use Rattle.device.proofs.Writers.{length-settings}
 
@@ -45,6 +47,23 @@ pub key-copied : (key : List ℕ) {r : List ℕ} → length key ≡ 32 → r ≡
 unfolding keyFrom
 key-copied key e q = rw (eq-eqb (length key) 32 e) (q ∙ placed-all (replicate 32 0) key e)
 
+pub key-whole : (key : List ℕ) → length key ≡ 32 → keyFrom key ≡ key
+unfolding keyFrom
+key-whole key l = rw (eq-eqb (length key) 32 l)
+
+pub width-whole : (key : List ℕ) (n : ℕ) → length key ≡ 32 → widthWith key n ≡ n
+unfolding widthWith
+width-whole key n l = rw (eq-eqb (length key) 32 l)
+
+-- a width that is good came with a key of 32 bytes
+pub key-long : (key : List ℕ) (n : ℕ) → widthGood (widthWith key n) ≡ true → length key ≡ 32
+unfolding widthWith
+key-long key n w = go (eqb (length key) 32) refl w
+  where
+    go : (t : Bool) → eqb (length key) 32 ≡ t → widthGood (cond t n 0) ≡ true → length key ≡ 32
+    go true e w = eqb-true (length key) 32 e
+    go false e w = true-is-not-false (sym (width-low 0 (omega arith)) ∙ w)
+
 pub from-typed : (csp id serial : List ℕ) → SettingsLengths (settingsFrom csp id serial)
 unfolding settingsFrom cspOf
 from-typed csp id serial = record { csp = go (eqb (length csp) 3) refl; id = length-array id; serial = length-array serial }
@@ -53,58 +72,54 @@ from-typed csp id serial = record { csp = go (eqb (length csp) 3) refl; id = len
     go true e = eqb-true (length csp) 3 e
     go false e = refl
 
-module _ (s : Settings) (key : List ℕ) (n : ℕ) (out : List ℕ) {s₁ : Settings} {n₁ k : ℕ} (es : s₁ ≡ s) (en : n₁ ≡ widthWith key n)
-    (ek : k ≡ settingsNumber s₁ n₁ (length out)) where
-  number-is : k ≡ settingsNumber s (widthWith key n) (length out)
-  number-is = ek ∙ (λ i. settingsNumber (es i) (en i) (length out))
+-- questions 1 to 4 say no; or they do not, and the output decides
+module _ (s : Settings) (n room : ℕ) {k : ℕ} (e : k ≡ settingsNumber s n 0) where
+  pub answer-stops : (k ≡ 0 → ⊥) → k ≡ settingsAnswer s n room
+  unfolding settingsAnswer
+  answer-stops h = e ∙ sym (settings-stop s n (ask (eqb room 123) 23 0) (λ z. h (e ∙ z)))
 
-  pub settings-refused : (k ≡ 0 → ⊥) → (k ≡ settingsNumber s (widthWith key n) (length out)) × (out ≡ settingsBuffer s key n out)
+  answer-rest : k ≡ 0 → settingsAnswer s n room ≡ ask (eqb room 123) 23 0
+  unfolding settingsAnswer
+  answer-rest z = settings-pass s n (ask (eqb room 123) 23 0) (sym e ∙ z)
+
+  pub answer-no-room : k ≡ 0 → (room ≡ 123 → ⊥) → 23 ≡ settingsAnswer s n room
+  answer-no-room z h = sym (answer-rest z ∙ ask-no 23 0 (ne-eqb room 123 h))
+
+  pub answer-yes : k ≡ 0 → room ≡ 123 → 0 ≡ settingsAnswer s n room
+  answer-yes z h = sym (answer-rest z ∙ ask-yes 23 0 (eq-eqb room 123 h))
+
+module _ (s : Settings) (key : List ℕ) (n : ℕ) (out : List ℕ) {s₁ : Settings} {n₁ k : ℕ} (es : s₁ ≡ s) (en : n₁ ≡ widthWith key n)
+    (ek : k ≡ settingsAnswer s₁ n₁ (length out)) where
+  number-is : k ≡ settingsAnswer s (widthWith key n) (length out)
+  number-is = ek ∙ (λ i. settingsAnswer (es i) (en i) (length out))
+
+  pub settings-refused : (k ≡ 0 → ⊥) → (k ≡ settingsAnswer s (widthWith key n) (length out)) × (out ≡ settingsBuffer s key n out)
   unfolding settingsBuffer
   settings-refused h =
-      (number-is, sym (ifZero-no (settingsNumber s (widthWith key n) (length out)) (settingsBytes s n key) out (λ z. h (number-is ∙ z))))
+      (number-is, sym (ifZero-no (settingsAnswer s (widthWith key n) (length out)) (settingsBytes s n key) out (λ z. h (number-is ∙ z))))
 
   module _ (z : k ≡ 0) where
-    accepted : settingsNumber s (widthWith key n) (length out) ≡ 0
+    accepted : settingsAnswer s (widthWith key n) (length out) ≡ 0
     accepted = sym number-is ∙ z
 
     answers : (widthGood (widthWith key n) ≡ true) × (length out ≡ 123)
-    unfolding settingsNumber
+    unfolding settingsAnswer
     answers =
-        let p₁ = ask-zero _ _ _ accepted in
-        let p₂ = ask-zero _ _ _ (p₁ .1) in
-        let p₃ = ask-zero _ _ _ (p₂ .1) in
-        let p₄ = ask-zero _ _ _ (p₃ .1) in
-        let p₅ = ask-zero _ _ _ (p₄ .1) in
-        (p₄ .0, eqb-true (length out) 123 (p₅ .0))
+        let a = settings-zero s (widthWith key n) (ask (eqb (length out) 123) 23 0) accepted in
+        (a .1, eqb-true (length out) 123 (ask-zero (eqb (length out) 123) 22 0 (a .2) .0))
 
     pub settings-room : 123 ≤ length out
     settings-room = let e = answers .1 in omega arith
 
-    -- a width that is good came with a key of 32 bytes
-    key-long : length key ≡ 32
-    unfolding widthWith
-    key-long = go (eqb (length key) 32) refl (answers .0)
-      where
-        go : (t : Bool) → eqb (length key) 32 ≡ t → widthGood (cond t n 0) ≡ true → length key ≡ 32
-        go true e w = eqb-true (length key) 32 e
-        go false e w = true-is-not-false (sym (width-low 0 (omega arith)) ∙ w)
-
-    width-is : widthWith key n ≡ n
-    unfolding widthWith
-    width-is = rw (eq-eqb (length key) 32 key-long)
-
-    key-is : keyFrom key ≡ key
-    unfolding keyFrom
-    key-is = rw (eq-eqb (length key) 32 key-long)
-
     pub settings-done : {k₁ b₁ : List ℕ} → SettingsLengths s → k₁ ≡ keyFrom key → b₁ ≡ overwrite out 0 (settingsBytes s₁ n₁ k₁)
-        → (0 ≡ settingsNumber s (widthWith key n) (length out)) × (b₁ ≡ settingsBuffer s key n out)
+        → (0 ≡ settingsAnswer s (widthWith key n) (length out)) × (b₁ ≡ settingsBuffer s key n out)
     unfolding settingsBuffer
     settings-done {k₁} t q e =
-        let f : k₁ ≡ key = q ∙ key-is in
-        let w : settingsBytes s₁ n₁ k₁ ≡ settingsBytes s n key = λ i. settingsBytes (es i) ((en ∙ width-is) i) (f i) in (
+        let l = key-long key n (answers .0) in
+        let f : k₁ ≡ key = q ∙ key-whole key l in
+        let w : settingsBytes s₁ n₁ k₁ ≡ settingsBytes s n key = λ i. settingsBytes (es i) ((en ∙ width-whole key n l) i) (f i) in (
           sym accepted,
-          e ∙ ap (overwrite out 0) w ∙ over-all out (settingsBytes s n key) (length-settings s t n key key-long ∙ sym (answers .1))
+          e ∙ ap (overwrite out 0) w ∙ over-all out (settingsBytes s n key) (length-settings s t n key l ∙ sym (answers .1))
               ∙ sym (ifZero-yes (settingsBytes s n key) out accepted),
         )
 

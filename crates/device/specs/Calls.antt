@@ -5,9 +5,8 @@ use mathlib.Core.List.{List, [], _∷_}
 use lib.Dec.{eqb}
 use lib.IntN.{ℤ, pos}
 use lib.ListN.{length, replicate}
-use Rattle.primitives.specs.Counter.{widthGood}
 use Rattle.primitives.specs.Questions.{ask, ifZero}
-use Rattle.receipt.specs.Settings.{nameOf, cspGood, idGood, serialGood}
+use Rattle.receipt.specs.Settings.{nameOf, settingsNumber}
 use Rattle.receipt.specs.declared.settings.Settings.{Settings}
 use Rattle.receipt.specs.declared.datetime.DateTime.{DateTime}
 use Rattle.receipt.specs.declared.details.Kind.{Kind}
@@ -41,13 +40,12 @@ unfoldable pub widthWith : List ℕ → ℕ → ℕ
 widthWith key n = cond (eqb (length key) 32) n 0
 
 -- questions 1 to 4, then 23 for an output of this length
-unfoldable pub settingsNumber : Settings → ℕ → ℕ → ℕ
-settingsNumber s n room =
-    ask (cspGood (s .csp)) 1 (ask (idGood (s .id)) 2 (ask (serialGood (s .serial)) 3 (ask (widthGood n) 4 (ask (eqb room 123) 23 0))))
+unfoldable pub settingsAnswer : Settings → ℕ → ℕ → ℕ
+settingsAnswer s n room = settingsNumber s n (ask (eqb room 123) 23 0)
 
 -- the output after the call
 unfoldable pub settingsBuffer : Settings → List ℕ → ℕ → List ℕ → List ℕ
-settingsBuffer s key n out = ifZero (settingsNumber s (widthWith key n) (length out)) (settingsBytes s n key) out
+settingsBuffer s key n out = ifZero (settingsAnswer s (widthWith key n) (length out)) (settingsBytes s n key) out
 
 -- ---- what a program holds: the bytes of a state, and the buffer of a journal
 

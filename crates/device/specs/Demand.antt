@@ -18,7 +18,7 @@ use Rattle.journal.specs.Receipts.{Receipt, receiptsIn, sum}
 use Rattle.journal.specs.Valid.{Valid}
 use Rattle.journal.specs.Calls.{Register, opening, numbersOf, receiptOfCall, callOf}
 use Rattle.device.specs.Layout.{settingsOf, widthOf, keyOf, stateOf, kept}
-use Rattle.device.specs.Calls.{settingsFrom, widthWith, settingsNumber, settingsBuffer, Slices, openedNumber, openedSlices, IssueCall, callWith, callIn, issuedNumber, issuedSlices, takeOverAnswer}
+use Rattle.device.specs.Calls.{settingsFrom, widthWith, settingsAnswer, settingsBuffer, Slices, openedNumber, openedSlices, IssueCall, callWith, callIn, issuedNumber, issuedSlices, takeOverAnswer}
 
 -- ---- lists of calls of ditgrux_issue
 
@@ -137,7 +137,7 @@ abbrev pub AcceptedIsWrittenInC : Type 0
 AcceptedIsWrittenInC =
     (j key : List ℕ) (n : ℕ) → length j < 18446744073709551616 → AllBytes key → length key ≡ 32 → (v : Valid j key n)
     → (out : List ℕ) → length out ≡ 123 → (g : Slices) → length (g .journal) ≡ length j → length (g .state) ≡ 155
-    → (settingsNumber (settingsAgain (v .settings)) (widthWith key n) (length out) ≡ 0)
+    → (settingsAnswer (settingsAgain (v .settings)) (widthWith key n) (length out) ≡ 0)
     × (openedNumber (settingsBuffer (settingsAgain (v .settings)) key n out) g ≡ 0)
     × AgainInC j key n (v .entries) (openedSlices (settingsBuffer (settingsAgain (v .settings)) key n out) g)
 

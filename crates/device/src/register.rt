@@ -15,7 +15,7 @@ ghost use mathlib.Core.Path.{_≡_};
 ghost use lib.ListN.{length};
 ghost use Rattle.journal.specs.Prepare.{prepareAnswer, prepareBuffer};
 ghost use Rattle.device.specs.Layout.{stateOf, kept};
-ghost use Rattle.device.specs.Calls.{cspOf, settingsFrom, keyFrom, widthWith, settingsNumber, settingsBuffer, slicesWith, openedNumber, openedSlices, noDetails, detailsWith, ofKind, dateOf, detailsOf, callWith, issuedNumber, issuedSlices, takeOverAnswer};
+ghost use Rattle.device.specs.Calls.{cspOf, settingsFrom, keyFrom, widthWith, settingsAnswer, settingsBuffer, slicesWith, openedNumber, openedSlices, noDetails, detailsWith, ofKind, dateOf, detailsOf, callWith, issuedNumber, issuedSlices, takeOverAnswer};
 
 // ---- settings
 
@@ -67,23 +67,12 @@ fn width_with(key: &[u8], n: usize) -> usize
 }
 
 // Questions 1 to 4, then 23 for an output of this length.
-fn settings_number(s: Settings, n: usize, room: usize) -> u32
-    ensures { λ r. ⌜ r ≡ settingsNumber s n room ⌝ }
+fn settings_answer(s: Settings, n: usize, room: usize) -> u32
+    ensures { λ r. ⌜ r ≡ settingsAnswer s n room ⌝ }
 {
-    let csp = s.csp;
-    if !receipt::csp_good(csp) {
-        return 1;
-    }
-    let id = s.id;
-    if !receipt::id_good(id) {
-        return 2;
-    }
-    let serial = s.serial;
-    if !receipt::serial_good(serial) {
-        return 3;
-    }
-    if !receipt::width_good(n) {
-        return 4;
+    let number = receipt::settings_number(s, n);
+    if number != 0 {
+        return number;
     }
     if room != SETTINGS {
         return 23;
@@ -101,11 +90,11 @@ pub extern "C" fn ditgrux_settings(
     key: &[u8],
     settings: &mut [u8],
 ) -> u32
-    ensures { λ r. let s : _ = settingsFrom (now (csp .entry)) (now (id .entry)) (now (serial .entry)) in let k : _ = now (key .entry) in let out : _ = now (settings .entry) in ⌜ (r ≡ settingsNumber s (widthWith k width) (length out)) × (now (settings .exit) ≡ settingsBuffer s k width out) ⌝ }
+    ensures { λ r. let s : _ = settingsFrom (now (csp .entry)) (now (id .entry)) (now (serial .entry)) in let k : _ = now (key .entry) in let out : _ = now (settings .entry) in ⌜ (r ≡ settingsAnswer s (widthWith k width) (length out)) × (now (settings .exit) ≡ settingsBuffer s k width out) ⌝ }
 {
     let s = settings_from(csp, id, serial);
     let n = width_with(key, width);
-    let number = settings_number(s, n, settings.len());
+    let number = settings_answer(s, n, settings.len());
     if number != 0 {
         return number;
     }
