@@ -205,19 +205,27 @@ issue-is g c {a = a} es ed p q =
 
 -- ---- take over
 
+module _ (journal key : List ℕ) (n size : ℕ) where
+  pub take-six : (size ≡ 155 → ⊥) → takeOverAnswer journal key n size ≡ record { number = 6; index = 0; state = unopened }
+  unfolding takeOverAnswer
+  take-six h = rw (ne-eqb size 155 h)
+
+  pub take-answer : size ≡ 155 → takeOverAnswer journal key n size ≡ takeOver journal (keyFrom key) (widthWith key n)
+  unfolding takeOverAnswer
+  take-answer h = rw (eq-eqb size 155 h)
+
 module _ (journal key : List ℕ) (n : ℕ) (state : List ℕ) where
   pub take-none : (length state ≡ 155 → ⊥)
       → (6 ≡ takeOverAnswer journal key n (length state) .number) × (state ≡ kept state (takeOverAnswer journal key n (length state) .state))
       × (0 ≡ takeOverAnswer journal key n (length state) .index)
-  unfolding takeOverAnswer kept
-  take-none h = rw (ne-eqb (length state) 155 h) (refl, refl, refl)
+  take-none h =
+      let e = take-six journal key n (length state) h in
+      (sym (ap (λ (x : TakenOver). x .number) e), sym (kept-not state (takeOverAnswer journal key n (length state) .state) h), sym (ap (λ (x : TakenOver). x .index) e))
 
   pub take-some : {k : List ℕ} {w : ℕ} {a : TakenOver} {b : List ℕ} → length state ≡ 155 → k ≡ keyFrom key → w ≡ widthWith key n → a ≡ takeOver journal k w
       → b ≡ kept state (a .state)
       → (a .number ≡ takeOverAnswer journal key n (length state) .number) × (b ≡ kept state (takeOverAnswer journal key n (length state) .state))
       × (a .index ≡ takeOverAnswer journal key n (length state) .index)
-  unfolding takeOverAnswer
   take-some {a = a} h ek ew p q =
-      let t = eq-eqb (length state) 155 h in
-      let e : a ≡ takeOver journal (keyFrom key) (widthWith key n) = p ∙ (λ i. takeOver journal (ek i) (ew i)) in
-      rw t (ap (λ (x : TakenOver). x .number) e, q ∙ ap (λ (x : TakenOver). kept state (x .state)) e, ap (λ (x : TakenOver). x .index) e)
+      let e : a ≡ takeOverAnswer journal key n (length state) = p ∙ (λ i. takeOver journal (ek i) (ew i)) ∙ sym (take-answer journal key n (length state) h) in
+      (ap (λ (x : TakenOver). x .number) e, q ∙ ap (λ (x : TakenOver). kept state (x .state)) e, ap (λ (x : TakenOver). x .index) e)

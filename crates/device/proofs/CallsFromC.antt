@@ -195,30 +195,22 @@ module _ (s : Settings) (n : ℕ) (key : List ℕ) (ts : TypedSettings s) (t : T
         typed = p .typed;
       }
 
--- all that holds of the slices that ditgrux_open makes of a buffer
-module _ (b : List ℕ) (g : Slices) (a : AllBytes b) (l : length (g .journal) < 18446744073709551616) (z : openedNumber b g ≡ 0) where
-  open-yes : openNumber (settingsOf b) (widthOf b) (length (g .journal)) ≡ 0
-  open-yes = open-accepted b g z .1
+-- ---- from an Open that was not refused
 
-  good-register : (settingsGood (settingsOf b) ≡ true) × (widthGood (widthOf b) ≡ true)
-  good-register = let o = open-zero (settingsOf b) (widthOf b) (length (g .journal)) open-yes in (o .0, o .1)
+-- all calls, in a buffer whose length is a number of 64 bits
+pub same-calls : (s : Settings) (n : ℕ) (key buf : List ℕ) → TypedSettings s → TypedRegister s n key → length buf < 18446744073709551616
+    → openNumber s n (length buf) ≡ 0 → (cs : List IssueCall) → TypedIssueCalls cs → Same (opening s key n buf) cs
+same-calls s n key buf ts t l z cs tcs =
+    let o = open-zero s n (length buf) z in
+    let h = opening-holds s n key ts (o .0) (o .1) (t .keyBytes) buf z in
+    let m = opening-length s n key ts (o .0) (o .1) (t .keyBytes) buf z in
+    all-same s n key ts t (o .0) (o .1) cs (opening s key n buf) [] tcs h (omega (arith, m))
 
-  long : length b ≡ 123
-  long = settings-long b (length (g .journal)) open-yes
-
-  pub opened-typed : TypedRegister (settingsOf b) (widthOf b) (keyOf b)
-  opened-typed = register-typed b a long (good-register .0) (good-register .1)
-
-  pub opened-settings : TypedSettings (settingsOf b)
-  opened-settings = settings-typed b a long
-
-  pub same-calls : (cs : List IssueCall) → TypedIssueCalls cs → Same (registerIn b (g .journal)) cs
-  same-calls cs tcs =
-      let s = settingsOf b in
-      let n = widthOf b in
-      let key = keyOf b in
-      let t = opened-typed in
-      let o = good-register in
-      let h = opening-holds s n key opened-settings (o .0) (o .1) (t .keyBytes) (g .journal) open-yes in
-      let m = opening-length s n key opened-settings (o .0) (o .1) (t .keyBytes) (g .journal) open-yes in
-      all-same s n key opened-settings t (o .0) (o .1) cs (registerIn b (g .journal)) [] tcs h (omega (arith, m))
+-- what the types say of settings that ditgrux_open accepted
+pub opened-typed : (b : List ℕ) (g : Slices) → AllBytes b → openedNumber b g ≡ 0
+    → TypedSettings (settingsOf b) × TypedRegister (settingsOf b) (widthOf b) (keyOf b)
+opened-typed b g a z =
+    let q = open-accepted b g z .1 in
+    let o = open-zero (settingsOf b) (widthOf b) (length (g .journal)) q in
+    let l = settings-long b (length (g .journal)) q in
+    (settings-typed b a l, register-typed b a l (o .0) (o .1))

@@ -1,3 +1,4 @@
+pub mod AgreementInC
 pub mod Answers
 pub mod CallsFromC
 pub mod Reading
