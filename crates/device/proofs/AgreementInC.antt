@@ -4,7 +4,7 @@ use mathlib.Core.Path.{_≡_, refl, sym, ap, _∙_, subst}
 use mathlib.Core.Bool.{Bool, true, false}
 use mathlib.Core.List.{List, [], _∷_, _++_, append-assoc, map}
 use native.Mathlib.Omega.{arith}
-use borrow.Author.Tests.{eq-eqb, eqb-true, eqb-false, leb-true, lt-ltb}
+use borrow.Author.Tests.{eqb-true, eqb-false, leb-true, lt-ltb}
 use lib.Dec.{leb, eqb}
 use lib.IntN.{ℤ, pos, negsuc}
 use lib.ListN.{length, take, replicate, getD}
@@ -40,18 +40,18 @@ use Rattle.journal.specs.declared.state.Opened.{Opened}
 use Rattle.journal.specs.declared.state.TakenOver.{TakenOver}
 use Rattle.journal.proofs.Again.{call-typed, back}
 use Rattle.journal.proofs.Forth.{accepted-is-valid, valid-settings, forth}
-use Rattle.device.specs.Layout.{settingsBytes, stateBytes, settingsOf, widthOf, keyOf, stateOf}
-use Rattle.device.specs.Calls.{cspOf, settingsFrom, keyFrom, widthWith, settingsAnswer, settingsBuffer, Slices, openedNumber, openedSlices, dateOf, detailsWith, ofKind, detailsOf, IssueCall, callIn, takeOverAnswer}
+use Rattle.device.specs.Layout.{settingsBytes, stateBytes, arrayOf, settingsOf, widthOf, keyOf, stateOf}
+use Rattle.device.specs.Calls.{settingsFrom, widthWith, settingsAnswer, settingsBuffer, Slices, openedNumber, openedSlices, dateOf, detailsWith, ofKind, detailsOf, IssueCall, callIn, takeOverAnswer}
 use Rattle.device.specs.Demand as demand
 use Rattle.device.specs.Demand.{TypedIssueCall, TypedIssueCalls, issuedAll, issuedNumbers, issuedReceipts, journalIn, AcceptedIsValidInC, registerIn, WrittenInC, WrittenIsAcceptedInC, settingsAgain, kindNumber, issueCallOf, AgainInC, AcceptedIsWrittenInC, WritingAndCheckingAgreeInC}
-use Rattle.device.proofs.Answers.{key-whole, width-whole, key-long, open-answer, kept-all, take-six, take-answer}
+use Rattle.device.proofs.Answers.{array-whole, width-whole, key-long, open-answer, kept-all, take-six, take-answer}
 use Rattle.device.proofs.Spelling.{settings-are-read, state-is-read}
 use Rattle.device.proofs.CallsFromC.{calls-typed, slicesOf, open-accepted, opened-same, Same, same-calls, opened-typed}
 
 -- ---- what is accepted
 
 take-over-same : (j key : List ℕ) (n : ℕ) → length key ≡ 32 → takeOverAnswer j key n 155 ≡ takeOver j key n
-take-over-same j key n l = take-answer j key n 155 refl ∙ (λ i. takeOver j (key-whole key l i) (width-whole key n l i))
+take-over-same j key n l = take-answer j key n 155 refl ∙ (λ i. takeOver j (array-whole 32 key l i) (width-whole key n l i))
 
 pub accepted-is-valid-in-c : AcceptedIsValidInC
 accepted-is-valid-in-c j key n size b = (yes, no)
@@ -62,10 +62,10 @@ accepted-is-valid-in-c j key n size b = (yes, no)
         go : (t : Bool) → eqb size 155 ≡ t → (size ≡ 155) × (length key ≡ 32) × Valid j key n
         go true e =
             let h = eqb-true size 155 e in
-            let a : takeOver j (keyFrom key) (widthWith key n) .number ≡ 0 = sym (ap (λ (x : TakenOver). x .number) (take-answer j key n size h)) ∙ z in
-            let v = accepted-is-valid j (keyFrom key) (widthWith key n) b .0 a in
+            let a : takeOver j (arrayOf 32 key) (widthWith key n) .number ≡ 0 = sym (ap (λ (x : TakenOver). x .number) (take-answer j key n size h)) ∙ z in
+            let v = accepted-is-valid j (arrayOf 32 key) (widthWith key n) b .0 a in
             let l = key-long key n (v .width) in
-            (h, l, subst (λ (k : List ℕ). Valid j k n) (key-whole key l) (subst (Valid j (keyFrom key)) (width-whole key n l) v))
+            (h, l, subst (λ (k : List ℕ). Valid j k n) (array-whole 32 key l) (subst (Valid j (arrayOf 32 key)) (width-whole key n l) v))
         go false e =
             let q : _≡_ {A = ℕ} 0 6 = sym z ∙ ap (λ (x : TakenOver). x .number) (take-six j key n size (eqb-false size 155 e)) in
             absurd (omega arith)
@@ -208,10 +208,10 @@ call-allowed s n e t h =
 -- ---- what is accepted is written
 
 settings-same : (s : Settings) → TypedSettings s → settingsGood s ≡ true → settingsAgain s ≡ s
-unfolding settingsFrom cspOf
+unfolding settingsFrom
 settings-same s t good =
     let a = settings-all s good in
-    let p : cspOf (s .csp) ≡ s .csp = rw (eq-eqb (length (s .csp)) 3 (t .lengths .csp)) in
+    let p = array-whole 3 (s .csp) (t .lengths .csp) in
     λ i. record { csp = p i; id = name-of Id (s .id) (t .lengths .id) (a .id) i; serial = name-of Serial (s .serial) (t .lengths .serial) (a .serial) i }
 
 answer-zero : (s : Settings) (n : ℕ) → settingsGood s ≡ true → widthGood n ≡ true → settingsAnswer s n 123 ≡ 0

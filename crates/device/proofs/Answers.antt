@@ -7,11 +7,12 @@ use native.Mathlib.Omega.{arith}
 use borrow.Author.Tests.{eq-eqb, ne-eqb, eqb-true}
 use lib.Dec.{eqb}
 use lib.IntN.{ℤ}
-use lib.ListN.{length, replicate}
+use lib.ListN.{length, take, drop, replicate, length-replicate}
+use lib.Seq.{take-all}
 use mir.Syntax.{w64}
 use mir.Val.{SFits, toZ, ofZ}
 use mir.ValLaws.{toZ-ofZ}
-use Rattle.primitives.specs.Place.{overwrite, placed}
+use Rattle.primitives.specs.Place.{overwrite}
 use Rattle.primitives.specs.Counter.{widthGood}
 use Rattle.primitives.specs.Questions.{ask}
 use Rattle.primitives.specs.declared.answer.Answer.{Answer}
@@ -32,24 +33,33 @@ use Rattle.journal.specs.declared.state.State.{State}
 use Rattle.journal.specs.declared.state.Opened.{Opened}
 use Rattle.journal.specs.declared.state.Issued.{Issued}
 use Rattle.journal.specs.declared.state.TakenOver.{TakenOver}
-use Rattle.device.specs.Layout.{settingsBytes, stateBytes, settingsOf, widthOf, keyOf, stateOf, kept}
-use Rattle.device.specs.Calls.{cspOf, settingsFrom, keyFrom, widthWith, settingsAnswer, settingsBuffer, Slices, openAnswer, openedNumber, openedSlices, dateOf, ofKind, detailsOf, IssueCall, callIn, issueAnswer, issuedNumber, issuedSlices, takeOverAnswer}
-use Rattle.device.proofs.Reading.{over-all, placed-all}
+use Rattle.device.specs.Layout.{settingsBytes, stateBytes, arrayOf, settingsOf, widthOf, keyOf, stateOf, kept}
+use Rattle.device.specs.Calls.{settingsFrom, widthWith, settingsAnswer, settingsBuffer, Slices, openAnswer, openedNumber, openedSlices, dateOf, ofKind, detailsOf, IssueCall, callIn, issueAnswer, issuedNumber, issuedSlices, takeOverAnswer}
+use Rattle.device.proofs.Reading.{over-all}
 use Rattle.device.proofs.Writers.{length-settings}
 
 -- ---- settings
 
-pub csp-copied : (csp : List ℕ) {r : List ℕ} → length csp ≡ 3 → r ≡ placed (replicate 3 0) 0 csp → r ≡ cspOf csp
-unfolding cspOf
-csp-copied csp e q = rw (eq-eqb (length csp) 3 e) (q ∙ placed-all (replicate 3 0) csp e)
+-- the array of a slice, for every size
+module _ (n : ℕ) (b : List ℕ) where
+  pub array-none : (length b ≡ n → ⊥) → replicate n 0 ≡ arrayOf n b
+  unfolding arrayOf
+  array-none h = rw (ne-eqb (length b) n h)
 
-pub key-copied : (key : List ℕ) {r : List ℕ} → length key ≡ 32 → r ≡ placed (replicate 32 0) 0 key → r ≡ keyFrom key
-unfolding keyFrom
-key-copied key e q = rw (eq-eqb (length key) 32 e) (q ∙ placed-all (replicate 32 0) key e)
+  pub array-whole : length b ≡ n → arrayOf n b ≡ b
+  unfolding arrayOf
+  array-whole h = rw (eq-eqb (length b) n h)
 
-pub key-whole : (key : List ℕ) → length key ≡ 32 → keyFrom key ≡ key
-unfolding keyFrom
-key-whole key l = rw (eq-eqb (length key) 32 l)
+  pub array-copied : {r : List ℕ} → length b ≡ n → r ≡ take n (drop 0 b) → r ≡ arrayOf n b
+  array-copied h e = e ∙ take-all n b (omega arith) ∙ sym (array-whole h)
+
+  pub array-long : length (arrayOf n b) ≡ n
+  unfolding arrayOf
+  array-long = go (eqb (length b) n) refl
+    where
+      go : (t : Bool) → eqb (length b) n ≡ t → length (cond t b (replicate n 0)) ≡ n
+      go true e = eqb-true (length b) n e
+      go false e = length-replicate n 0
 
 pub width-whole : (key : List ℕ) (n : ℕ) → length key ≡ 32 → widthWith key n ≡ n
 unfolding widthWith
@@ -65,12 +75,8 @@ key-long key n w = go (eqb (length key) 32) refl w
     go false e w = true-is-not-false (sym (width-low 0 (omega arith)) ∙ w)
 
 pub from-typed : (csp id serial : List ℕ) → SettingsLengths (settingsFrom csp id serial)
-unfolding settingsFrom cspOf
-from-typed csp id serial = record { csp = go (eqb (length csp) 3) refl; id = length-array id; serial = length-array serial }
-  where
-    go : (t : Bool) → eqb (length csp) 3 ≡ t → length (cond t csp (replicate 3 0)) ≡ 3
-    go true e = eqb-true (length csp) 3 e
-    go false e = refl
+unfolding settingsFrom
+from-typed csp id serial = record { csp = array-long 3 csp; id = length-array id; serial = length-array serial }
 
 -- questions 1 to 4 say no; or they do not, and the output decides
 module _ (s : Settings) (n room : ℕ) {k : ℕ} (e : k ≡ settingsNumber s n 0) where
@@ -111,12 +117,12 @@ module _ (s : Settings) (key : List ℕ) (n : ℕ) (out : List ℕ) {s₁ : Sett
     pub settings-room : 123 ≤ length out
     settings-room = let e = answers .1 in omega arith
 
-    pub settings-done : {k₁ b₁ : List ℕ} → SettingsLengths s → k₁ ≡ keyFrom key → b₁ ≡ overwrite out 0 (settingsBytes s₁ n₁ k₁)
+    pub settings-done : {k₁ b₁ : List ℕ} → SettingsLengths s → k₁ ≡ arrayOf 32 key → b₁ ≡ overwrite out 0 (settingsBytes s₁ n₁ k₁)
         → (0 ≡ settingsAnswer s (widthWith key n) (length out)) × (b₁ ≡ settingsBuffer s key n out)
     unfolding settingsBuffer
     settings-done {k₁} t q e =
         let l = key-long key n (answers .0) in
-        let f : k₁ ≡ key = q ∙ key-whole key l in
+        let f : k₁ ≡ key = q ∙ array-whole 32 key l in
         let w : settingsBytes s₁ n₁ k₁ ≡ settingsBytes s n key = λ i. settingsBytes (es i) ((en ∙ width-whole key n l) i) (f i) in (
           sym accepted,
           e ∙ ap (overwrite out 0) w ∙ over-all out (settingsBytes s n key) (length-settings s t n key l ∙ sym (answers .1))
@@ -210,7 +216,7 @@ module _ (journal key : List ℕ) (n size : ℕ) where
   unfolding takeOverAnswer
   take-six h = rw (ne-eqb size 155 h)
 
-  pub take-answer : size ≡ 155 → takeOverAnswer journal key n size ≡ takeOver journal (keyFrom key) (widthWith key n)
+  pub take-answer : size ≡ 155 → takeOverAnswer journal key n size ≡ takeOver journal (arrayOf 32 key) (widthWith key n)
   unfolding takeOverAnswer
   take-answer h = rw (eq-eqb size 155 h)
 
@@ -222,7 +228,7 @@ module _ (journal key : List ℕ) (n : ℕ) (state : List ℕ) where
       let e = take-six journal key n (length state) h in
       (sym (ap (λ (x : TakenOver). x .number) e), sym (kept-not state (takeOverAnswer journal key n (length state) .state) h), sym (ap (λ (x : TakenOver). x .index) e))
 
-  pub take-some : {k : List ℕ} {w : ℕ} {a : TakenOver} {b : List ℕ} → length state ≡ 155 → k ≡ keyFrom key → w ≡ widthWith key n → a ≡ takeOver journal k w
+  pub take-some : {k : List ℕ} {w : ℕ} {a : TakenOver} {b : List ℕ} → length state ≡ 155 → k ≡ arrayOf 32 key → w ≡ widthWith key n → a ≡ takeOver journal k w
       → b ≡ kept state (a .state)
       → (a .number ≡ takeOverAnswer journal key n (length state) .number) × (b ≡ kept state (takeOverAnswer journal key n (length state) .state))
       × (a .index ≡ takeOverAnswer journal key n (length state) .index)

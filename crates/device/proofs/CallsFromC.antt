@@ -21,7 +21,7 @@ use Rattle.receipt.specs.declared.details.Kind.the-variants.{Standard, Cancella
 use Rattle.receipt.specs.declared.details.Details.{Details}
 use Rattle.receipt.specs.declared.entry.Entry.{Entry}
 use Rattle.receipt.proofs.Names.{good-settings}
-use Rattle.journal.specs.State.{TypedRegister, TypedState}
+use Rattle.journal.specs.State.{unopened, TypedRegister, TypedState}
 use Rattle.journal.specs.Open.{openNumber, opened, openBuffer}
 use Rattle.journal.specs.Issue.{issueNumber, issued, issueBuffer}
 use Rattle.journal.specs.Calls.{Call, TypedCall, TypedCalls, none, more, Register, opening, numberOf, numbersOf, receiptOfCall, receiptsOf, call, calls}
@@ -30,7 +30,7 @@ use Rattle.journal.specs.declared.state.Opened.{Opened}
 use Rattle.journal.proofs.Lists.{Bounds}
 use Rattle.journal.proofs.Places.{part-length}
 use Rattle.journal.proofs.Registers.{run-bounds, refused-same, entriesOf, open-zero, Holds, holds-behind, accepted-length, holds-calls, opening-holds, opening-length}
-use Rattle.device.specs.Layout.{stateBytes, nameAt, settingsAt, keyAt, noSettings, settingsOf, widthOf, keyOf, stateOf}
+use Rattle.device.specs.Layout.{stateBytes, nameAt, settingsAt, keyAt, settingsOf, widthOf, keyOf, stateOf}
 use Rattle.device.specs.Calls.{noDetails, dateOf, detailsWith, ofKind, detailsOf, Slices, openedNumber, openedSlices, IssueCall, callIn, issueAnswer, issuedNumber, issuedSlices}
 use Rattle.device.specs.Demand as demand
 use Rattle.device.specs.Demand.{TypedIssueCall, TypedIssueCalls, issuedAll, issuedNumbers, issuedReceipts, registerIn}
@@ -74,7 +74,7 @@ module _ (b : List ℕ) where
   unfolding settingsOf
   settings-long room z = go (eqb (length b) 123) refl z
     where
-      go : (t : Bool) → eqb (length b) 123 ≡ t → openNumber (cond t (settingsAt b) noSettings) (widthOf b) room ≡ 0 → length b ≡ 123
+      go : (t : Bool) → eqb (length b) 123 ≡ t → openNumber (cond t (settingsAt b) (unopened .settings)) (widthOf b) room ≡ 0 → length b ≡ 123
       go true e q = eqb-true (length b) 123 e
       go false e q = absurd (omega (arith, q, no-settings-get-one (widthOf b) room))
 

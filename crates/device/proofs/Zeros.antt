@@ -11,7 +11,7 @@ use Rattle.primitives.specs.Questions.{ask}
 use Rattle.journal.specs.Open.{openNumber}
 use Rattle.journal.specs.Issue.{soundAlone, sound, numberAbove, detailsNumber, issueNumber}
 use Rattle.journal.specs.Prepare.{prepareNumber}
-use Rattle.device.specs.Layout.{settingsBytes, figuresBytes, stateBytes, noSettings}
+use Rattle.device.specs.Layout.{settingsBytes, figuresBytes, stateBytes}
 use Rattle.device.specs.Calls.{noDetails}
 use Rattle.device.specs.Laws.{UnopenedIsZero, NoSettingsGetOne, UnopenedGetsSix, NoKindGetsSeven}
 
@@ -20,7 +20,7 @@ unfolding stateBytes settingsBytes figuresBytes unopened bytesOf counterBytes co
 unopened-is-zero = refl
 
 pub no-settings-get-one : NoSettingsGetOne
-unfolding openNumber noSettings cspGood between ask
+unfolding openNumber unopened cspGood between ask
 no-settings-get-one n room = refl
 
 unopened-unsound : soundAlone unopened ≡ false

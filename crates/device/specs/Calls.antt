@@ -20,20 +20,12 @@ use Rattle.journal.specs.TakeOver.{takeOver}
 use Rattle.journal.specs.declared.state.Opened.{Opened}
 use Rattle.journal.specs.declared.state.Issued.{Issued}
 use Rattle.journal.specs.declared.state.TakenOver.{TakenOver}
-use Rattle.device.specs.Layout.{settingsBytes, settingsOf, widthOf, keyOf, stateOf, kept}
+use Rattle.device.specs.Layout.{settingsBytes, arrayOf, settingsOf, widthOf, keyOf, stateOf, kept}
 
 -- ---- settings
 
--- three bytes, and zeros where the slice has another length
-unfoldable pub cspOf : List ℕ → List ℕ
-cspOf csp = cond (eqb (length csp) 3) csp (replicate 3 0)
-
 unfoldable pub settingsFrom : List ℕ → List ℕ → List ℕ → Settings
-settingsFrom csp id serial = record { csp = cspOf csp; id = nameOf id; serial = nameOf serial }
-
--- a key of 32 bytes, and zeros where the slice has another length
-unfoldable pub keyFrom : List ℕ → List ℕ
-keyFrom key = cond (eqb (length key) 32) key (replicate 32 0)
+settingsFrom csp id serial = record { csp = arrayOf 3 csp; id = nameOf id; serial = nameOf serial }
 
 -- the width that comes with a key: 0, which is no width, where the key is not 32 bytes long
 unfoldable pub widthWith : List ℕ → ℕ → ℕ
@@ -173,4 +165,4 @@ issuedSlices g c =
 -- the answer for a state's slice of this length: 6 with index 0, and then questions 4 and 14 to 21
 unfoldable pub takeOverAnswer : List ℕ → List ℕ → ℕ → ℕ → TakenOver
 takeOverAnswer journal key n size =
-    cond (eqb size 155) (takeOver journal (keyFrom key) (widthWith key n)) (record { number = 6; index = 0; state = unopened })
+    cond (eqb size 155) (takeOver journal (arrayOf 32 key) (widthWith key n)) (record { number = 6; index = 0; state = unopened })

@@ -11,7 +11,7 @@ use Rattle.journal.specs.Open.{openNumber}
 use Rattle.journal.specs.Prepare.{prepareNumber}
 use Rattle.journal.specs.Issue.{detailsNumber, issueNumber, issued}
 use Rattle.journal.specs.declared.state.State.{State}
-use Rattle.device.specs.Layout.{settingsBytes, stateBytes, noSettings, settingsOf, widthOf, keyOf, stateOf, kept}
+use Rattle.device.specs.Layout.{settingsBytes, stateBytes, settingsOf, widthOf, keyOf, stateOf, kept}
 use Rattle.device.specs.Calls.{noDetails}
 
 -- ---- reading and writing undo each other
@@ -37,7 +37,7 @@ UnopenedIsZero = stateBytes unopened ≡ replicate 155 0
 
 -- settings of another length get 1, a state of another length gets 6, and a kind that is none gets 7
 abbrev pub NoSettingsGetOne : Type 0
-NoSettingsGetOne = (n room : ℕ) → openNumber noSettings n room ≡ 1
+NoSettingsGetOne = (n room : ℕ) → openNumber (unopened .settings) n room ≡ 1
 
 abbrev pub UnopenedGetsSix : Type 0
 UnopenedGetsSix = (d : Details) (sig : List ℕ) (room : ℕ) → (issueNumber unopened d sig room ≡ 6) × (prepareNumber unopened d room ≡ 6)
@@ -45,7 +45,7 @@ UnopenedGetsSix = (d : Details) (sig : List ℕ) (room : ℕ) → (issueNumber u
 abbrev pub NoKindGetsSeven : Type 0
 NoKindGetsSeven = (st : State) (rest : ℕ) → detailsNumber st noDetails rest ≡ 7
 
--- ---- a refused Issue leaves the bytes of the state as they were, also those of a slice that has not 155
+-- ---- a refused Issue leaves the bytes of the state as they were, also those of a slice that is not 155 bytes long
 
 abbrev pub RefusedIssueKeepsState : Type 0
 RefusedIssueKeepsState =
