@@ -44,7 +44,7 @@ use Rattle.device.specs.Layout.{settingsBytes, stateBytes, arrayOf, sett
 use Rattle.device.specs.Calls.{settingsFrom, widthWith, settingsAnswer, settingsBuffer, Slices, openedNumber, openedSlices, dateOf, detailsWith, ofKind, detailsOf, IssueCall, callIn, takeOverAnswer}
 use Rattle.device.specs.Demand as demand
 use Rattle.device.specs.Demand.{TypedIssueCall, TypedIssueCalls, issuedAll, issuedNumbers, issuedReceipts, journalIn, AcceptedIsValidInC, registerIn, WrittenInC, WrittenIsAcceptedInC, settingsAgain, kindNumber, issueCallOf, AgainInC, AcceptedIsWrittenInC, WritingAndCheckingAgreeInC}
-use Rattle.device.proofs.Answers.{array-whole, width-whole, key-long, open-answer, kept-all, take-six, take-answer}
+use Rattle.device.proofs.Sizes.{array-whole, width-whole, key-long, open-answer, kept-all, take-six, take-answer}
 use Rattle.device.proofs.Spelling.{settings-are-read, state-is-read}
 use Rattle.device.proofs.CallsFromC.{calls-typed, slicesOf, open-accepted, opened-same, Same, same-calls, opened-typed}
 

@@ -34,7 +34,7 @@ use Rattle.device.specs.Layout.{stateBytes, nameAt, settingsAt, keyAt, s
 use Rattle.device.specs.Calls.{noDetails, dateOf, detailsWith, ofKind, detailsOf, Slices, openedNumber, openedSlices, IssueCall, callIn, issueAnswer, issuedNumber, issuedSlices}
 use Rattle.device.specs.Demand as demand
 use Rattle.device.specs.Demand.{TypedIssueCall, TypedIssueCalls, issuedAll, issuedNumbers, issuedReceipts, registerIn}
-use Rattle.device.proofs.Answers.{open-six, open-answer, kept-all}
+use Rattle.device.proofs.Sizes.{open-six, open-answer, kept-all}
 use Rattle.device.proofs.Writers.{length-state}
 use Rattle.device.proofs.Spelling.{state-is-read}
 use Rattle.device.proofs.Zeros.{no-settings-get-one}

@@ -2,6 +2,7 @@ pub mod AgreementInC
 pub mod Answers
 pub mod CallsFromC
 pub mod Reading
+pub mod Sizes
 pub mod Spelling
 pub mod TextAnswers
 pub mod Writers

@@ -1,5 +1,5 @@
 -- `register::csp_of` meets its contract.
-use Rattle.device.proofs.Answers.{array-none, array-copied}
+use Rattle.device.proofs.Sizes.{array-none, array-copied}
 use borrow.Author.Needs.{needs}
 use Rattle.device.proofs.register.csp_of.Statement.{statement}
 use Rattle.device.proofs.register.csp_of.Tie as tie

@@ -1,5 +1,5 @@
 -- `register::key_from` meets its contract.
-use Rattle.device.proofs.Answers.{array-none, array-copied}
+use Rattle.device.proofs.Sizes.{array-none, array-copied}
 use borrow.Author.Needs.{needs}
 use Rattle.device.proofs.register.key_from.Statement.{statement}
 use Rattle.device.proofs.register.key_from.Tie as tie
