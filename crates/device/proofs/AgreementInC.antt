@@ -1,13 +1,14 @@
 -- Demand 3 of the C library: what the journal proves of its registers holds of the bytes of a C program, both ways.
-use Prim.Native.Nat.{ℕ, zero, suc, _^_, _<_}
+use Prim.Native.Nat.{ℕ, zero, suc, _+_, _^_, _≤_, _<_}
 use mathlib.Core.Path.{_≡_, refl, sym, ap, _∙_, subst}
 use mathlib.Core.Bool.{Bool, true, false}
 use mathlib.Core.List.{List, [], _∷_, _++_, append-assoc, map}
+use native.Mathlib.Numerals.{add-one}
 use native.Mathlib.Omega.{arith}
 use borrow.Author.Tests.{eqb-true, eqb-false, leb-true, lt-ltb}
 use lib.Dec.{leb, eqb}
 use lib.IntN.{ℤ, pos, negsuc}
-use lib.ListN.{length, take, replicate, getD}
+use lib.ListN.{length, take, drop, replicate, getD}
 use Rattle.primitives.specs.Bytes.{AllBytes}
 use Rattle.primitives.specs.Counter.{widthGood, fitsIn}
 use Rattle.primitives.specs.Questions.{ask}
@@ -28,6 +29,7 @@ use Rattle.receipt.proofs.Names.{name-of, good-settings, settings-yes}
 use Rattle.receipt.proofs.Entries.{settings-all, admitted}
 use Rattle.receipt.proofs.Dates.{days-few}
 use Rattle.receipt.proofs.Cents.{within-most}
+use Rattle.receipt.proofs.Joined.{ok-here}
 use Rattle.journal.specs.State.{TypedRegister, TypedState}
 use Rattle.journal.specs.Open.{openNumber, opened}
 use Rattle.journal.specs.TakeOver.{accepted, takeOver}
@@ -120,11 +122,15 @@ within-fits : (z : ℤ) → withinLimit z ≡ true → fitsIn 8 z ≡ true
 within-fits (pos m) h = fits-64 (pos m) ∙ lt-ltb m (2 ^ 63) (omega (arith, within-most (pos m) h))
 within-fits (negsuc m) h = fits-64 (negsuc m) ∙ lt-ltb m (2 ^ 63) (omega (arith, within-most (negsuc m) h))
 
+good-from : (zs : List ℤ) (i : ℕ) → amountsGood zs ≡ true → i ≤ length zs → amountsGood (drop i zs) ≡ true
+good-from zs zero h l = h
+good-from zs (suc i) h l =
+    let r : amountsGood (drop (i + 1) zs) ≡ true = both (withinLimit (getD zs i (pos 0))) (amountsGood (drop (i + 1) zs)) (sym (ok-here zs i (omega arith)) ∙ good-from zs i h (omega arith)) .1 in
+    rw add-one at r
+
 amount-fits : (zs : List ℤ) (i : ℕ) → amountsGood zs ≡ true → i < length zs → fitsIn 8 (getD zs i (pos 0)) ≡ true
-unfolding amountsGood
-amount-fits [] i h l = absurd (omega arith)
-amount-fits (z ∷ zs) zero h l = within-fits z (both (withinLimit z) (amountsGood zs) h .0)
-amount-fits (z ∷ zs) (suc i) h l = amount-fits zs i (both (withinLimit z) (amountsGood zs) h .1) (omega arith)
+amount-fits zs i h l =
+    within-fits (getD zs i (pos 0)) (both (withinLimit (getD zs i (pos 0))) (amountsGood (drop (i + 1) zs)) (sym (ok-here zs i l) ∙ good-from zs i h (omega arith)) .0)
 
 five : (zs : List ℤ) → length zs ≡ 5 → getD zs 0 (pos 0) ∷ getD zs 1 (pos 0) ∷ getD zs 2 (pos 0) ∷ getD zs 3 (pos 0) ∷ getD zs 4 (pos 0) ∷ [] ≡ zs
 five [] l = absurd (omega arith)
