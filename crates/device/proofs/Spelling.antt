@@ -14,16 +14,16 @@ use Rattle.primitives.specs.Counter.{widthGood, counterFits, counterBytes, coun
 use Rattle.primitives.proofs.ByteLists.{bytes-take, bytes-drop}
 use Rattle.primitives.proofs.Numbers.{length-bytesOf}
 use Rattle.primitives.proofs.Twos.{fits-wide, counter-back, counter-whole, length-counterBytes}
-use Rattle.primitives.proofs.Rows.{ifZero-no}
 use Rattle.receipt.specs.declared.settings.Name.{Name}
 use Rattle.receipt.specs.declared.settings.Settings.{Settings}
-use Rattle.receipt.specs.declared.details.Details.{Details}
 use Rattle.journal.specs.State.{TypedRegister, TypedState}
-use Rattle.journal.specs.Issue.{issueNumber, next, textOf, issued}
+use Rattle.journal.specs.Issue.{issued}
 use Rattle.journal.specs.declared.state.State.{State}
+use Rattle.journal.proofs.Refusals.{refused-changes-nothing}
 use Rattle.journal.proofs.Places.{part-at, count-in, part-length, count-bytes}
 use Rattle.device.specs.Layout.{nameBytes, settingsBytes, figuresBytes, stateBytes, nameAt, settingsAt, widthAt, keyAt, stateAt, settingsOf, widthOf, keyOf, stateOf, kept}
-use Rattle.device.specs.Laws.{SettingsAreRead, SettingsBytesAreKept, StateIsRead, BytesAreKept, RefusedIssueKeepsState}
+use Rattle.device.specs.Calls.{callIn, issueAnswer, issuedNumber, issuedSlices}
+use Rattle.device.specs.Laws.{SettingsAreRead, SettingsBytesAreKept, StateIsRead, BytesAreKept, RefusedIssueKeepsSlices}
 use Rattle.device.proofs.Writers.{front-long, names-long, length-settings, length-state}
 
 -- ---- what was written is read
@@ -256,10 +256,6 @@ bytes-are-kept b a e = rw (eq-eqb (length b) 155 e) (state-again b a e)
 
 -- ---- a refused Issue
 
-same-state : (st : State) (d : Details) (sig : List ℕ) (room : ℕ) → (issued st d sig room .number ≡ 0 → ⊥) → issued st d sig room .state ≡ st
-unfolding issued
-same-state st d sig room h = ifZero-no (issueNumber st d sig room) (next st d (textOf st d sig)) st h
-
 kept-as-it-was : (b : List ℕ) → AllBytes b → kept b (stateOf b) ≡ b
 unfolding kept
 kept-as-it-was b a = go (eqb (length b) 155) refl
@@ -268,5 +264,9 @@ kept-as-it-was b a = go (eqb (length b) 155) refl
     go true e = bytes-are-kept b a (eqb-true (length b) 155 e)
     go false e = refl
 
-pub refused-issue-keeps-state : RefusedIssueKeepsState
-refused-issue-keeps-state b a d sig room h = ap (kept b) (same-state (stateOf b) d sig room h) ∙ kept-as-it-was b a
+pub refused-issue-keeps-slices : RefusedIssueKeepsSlices
+unfolding issuedNumber issuedSlices issueAnswer
+refused-issue-keeps-slices g a c h =
+    let r = refused-changes-nothing .issues (stateOf (g .state)) (callIn c .details) (c .signature) (g .journal) h in
+    let q = ap (kept (g .state)) (r .0) ∙ kept-as-it-was (g .state) a in
+    λ i. record { state = q i; journal = r .1 i }

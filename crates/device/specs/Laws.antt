@@ -9,10 +9,10 @@ use Rattle.receipt.specs.declared.details.Details.{Details}
 use Rattle.journal.specs.State.{unopened, TypedRegister, TypedState}
 use Rattle.journal.specs.Open.{openNumber}
 use Rattle.journal.specs.Prepare.{prepareNumber}
-use Rattle.journal.specs.Issue.{detailsNumber, issueNumber, issued}
+use Rattle.journal.specs.Issue.{detailsNumber, issueNumber}
 use Rattle.journal.specs.declared.state.State.{State}
-use Rattle.device.specs.Layout.{settingsBytes, stateBytes, settingsOf, widthOf, keyOf, stateOf, kept}
-use Rattle.device.specs.Calls.{noDetails}
+use Rattle.device.specs.Layout.{settingsBytes, stateBytes, settingsOf, widthOf, keyOf, stateOf}
+use Rattle.device.specs.Calls.{noDetails, Slices, IssueCall, issuedNumber, issuedSlices}
 
 -- ---- reading and writing undo each other
 
@@ -45,9 +45,7 @@ UnopenedGetsSix = (d : Details) (sig : List ℕ) (room : ℕ) → (issueNumber u
 abbrev pub NoKindGetsSeven : Type 0
 NoKindGetsSeven = (st : State) (rest : ℕ) → detailsNumber st noDetails rest ≡ 7
 
--- ---- a refused Issue leaves the bytes of the state as they were, also those of a slice that is not 155 bytes long
+-- ---- a refused ditgrux_issue leaves the bytes of the state and the journal as they were, also where the state is not 155 bytes long
 
-abbrev pub RefusedIssueKeepsState : Type 0
-RefusedIssueKeepsState =
-    (b : List ℕ) → AllBytes b → (d : Details) (sig : List ℕ) (room : ℕ) → (issued (stateOf b) d sig room .number ≡ 0 → ⊥)
-    → kept b (issued (stateOf b) d sig room .state) ≡ b
+abbrev pub RefusedIssueKeepsSlices : Type 0
+RefusedIssueKeepsSlices = (g : Slices) → AllBytes (g .state) → (c : IssueCall) → (issuedNumber g c ≡ 0 → ⊥) → issuedSlices g c ≡ g
