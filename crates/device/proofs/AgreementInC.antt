@@ -13,7 +13,7 @@ use Rattle.primitives.specs.Bytes.{AllBytes}
 use Rattle.primitives.specs.Counter.{widthGood, fitsIn}
 use Rattle.primitives.specs.Questions.{ask}
 use Rattle.primitives.proofs.Rows.{both, ask-yes, ifZero-yes}
-use Rattle.primitives.proofs.Twos.{width-true, fits-64}
+use Rattle.primitives.proofs.Twos.{fits-64}
 use Rattle.receipt.specs.Settings.{settingsGood, TypedSettings}
 use Rattle.receipt.specs.DateTime.{daysIn, dayGood, timeGood, dateGood}
 use Rattle.receipt.specs.Amount.{withinLimit}
@@ -25,7 +25,7 @@ use Rattle.receipt.specs.declared.datetime.DateTime.{DateTime}
 use Rattle.receipt.specs.declared.details.Kind.{Kind}
 use Rattle.receipt.specs.declared.details.Kind.the-variants.{Standard, Cancellation, Training}
 use Rattle.receipt.specs.declared.entry.Entry.{Entry}
-use Rattle.receipt.proofs.Names.{name-of, good-settings, settings-yes}
+use Rattle.receipt.proofs.Names.{name-of, settings-yes}
 use Rattle.receipt.proofs.Entries.{settings-all, admitted}
 use Rattle.receipt.proofs.Dates.{days-few}
 use Rattle.receipt.proofs.Cents.{within-most}
@@ -46,7 +46,7 @@ use Rattle.device.specs.Layout.{settingsBytes, stateBytes, arrayOf, sett
 use Rattle.device.specs.Calls.{settingsFrom, widthWith, settingsAnswer, settingsBuffer, Slices, openedNumber, openedSlices, dateOf, detailsWith, ofKind, detailsOf, IssueCall, callIn, takeOverAnswer}
 use Rattle.device.specs.Demand as demand
 use Rattle.device.specs.Demand.{TypedIssueCall, TypedIssueCalls, issuedAll, issuedNumbers, issuedReceipts, journalIn, AcceptedIsValidInC, registerIn, WrittenInC, WrittenIsAcceptedInC, settingsAgain, kindNumber, issueCallOf, AgainInC, AcceptedIsWrittenInC, WritingAndCheckingAgreeInC}
-use Rattle.device.proofs.Sizes.{array-whole, width-whole, key-long, open-answer, kept-all, take-six, take-answer}
+use Rattle.device.proofs.Sizes.{array-whole, width-whole, key-long, good-register, open-answer, kept-all, take-six, take-answer}
 use Rattle.device.proofs.Spelling.{settings-are-read, state-is-read}
 use Rattle.device.proofs.CallsFromC.{calls-typed, slicesOf, open-accepted, opened-same, Same, same-calls, opened-typed}
 
@@ -235,16 +235,7 @@ module _ {j key : List ℕ} {n : ℕ} (v : Valid j key n) where
 
   module _ (kb : AllBytes key) (lk : length key ≡ 32) where
     again-typed : TypedRegister (v .settings) n key
-    again-typed =
-        let g = good-settings (v .settings) (v .good) in
-        record {
-          settings = v .typed .lengths;
-          id = omega (arith, g .id .most);
-          serial = omega (arith, g .serial .most);
-          width = omega (arith, width-true n (v .width) .most);
-          keyLength = lk;
-          keyBytes = kb;
-        }
+    again-typed = good-register (v .settings) n key (v .typed .lengths) (v .good) (v .width) lk kb
 
     again-number : (out : List ℕ) → length out ≡ 123 → settingsAnswer (settingsAgain (v .settings)) (widthWith key n) (length out) ≡ 0
     again-number out l =

@@ -21,7 +21,6 @@ use Rattle.receipt.specs.declared.settings.Settings.{Settings}
 use Rattle.receipt.specs.declared.datetime.DateTime.{DateTime}
 use Rattle.receipt.specs.declared.details.Details.{Details}
 use Rattle.receipt.proofs.Names.{settings-zero, settings-pass, settings-stop}
-use Rattle.receipt.proofs.Entries.{length-array}
 use Rattle.journal.specs.State.{unopened}
 use Rattle.journal.specs.Open.{opened, openBuffer}
 use Rattle.journal.specs.Prepare.{prepareAnswer, prepareBuffer}
@@ -32,16 +31,12 @@ use Rattle.journal.specs.declared.state.Opened.{Opened}
 use Rattle.journal.specs.declared.state.Issued.{Issued}
 use Rattle.journal.specs.declared.state.TakenOver.{TakenOver}
 use Rattle.device.specs.Layout.{settingsBytes, arrayOf, settingsOf, widthOf, keyOf, stateOf, kept}
-use Rattle.device.specs.Calls.{settingsFrom, widthWith, settingsAnswer, settingsBuffer, Slices, openAnswer, openedNumber, openedSlices, dateOf, ofKind, detailsOf, IssueCall, callIn, issueAnswer, issuedNumber, issuedSlices, takeOverAnswer}
-use Rattle.device.proofs.Sizes.{array-whole, array-long, width-whole, key-long, kept-not, open-six, open-answer, take-six, take-answer}
+use Rattle.device.specs.Calls.{widthWith, settingsAnswer, settingsBuffer, Slices, openAnswer, openedNumber, openedSlices, dateOf, ofKind, detailsOf, IssueCall, callIn, issueAnswer, issuedNumber, issuedSlices, takeOverAnswer}
+use Rattle.device.proofs.Sizes.{array-whole, width-whole, key-long, kept-not, open-six, open-answer, take-six, take-answer}
 use Rattle.device.proofs.Reading.{over-all}
 use Rattle.device.proofs.Writers.{length-settings}
 
 -- ---- settings
-
-pub from-typed : (csp id serial : List ℕ) → SettingsLengths (settingsFrom csp id serial)
-unfolding settingsFrom
-from-typed csp id serial = record { csp = array-long 3 csp; id = length-array id; serial = length-array serial }
 
 -- questions 1 to 4 say no; or they do not, and the output decides
 module _ (s : Settings) (n room : ℕ) {k : ℕ} (e : k ≡ settingsNumber s n 0) where

@@ -20,7 +20,6 @@ use Rattle.receipt.specs.declared.datetime.DateTime.{DateTime}
 use Rattle.receipt.specs.declared.details.Kind.the-variants.{Standard, Cancellation, Training}
 use Rattle.receipt.specs.declared.details.Details.{Details}
 use Rattle.receipt.specs.declared.entry.Entry.{Entry}
-use Rattle.receipt.proofs.Names.{good-settings}
 use Rattle.journal.specs.State.{unopened, TypedRegister, TypedState}
 use Rattle.journal.specs.Open.{openNumber, opened, openBuffer}
 use Rattle.journal.specs.Issue.{issueNumber, issued, issueBuffer}
@@ -34,7 +33,7 @@ use Rattle.device.specs.Layout.{stateBytes, nameAt, settingsAt, keyAt, s
 use Rattle.device.specs.Calls.{noDetails, dateOf, detailsWith, ofKind, detailsOf, Slices, openedNumber, openedSlices, IssueCall, callIn, issueAnswer, issuedNumber, issuedSlices}
 use Rattle.device.specs.Demand as demand
 use Rattle.device.specs.Demand.{TypedIssueCall, TypedIssueCalls, issuedAll, issuedNumbers, issuedReceipts, registerIn}
-use Rattle.device.proofs.Sizes.{open-six, open-answer, kept-all}
+use Rattle.device.proofs.Sizes.{good-register, kept-all, open-six, open-answer}
 use Rattle.device.proofs.Writers.{length-state}
 use Rattle.device.proofs.Spelling.{state-is-read}
 use Rattle.device.proofs.Zeros.{no-settings-get-one}
@@ -92,16 +91,7 @@ module _ (b : List ℕ) where
     key-typed = rw (eq-eqb (length b) 123 l) (part-length b a 91 32 (omega arith), bytes-take 32 (bytes-drop 91 a))
 
     register-typed : settingsGood (settingsOf b) ≡ true → widthGood (widthOf b) ≡ true → TypedRegister (settingsOf b) (widthOf b) (keyOf b)
-    register-typed good width =
-        let g = good-settings (settingsOf b) good in
-        record {
-          settings = settings-typed .lengths;
-          id = omega (arith, g .id .most);
-          serial = omega (arith, g .serial .most);
-          width = omega (arith, width-true (widthOf b) width .most);
-          keyLength = key-typed .0;
-          keyBytes = key-typed .1;
-        }
+    register-typed good width = good-register (settingsOf b) (widthOf b) (keyOf b) (settings-typed .lengths) good width (key-typed .0) (key-typed .1)
 
 pub open-accepted : (b : List ℕ) (g : Slices) → openedNumber b g ≡ 0 → (length (g .state) ≡ 155) × (openNumber (settingsOf b) (widthOf b) (length (g .journal)) ≡ 0)
 unfolding openedNumber opened

@@ -8,15 +8,20 @@ use borrow.Author.Tests.{eq-eqb, ne-eqb, eqb-true}
 use lib.Dec.{eqb}
 use lib.ListN.{length, take, drop, replicate, length-replicate}
 use lib.Seq.{take-all}
+use Rattle.primitives.specs.Bytes.{AllBytes}
 use Rattle.primitives.specs.Counter.{widthGood}
-use Rattle.primitives.proofs.Twos.{width-low}
+use Rattle.primitives.proofs.Twos.{width-low, width-true}
 use Rattle.primitives.proofs.Rows.{true-is-not-false}
-use Rattle.journal.specs.State.{unopened}
+use Rattle.receipt.specs.Settings.{settingsGood, SettingsLengths}
+use Rattle.receipt.specs.declared.settings.Settings.{Settings}
+use Rattle.receipt.proofs.Names.{good-settings}
+use Rattle.receipt.proofs.Entries.{length-array}
+use Rattle.journal.specs.State.{unopened, TypedRegister}
 use Rattle.journal.specs.Open.{opened}
 use Rattle.journal.specs.TakeOver.{takeOver}
 use Rattle.journal.specs.declared.state.State.{State}
 use Rattle.device.specs.Layout.{stateBytes, arrayOf, settingsOf, widthOf, keyOf, kept}
-use Rattle.device.specs.Calls.{widthWith, openAnswer, takeOverAnswer}
+use Rattle.device.specs.Calls.{settingsFrom, widthWith, openAnswer, takeOverAnswer}
 
 -- ---- arrays and keys
 
@@ -53,6 +58,26 @@ key-long key n w = go (eqb (length key) 32) refl w
     go : (t : Bool) → eqb (length key) 32 ≡ t → widthGood (cond t n 0) ≡ true → length key ≡ 32
     go true e w = eqb-true (length key) 32 e
     go false e w = true-is-not-false (sym (width-low 0 (omega arith)) ∙ w)
+
+-- ---- settings
+
+pub from-typed : (csp id serial : List ℕ) → SettingsLengths (settingsFrom csp id serial)
+unfolding settingsFrom
+from-typed csp id serial = record { csp = array-long 3 csp; id = length-array id; serial = length-array serial }
+
+-- what the types say of good settings with a good width and a key of 32 bytes
+pub good-register : (s : Settings) (n : ℕ) (key : List ℕ) → SettingsLengths s → settingsGood s ≡ true → widthGood n ≡ true → length key ≡ 32 → AllBytes key
+    → TypedRegister s n key
+good-register s n key t good width l b =
+    let g = good-settings s good in
+    record {
+      settings = t;
+      id = omega (arith, g .id .most);
+      serial = omega (arith, g .serial .most);
+      width = omega (arith, width-true n width .most);
+      keyLength = l;
+      keyBytes = b;
+    }
 
 -- ---- states
 

@@ -1,6 +1,6 @@
 -- Reading and writing settings and states undo each other.
 use Prim.Native.Nat.{ℕ, _+_, _≤_, _<_}
-use mathlib.Core.Path.{_≡_, refl, sym, ap, _∙_}
+use mathlib.Core.Path.{_≡_, refl, sym, ap, _∙_, subst}
 use mathlib.Core.Bool.{Bool, true, false, cond}
 use mathlib.Core.List.{List, [], _++_, append-assoc, append-nil}
 use native.Mathlib.Omega.{arith}
@@ -10,20 +10,24 @@ use lib.ListN.{length, take, drop, length-append, drop-of-length-le}
 use lib.Seq.{take-add, take-all}
 use Rattle.primitives.specs.Bytes.{AllBytes}
 use Rattle.primitives.specs.Number.{bytesOf, countAt}
+use Rattle.primitives.specs.Questions.{ask}
 use Rattle.primitives.specs.Counter.{widthGood, counterFits, counterBytes, counterValue}
 use Rattle.primitives.proofs.ByteLists.{bytes-take, bytes-drop}
 use Rattle.primitives.proofs.Numbers.{length-bytesOf}
 use Rattle.primitives.proofs.Twos.{fits-wide, counter-back, counter-whole, length-counterBytes}
+use Rattle.primitives.proofs.Rows.{ifZero-yes}
 use Rattle.receipt.specs.declared.settings.Name.{Name}
 use Rattle.receipt.specs.declared.settings.Settings.{Settings}
+use Rattle.receipt.proofs.Names.{settings-zero}
 use Rattle.journal.specs.State.{TypedRegister, TypedState}
 use Rattle.journal.specs.Issue.{issued}
 use Rattle.journal.specs.declared.state.State.{State}
 use Rattle.journal.proofs.Refusals.{refused-changes-nothing}
 use Rattle.journal.proofs.Places.{part-at, count-in, part-length, count-bytes}
 use Rattle.device.specs.Layout.{nameBytes, settingsBytes, figuresBytes, stateBytes, nameAt, settingsAt, widthAt, keyAt, stateAt, settingsOf, widthOf, keyOf, stateOf, kept}
-use Rattle.device.specs.Calls.{callIn, issueAnswer, issuedNumber, issuedSlices}
-use Rattle.device.specs.Laws.{SettingsAreRead, SettingsBytesAreKept, StateIsRead, BytesAreKept, RefusedIssueKeepsSlices}
+use Rattle.device.specs.Calls.{settingsFrom, widthWith, settingsAnswer, settingsBuffer, callIn, issueAnswer, issuedNumber, issuedSlices}
+use Rattle.device.specs.Laws.{SettingsAreRead, WrittenSettingsAreRead, SettingsBytesAreKept, StateIsRead, BytesAreKept, RefusedIssueKeepsSlices}
+use Rattle.device.proofs.Sizes.{width-whole, key-long, from-typed, good-register}
 use Rattle.device.proofs.Writers.{front-long, names-long, length-settings, length-state}
 
 -- ---- what was written is read
@@ -94,6 +98,17 @@ settings-are-read s n key t =
     let e : x ++ [] ≡ x = append-nil x in
     let f = eq-eqb (length x) 123 (length-settings s (t .settings) n key (t .keyLength)) in
     rw f (ap settingsAt (sym e) ∙ settings-read s n key t [], ap widthAt (sym e) ∙ width-read s n key t [], ap keyAt (sym e) ∙ key-read s n key t [])
+
+pub written-settings-are-read : WrittenSettingsAreRead
+unfolding settingsAnswer settingsBuffer
+written-settings-are-read csp id serial key n out b z =
+    let s = settingsFrom csp id serial in
+    let a = settings-zero s (widthWith key n) (ask (eqb (length out) 123) 23 0) z in
+    let l = key-long key n (a .1) in
+    let w : widthGood n ≡ true = subst (λ (k : ℕ). widthGood k ≡ true) (width-whole key n l) (a .1) in
+    let e : settingsBuffer s key n out ≡ settingsBytes s n key = ifZero-yes (settingsBytes s n key) out z in
+    let r = settings-are-read s n key (good-register s n key (from-typed csp id serial) (a .0) w l b) in
+    (ap settingsOf e ∙ r .0, ap widthOf e ∙ r .1, ap keyOf e ∙ r .2)
 
 eight-good : widthGood 8 ≡ true
 unfolding widthGood

@@ -5,6 +5,7 @@ use native.Mathlib.Omega.{arith}
 use borrow.Author.Tests.{le-ltb}
 use Rattle.primitives.specs.Number.{bytesOf}
 use Rattle.primitives.specs.Counter.{widthGood, half, fitsIn, counterFits, twos, counterBytes}
+use Rattle.primitives.proofs.Rows.{ask-no}
 use Rattle.receipt.specs.Settings.{between, cspGood, settingsGood}
 use Rattle.journal.specs.State.{unopened}
 use Rattle.primitives.specs.Questions.{ask}
@@ -19,13 +20,17 @@ pub unopened-is-zero : UnopenedIsZero
 unfolding stateBytes settingsBytes figuresBytes unopened bytesOf counterBytes counterFits fitsIn half widthGood twos
 unopened-is-zero = refl
 
+csp-bad : cspGood (unopened .settings .csp) ≡ false
+unfolding unopened cspGood between
+csp-bad = refl
+
 pub no-settings-get-one : NoSettingsGetOne
-unfolding openNumber unopened cspGood between ask
-no-settings-get-one n room = refl
+unfolding openNumber
+no-settings-get-one n room = ask-no 1 _ csp-bad
 
 unopened-unsound : soundAlone unopened ≡ false
-unfolding soundAlone settingsGood unopened cspGood between
-unopened-unsound = refl
+unfolding soundAlone settingsGood
+unopened-unsound = rw csp-bad
 
 pub unopened-gets-six : UnopenedGetsSix
 unfolding issueNumber prepareNumber sound ask

@@ -12,7 +12,7 @@ use Rattle.journal.specs.Prepare.{prepareNumber}
 use Rattle.journal.specs.Issue.{detailsNumber, issueNumber}
 use Rattle.journal.specs.declared.state.State.{State}
 use Rattle.device.specs.Layout.{settingsBytes, stateBytes, settingsOf, widthOf, keyOf, stateOf}
-use Rattle.device.specs.Calls.{noDetails, Slices, IssueCall, issuedNumber, issuedSlices}
+use Rattle.device.specs.Calls.{settingsFrom, widthWith, settingsAnswer, settingsBuffer, noDetails, Slices, IssueCall, issuedNumber, issuedSlices}
 
 -- ---- reading and writing undo each other
 
@@ -20,6 +20,14 @@ abbrev pub SettingsAreRead : Type 0
 SettingsAreRead =
     (s : Settings) (n : ℕ) (key : List ℕ) → TypedRegister s n key
     → (settingsOf (settingsBytes s n key) ≡ s) × (widthOf (settingsBytes s n key) ≡ n) × (keyOf (settingsBytes s n key) ≡ key)
+
+-- what ditgrux_settings writes where it returns 0 is what it was given
+abbrev pub WrittenSettingsAreRead : Type 0
+WrittenSettingsAreRead =
+    (csp id serial key : List ℕ) (n : ℕ) (out : List ℕ) → AllBytes key → settingsAnswer (settingsFrom csp id serial) (widthWith key n) (length out) ≡ 0
+    → (settingsOf (settingsBuffer (settingsFrom csp id serial) key n out) ≡ settingsFrom csp id serial)
+    × (widthOf (settingsBuffer (settingsFrom csp id serial) key n out) ≡ n)
+    × (keyOf (settingsBuffer (settingsFrom csp id serial) key n out) ≡ key)
 
 abbrev pub SettingsBytesAreKept : Type 0
 SettingsBytesAreKept = (b : List ℕ) → AllBytes b → length b ≡ 123 → settingsBytes (settingsOf b) (widthOf b) (keyOf b) ≡ b
