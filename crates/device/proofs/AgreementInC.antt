@@ -5,8 +5,8 @@ use mathlib.Core.Bool.{Bool, true, false}
 use mathlib.Core.List.{List, [], _∷_, _++_, append-assoc, map}
 use native.Mathlib.Numerals.{add-one}
 use native.Mathlib.Omega.{arith}
-use borrow.Author.Tests.{eqb-true, eqb-false, leb-true, lt-ltb}
-use lib.Dec.{leb, eqb}
+use borrow.Author.Tests.{eqb-true, eqb-false, lt-ltb}
+use lib.Dec.{eqb}
 use lib.IntN.{ℤ, pos, negsuc}
 use lib.ListN.{length, take, drop, replicate, getD}
 use Rattle.primitives.specs.Bytes.{AllBytes}
@@ -15,7 +15,6 @@ use Rattle.primitives.specs.Questions.{ask}
 use Rattle.primitives.proofs.Rows.{both, ask-yes, ifZero-yes}
 use Rattle.primitives.proofs.Twos.{fits-64}
 use Rattle.receipt.specs.Settings.{settingsGood, TypedSettings}
-use Rattle.receipt.specs.DateTime.{daysIn, dayGood, timeGood, dateGood}
 use Rattle.receipt.specs.Amount.{withinLimit}
 use Rattle.receipt.specs.Details.{amountsGood}
 use Rattle.receipt.specs.Compact.{spellable, TypedEntry}
@@ -27,7 +26,6 @@ use Rattle.receipt.specs.declared.details.Kind.the-variants.{Standard, Cancella
 use Rattle.receipt.specs.declared.entry.Entry.{Entry}
 use Rattle.receipt.proofs.Names.{name-of, settings-yes}
 use Rattle.receipt.proofs.Entries.{settings-all, admitted}
-use Rattle.receipt.proofs.Dates.{days-few}
 use Rattle.receipt.proofs.Cents.{within-most}
 use Rattle.receipt.proofs.Joined.{ok-here}
 use Rattle.journal.specs.State.{TypedRegister, TypedState}
@@ -46,6 +44,7 @@ use Rattle.device.specs.Layout.{settingsBytes, stateBytes, arrayOf, sett
 use Rattle.device.specs.Calls.{settingsFrom, widthWith, settingsAnswer, settingsBuffer, Slices, openedNumber, openedSlices, dateOf, detailsWith, ofKind, detailsOf, IssueCall, callIn, takeOverAnswer}
 use Rattle.device.specs.Demand as demand
 use Rattle.device.specs.Demand.{TypedIssueCall, TypedIssueCalls, issuedAll, issuedNumbers, issuedReceipts, journalIn, AcceptedIsValidInC, registerIn, WrittenInC, WrittenIsAcceptedInC, settingsAgain, kindNumber, issueCallOf, AgainInC, AcceptedIsWrittenInC, WritingAndCheckingAgreeInC}
+use Rattle.device.proofs.Below.{date-words, opened-number, journal-is, accepted-is, call-details, entries-none, entries-more}
 use Rattle.device.proofs.Sizes.{array-whole, width-whole, key-long, good-register, open-answer, kept-all, take-six, take-answer}
 use Rattle.device.proofs.Spelling.{settings-are-read, state-is-read}
 use Rattle.device.proofs.CallsFromC.{calls-typed, slicesOf, open-accepted, opened-same, Same, same-calls, opened-typed}
@@ -82,18 +81,19 @@ accepted-is-valid-in-c j key n size b = (yes, no)
 -- what the journal proves, of the bytes of the register
 module _ (b : List ℕ) (g : Register) (cs : List Call) (l : length (keyOf b) ≡ 32) (t : TypedState (calls g cs .state)) (w : Written (keyOf b) (widthOf b) g cs) where
   same-journal : journalIn (slicesOf (calls g cs)) ≡ journalOf (calls g cs)
-  unfolding slicesOf journalIn journalOf
-  same-journal = ap (λ (x : State). take (x .length) (calls g cs .buf)) (state-is-read (calls g cs .state) t)
+  unfolding slicesOf journalIn
+  same-journal = ap (λ (x : State). take (x .length) (calls g cs .buf)) (state-is-read (calls g cs .state) t) ∙ sym (journal-is (calls g cs))
 
   written-same : WrittenInC b (slicesOf (calls g cs)) (receiptsOf g cs)
-  unfolding slicesOf accepted
+  unfolding slicesOf
   written-same =
       let q = state-is-read (calls g cs .state) t in
       record {
         taken =
             ap (λ (j : List ℕ). takeOverAnswer j (keyOf b) (widthOf b) 155) same-journal ∙ take-over-same (journalOf (calls g cs)) (keyOf b) (widthOf b) l
             ∙ w .taken
-            ∙ ap accepted (sym q);
+            ∙ ap accepted (sym q)
+            ∙ accepted-is (stateOf (stateBytes (calls g cs .state)));
         state = λ out m. kept-all out (stateOf (stateBytes (calls g cs .state))) m ∙ ap stateBytes q;
         valid = subst (λ (j : List ℕ). Valid j (keyOf b) (widthOf b)) (sym same-journal) (w .valid);
         receipts =
@@ -141,34 +141,6 @@ five (a ∷ b ∷ c ∷ d ∷ []) l = absurd (omega arith)
 five (a ∷ b ∷ c ∷ d ∷ e ∷ []) l = refl
 five (a ∷ b ∷ c ∷ d ∷ e ∷ f ∷ zs) l = absurd (omega arith)
 
--- a date of the calendar has numbers of 32 bits
-record Words (t : DateTime) : Type 0 where
-  year : t .year < 4294967296
-  month : t .month < 4294967296
-  day : t .day < 4294967296
-  hour : t .hour < 4294967296
-  minute : t .minute < 4294967296
-  second : t .second < 4294967296
-
-date-words : (t : DateTime) → dateGood t ≡ true → Words t
-unfolding dateGood dayGood timeGood
-date-words t h =
-    let p = both (dayGood t) (timeGood t) h in
-    let y = both (leb 2000 (t .year)) _ (p .0) .1 in
-    let m = both (leb (t .year) 2099) _ y in
-    let d = both (leb (t .month) 12) _ (both (leb 1 (t .month)) _ (m .1) .1) in
-    let e = both (leb 1 (t .day)) _ (d .1) .1 in
-    let u = both (leb (t .hour) 23) _ (p .1) in
-    let v = both (leb (t .minute) 59) _ (u .1) in
-    record {
-      year = omega (arith, leb-true (t .year) 2099 (m .0));
-      month = omega (arith, leb-true (t .month) 12 (d .0));
-      day = omega (arith, leb-true (t .day) (daysIn (t .year) (t .month)) e, days-few (t .year) (t .month));
-      hour = omega (arith, leb-true (t .hour) 23 (u .0));
-      minute = omega (arith, leb-true (t .minute) 59 (v .0));
-      second = omega (arith, leb-true (t .second) 59 (v .1));
-    }
-
 kind-same : (number : ℕ) (date : DateTime) (amounts : List ℤ) (k : Kind) → ofKind number date amounts (kindNumber k) ≡ detailsWith number date amounts k
 unfolding ofKind
 kind-same number date amounts Standard = refl
@@ -181,11 +153,11 @@ kind-word Cancellation = omega arith
 kind-word Training = omega arith
 
 call-same : (e : Entry) → length (e .fields .details .amounts) ≡ 5 → callIn (issueCallOf e) ≡ callOf e
-unfolding callIn issueCallOf detailsOf dateOf detailsWith callOf
+unfolding callIn issueCallOf detailsOf dateOf detailsWith
 call-same e l =
     let d = e .fields .details in
     let p = ap (λ (zs : List ℤ). ofKind (d .number) (d .date) zs (kindNumber (d .kind))) (five (d .amounts) l) ∙ kind-same (d .number) (d .date) (d .amounts) (d .kind) in
-    λ i. record { details = p i; signature = callOf e .signature }
+    λ i. record { details = (p ∙ sym (call-details e)) i; signature = callOf e .signature }
 
 call-allowed : (s : Settings) (n : ℕ) (e : Entry) → TypedEntry e → spellable s n e ≡ true → TypedIssueCall (issueCallOf e)
 unfolding issueCallOf
@@ -226,12 +198,11 @@ answer-zero s n good width = settings-yes s n (ask (eqb 123 123) 23 0) good widt
 
 module _ {j key : List ℕ} {n : ℕ} (v : Valid j key n) where
   all-calls : (before es : List Entry) → v .entries ≡ before ++ es → TypedIssueCalls (map issueCallOf es) × (map callIn (map issueCallOf es) ≡ callsOf es)
-  unfolding callsOf
-  all-calls before [] q = (demand.none, refl)
+  all-calls before [] q = (demand.none, sym entries-none)
   all-calls before (e ∷ es) q =
       let r = v .each before e es q in
       let p = all-calls (before ++ (e ∷ [])) es (q ∙ sym (append-assoc before (e ∷ []) es)) in
-      (demand.more (call-allowed (v .settings) n e (r .typed) (r .spelled)) (p .0), λ i. call-same e (r .typed .fields .amounts) i ∷ p .1 i)
+      (demand.more (call-allowed (v .settings) n e (r .typed) (r .spelled)) (p .0), (λ i. call-same e (r .typed .fields .amounts) i ∷ p .1 i) ∙ sym (entries-more e es))
 
   module _ (kb : AllBytes key) (lk : length key ≡ 32) where
     again-typed : TypedRegister (v .settings) n key
@@ -269,9 +240,10 @@ module _ {j key : List ℕ} {n : ℕ} (v : Valid j key n) where
       read = settings-are-read (v .settings) n key again-typed
 
       again-opened : openedNumber b g ≡ 0
-      unfolding openedNumber opened
+      unfolding openedNumber
       again-opened =
           ap (λ (x : Opened). x .number) (open-answer b (length (g .journal)) (length (g .state)) ls)
+          ∙ opened-number (settingsOf b) (keyOf b) (widthOf b) (length (g .journal))
           ∙ (λ i. openNumber (read .0 i) (read .1 i) (length (g .journal))) ∙ anew .0
 
       again-start : openedSlices b g ≡ slicesOf start

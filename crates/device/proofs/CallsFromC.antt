@@ -21,8 +21,8 @@ use Rattle.receipt.specs.declared.details.Kind.the-variants.{Standard, Cancella
 use Rattle.receipt.specs.declared.details.Details.{Details}
 use Rattle.receipt.specs.declared.entry.Entry.{Entry}
 use Rattle.journal.specs.State.{unopened, TypedRegister, TypedState}
-use Rattle.journal.specs.Open.{openNumber, opened, openBuffer}
-use Rattle.journal.specs.Issue.{issueNumber, issued, issueBuffer}
+use Rattle.journal.specs.Open.{openNumber, openBuffer}
+use Rattle.journal.specs.Issue.{issued, issueBuffer}
 use Rattle.journal.specs.Calls.{Call, TypedCall, TypedCalls, none, more, Register, opening, numberOf, numbersOf, receiptOfCall, receiptsOf, call, calls}
 use Rattle.journal.specs.declared.state.State.{State}
 use Rattle.journal.specs.declared.state.Opened.{Opened}
@@ -33,6 +33,7 @@ use Rattle.device.specs.Layout.{stateBytes, nameAt, settingsAt, keyAt, s
 use Rattle.device.specs.Calls.{noDetails, dateOf, detailsWith, ofKind, detailsOf, Slices, openedNumber, openedSlices, IssueCall, callIn, issueAnswer, issuedNumber, issuedSlices}
 use Rattle.device.specs.Demand as demand
 use Rattle.device.specs.Demand.{TypedIssueCall, TypedIssueCalls, issuedAll, issuedNumbers, issuedReceipts, registerIn}
+use Rattle.device.proofs.Below.{opened-number, opening-is, number-is, call-is, calls-none, calls-more, numbers-none, numbers-more, receipts-none, receipts-more}
 use Rattle.device.proofs.Sizes.{good-register, kept-all, open-six, open-answer}
 use Rattle.device.proofs.Writers.{length-state}
 use Rattle.device.proofs.Spelling.{state-is-read}
@@ -94,13 +95,13 @@ module _ (b : List ℕ) where
     register-typed good width = good-register (settingsOf b) (widthOf b) (keyOf b) (settings-typed .lengths) good width (key-typed .0) (key-typed .1)
 
 pub open-accepted : (b : List ℕ) (g : Slices) → openedNumber b g ≡ 0 → (length (g .state) ≡ 155) × (openNumber (settingsOf b) (widthOf b) (length (g .journal)) ≡ 0)
-unfolding openedNumber opened
+unfolding openedNumber
 open-accepted b g z = go (eqb (length (g .state)) 155) refl
   where
     go : (t : Bool) → eqb (length (g .state)) 155 ≡ t → (length (g .state) ≡ 155) × (openNumber (settingsOf b) (widthOf b) (length (g .journal)) ≡ 0)
     go true e =
         let h = eqb-true (length (g .state)) 155 e in
-        (h, sym (ap (λ (x : Opened). x .number) (open-answer b (length (g .journal)) (length (g .state)) h)) ∙ z)
+        (h, sym (ap (λ (x : Opened). x .number) (open-answer b (length (g .journal)) (length (g .state)) h) ∙ opened-number (settingsOf b) (keyOf b) (widthOf b) (length (g .journal))) ∙ z)
     go false e =
         let q : _≡_ {A = ℕ} 0 6 = sym z ∙ ap (λ (x : Opened). x .number) (open-six b (length (g .journal)) (length (g .state)) (eqb-false (length (g .state)) 155 e)) in
         absurd (omega arith)
@@ -111,14 +112,14 @@ unfoldable pub slicesOf : Register → Slices
 slicesOf g = record { state = stateBytes (g .state); journal = g .buf }
 
 pub opened-same : (b : List ℕ) (g : Slices) → length (g .state) ≡ 155 → openedSlices b g ≡ slicesOf (registerIn b (g .journal))
-unfolding openedSlices opening slicesOf
+unfolding openedSlices slicesOf
 opened-same b g l =
     let p = kept-all (g .state) _ l ∙ ap (λ (x : Opened). stateBytes (x .state)) (open-answer b (length (g .journal)) (length (g .state)) l) in
     let q = ap (λ (t : Bool). cond t (openBuffer (settingsOf b) (widthOf b) (g .journal)) (g .journal)) (eq-eqb (length (g .state)) 155 l) in
-    λ i. record { state = p i; journal = q i }
+    (λ i. record { state = p i; journal = q i }) ∙ ap slicesOf (sym (opening-is (settingsOf b) (keyOf b) (widthOf b) (g .journal)))
 
 issued-same : (g : Register) (c : IssueCall) → TypedState (g .state) → issuedSlices (slicesOf g) c ≡ slicesOf (call g (callIn c))
-unfolding issuedSlices issueAnswer slicesOf call callIn
+unfolding issuedSlices issueAnswer slicesOf callIn
 issued-same g c t =
     let st = g .state in
     let r = t .register in
@@ -127,11 +128,12 @@ issued-same g c t =
     let l = length-state st (r .settings) (r .keyLength) (t .chain) in
     let e = ap (λ (x : State). issued x d (c .signature) (length (g .buf)) .state) q in
     let k = kept-all (stateBytes st) (issued (stateOf (stateBytes st)) d (c .signature) (length (g .buf)) .state) l ∙ ap stateBytes e in
-    λ i. record { state = k i; journal = issueBuffer (q i) d (c .signature) (g .buf) }
+    (λ i. record { state = k i; journal = issueBuffer (q i) d (c .signature) (g .buf) }) ∙ ap slicesOf (sym (call-is g (callIn c)))
 
 number-same : (g : Register) (c : IssueCall) → TypedState (g .state) → issuedNumber (slicesOf g) c ≡ numberOf g (callIn c)
-unfolding issuedNumber issueAnswer slicesOf numberOf issued callIn
-number-same g c t = ap (λ (x : State). issueNumber x (callIn c .details) (c .signature) (length (g .buf))) (state-is-read (g .state) t)
+unfolding issuedNumber issueAnswer slicesOf callIn
+number-same g c t =
+    ap (λ (x : State). issued x (callIn c .details) (c .signature) (length (g .buf)) .number) (state-is-read (g .state) t) ∙ sym (number-is g (callIn c))
 
 -- a list of calls leaves and returns the same, and its receipts are the same
 pub record Same (g : Register) (cs : List IssueCall) : Type 0 where
@@ -168,21 +170,32 @@ module _ (s : Settings) (n : ℕ) (key : List ℕ) (ts : TypedSettings s) (t : T
         go (suc k) e = ap (λ (x : Register). length (x .buf)) (refused-same g c (λ q. omega (arith, e, q)))
 
   pub all-same : (cs : List IssueCall) (g : Register) (es : List Entry) → TypedIssueCalls cs → Holds s n key g es → length (g .buf) < 18446744073709551616 → Same g cs
-  unfolding issuedAll calls issuedNumbers numbersOf issuedReceipts receiptsOf
-  all-same [] g es demand.none h l = record { slices = refl; numbers = refl; receipts = refl; typed = held-typed g es h l }
+  unfolding issuedAll issuedNumbers issuedReceipts
+  all-same [] g es demand.none h l =
+      let e = sym (calls-none g) in
+      record {
+        slices = ap slicesOf e;
+        numbers = sym (numbers-none g);
+        receipts = sym (receipts-none g);
+        typed = subst (λ (x : Register). TypedState (x .state)) e (held-typed g es h l);
+      }
   all-same (c ∷ cs) g es (demand.more tc tcs) h l =
       let k = callIn c in
-      let h₁ = holds-calls s n key ts good width (t .keyBytes) (k ∷ []) g es (more (call-typed c tc) none) h in
+      let ks = map callIn cs in
+      let m = sym (calls-more g k ks) in
+      let h₁ : Holds s n key (call g k) (es ++ entriesOf g (k ∷ [])) =
+      subst (λ (x : Register). Holds s n key x (es ++ entriesOf g (k ∷ []))) (calls-more g k [] ∙ calls-none (call g k))
+      (holds-calls s n key ts good width (t .keyBytes) (k ∷ []) g es (more (call-typed c tc) none) h) in
       let p = all-same cs (call g k) (es ++ entriesOf g (k ∷ [])) tcs h₁ (omega (arith, same-length g es h k)) in
       let e = issued-same g c (held-typed g es h l) in
       let z = number-same g c (held-typed g es h l) in
       let ns = ap (λ (x : Slices). issuedNumbers x cs) e ∙ p .numbers in
       let rs = ap (λ (x : Slices). issuedReceipts x cs) e ∙ p .receipts in
       record {
-        slices = ap (λ (x : Slices). issuedAll x cs) e ∙ p .slices;
-        numbers = λ i. z i ∷ ns i;
-        receipts = λ i. ifZero (z i) (receiptOfCall k ∷ rs i) (rs i);
-        typed = p .typed;
+        slices = ap (λ (x : Slices). issuedAll x cs) e ∙ p .slices ∙ ap slicesOf m;
+        numbers = (λ i. z i ∷ ns i) ∙ sym (numbers-more g k ks);
+        receipts = (λ i. ifZero (z i) (receiptOfCall k ∷ rs i) (rs i)) ∙ sym (receipts-more g k ks);
+        typed = subst (λ (x : Register). TypedState (x .state)) m (p .typed);
       }
 
 -- ---- from an Open that was not refused

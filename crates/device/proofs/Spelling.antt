@@ -14,7 +14,7 @@ use Rattle.primitives.specs.Questions.{ask}
 use Rattle.primitives.specs.Counter.{widthGood, counterFits, counterBytes, counterValue}
 use Rattle.primitives.proofs.ByteLists.{bytes-take, bytes-drop}
 use Rattle.primitives.proofs.Numbers.{length-bytesOf}
-use Rattle.primitives.proofs.Twos.{fits-wide, counter-back, counter-whole, length-counterBytes}
+use Rattle.primitives.proofs.Twos.{width-test, fits-wide, counter-back, counter-whole, length-counterBytes}
 use Rattle.primitives.proofs.Rows.{ifZero-yes}
 use Rattle.receipt.specs.declared.settings.Name.{Name}
 use Rattle.receipt.specs.declared.settings.Settings.{Settings}
@@ -111,8 +111,7 @@ written-settings-are-read csp id serial key n out b z =
     (ap settingsOf e ∙ r .0, ap widthOf e ∙ r .1, ap keyOf e ∙ r .2)
 
 eight-good : widthGood 8 ≡ true
-unfolding widthGood
-eight-good = refl
+eight-good = sym (width-test 8 (omega arith))
 
 module _ (st : State) (t : TypedState st) where
   x : List ℕ
