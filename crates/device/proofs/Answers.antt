@@ -30,10 +30,13 @@ use Rattle.journal.specs.declared.state.State.{State}
 use Rattle.journal.specs.declared.state.Opened.{Opened}
 use Rattle.journal.specs.declared.state.Issued.{Issued}
 use Rattle.journal.specs.declared.state.TakenOver.{TakenOver}
+use Rattle.journal.proofs.Refusals.{refused-changes-nothing}
 use Rattle.device.specs.Layout.{settingsBytes, arrayOf, settingsOf, widthOf, keyOf, stateOf, kept}
+use Rattle.device.specs.Laws.{RefusedIssueKeepsSlices}
 use Rattle.device.specs.Calls.{widthWith, settingsAnswer, settingsBuffer, Slices, openAnswer, openedNumber, openedSlices, dateOf, ofKind, detailsOf, IssueCall, callIn, issueAnswer, issuedNumber, issuedSlices, takeOverAnswer}
 use Rattle.device.proofs.Sizes.{array-whole, width-whole, key-long, kept-not, open-six, open-answer, take-six, take-answer}
 use Rattle.device.proofs.Reading.{over-all}
+use Rattle.device.proofs.Spelling.{kept-as-it-was}
 use Rattle.device.proofs.Writers.{length-settings}
 
 -- ---- settings
@@ -151,6 +154,13 @@ unfolding issuedNumber issuedSlices issueAnswer callIn
 issue-is g c {a = a} es ed p q =
     let e : a ≡ issueAnswer g c = p .0 ∙ (λ i. issued (es i) (ed i) (c .signature) (length (g .journal))) in
     (ap (λ (x : Issued). x .number) e, q ∙ ap (λ (x : Issued). kept (g .state) (x .state)) e, p .1 ∙ (λ i. issueBuffer (es i) (ed i) (c .signature) (g .journal)))
+
+pub refused-issue-keeps-slices : RefusedIssueKeepsSlices
+unfolding issuedNumber issuedSlices issueAnswer
+refused-issue-keeps-slices g a c h =
+    let r = refused-changes-nothing .issues (stateOf (g .state)) (callIn c .details) (c .signature) (g .journal) h in
+    let q = ap (kept (g .state)) (r .0) ∙ kept-as-it-was (g .state) a in
+    λ i. record { state = q i; journal = r .1 i }
 
 -- ---- take over
 

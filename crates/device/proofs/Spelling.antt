@@ -22,11 +22,10 @@ use Rattle.receipt.proofs.Names.{settings-zero}
 use Rattle.journal.specs.State.{TypedRegister, TypedState}
 use Rattle.journal.specs.Issue.{issued}
 use Rattle.journal.specs.declared.state.State.{State}
-use Rattle.journal.proofs.Refusals.{refused-changes-nothing}
 use Rattle.journal.proofs.Places.{part-at, count-in, part-length, count-bytes}
 use Rattle.device.specs.Layout.{nameBytes, settingsBytes, figuresBytes, stateBytes, nameAt, settingsAt, widthAt, keyAt, stateAt, settingsOf, widthOf, keyOf, stateOf, kept}
-use Rattle.device.specs.Calls.{settingsFrom, widthWith, settingsAnswer, settingsBuffer, callIn, issueAnswer, issuedNumber, issuedSlices}
-use Rattle.device.specs.Laws.{SettingsAreRead, WrittenSettingsAreRead, SettingsBytesAreKept, StateIsRead, BytesAreKept, RefusedIssueKeepsSlices}
+use Rattle.device.specs.Calls.{settingsFrom, widthWith, settingsAnswer, settingsBuffer}
+use Rattle.device.specs.Laws.{SettingsAreRead, WrittenSettingsAreRead, SettingsBytesAreKept, StateIsRead, BytesAreKept}
 use Rattle.device.proofs.Sizes.{width-whole, key-long, from-typed, good-register}
 use Rattle.device.proofs.Writers.{front-long, names-long, length-settings, length-state}
 
@@ -268,19 +267,12 @@ pub bytes-are-kept : BytesAreKept
 unfolding stateOf
 bytes-are-kept b a e = rw (eq-eqb (length b) 155 e) (state-again b a e)
 
--- ---- a refused Issue
+-- ---- a state that was read is kept as it was
 
-kept-as-it-was : (b : List ℕ) → AllBytes b → kept b (stateOf b) ≡ b
+pub kept-as-it-was : (b : List ℕ) → AllBytes b → kept b (stateOf b) ≡ b
 unfolding kept
 kept-as-it-was b a = go (eqb (length b) 155) refl
   where
     go : (t : Bool) → eqb (length b) 155 ≡ t → cond t (stateBytes (stateOf b)) b ≡ b
     go true e = bytes-are-kept b a (eqb-true (length b) 155 e)
     go false e = refl
-
-pub refused-issue-keeps-slices : RefusedIssueKeepsSlices
-unfolding issuedNumber issuedSlices issueAnswer
-refused-issue-keeps-slices g a c h =
-    let r = refused-changes-nothing .issues (stateOf (g .state)) (callIn c .details) (c .signature) (g .journal) h in
-    let q = ap (kept (g .state)) (r .0) ∙ kept-as-it-was (g .state) a in
-    λ i. record { state = q i; journal = r .1 i }
