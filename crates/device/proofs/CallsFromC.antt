@@ -1,16 +1,17 @@
--- Demand 3 in bytes: the slices of a C program hold what the journal's register holds, call by call.
+-- The slices of a C program hold what the journal's register holds, call by call.
 use Prim.Native.Nat.{ℕ, zero, suc, _^_, _<_}
 use mathlib.Core.Path.{_≡_, refl, sym, ap, _∙_, subst}
 use mathlib.Core.Bool.{Bool, true, false, cond}
 use mathlib.Core.List.{List, [], _∷_, _++_, map}
 use native.Mathlib.Omega.{arith}
-use borrow.Author.Tests.{eq-eqb, eqb-true, lt-ltb}
+use borrow.Author.Tests.{eq-eqb, eqb-true, eqb-false, lt-ltb}
 use lib.Dec.{eqb}
 use lib.IntN.{ℤ}
-use lib.ListN.{length, take}
+use lib.ListN.{length}
 use lib.Signed.{mag}
 use Rattle.primitives.specs.Bytes.{AllBytes}
 use Rattle.primitives.specs.Counter.{widthGood}
+use Rattle.primitives.specs.Questions.{ifZero}
 use Rattle.primitives.proofs.ByteLists.{bytes-take, bytes-drop}
 use Rattle.primitives.proofs.Twos.{width-true, half-small, fits-below, fits-64, counted}
 use Rattle.receipt.specs.Settings.{settingsGood, TypedSettings}
@@ -19,22 +20,21 @@ use Rattle.receipt.specs.declared.datetime.DateTime.{DateTime}
 use Rattle.receipt.specs.declared.details.Kind.the-variants.{Standard, Cancellation, Training}
 use Rattle.receipt.specs.declared.details.Details.{Details}
 use Rattle.receipt.specs.declared.entry.Entry.{Entry}
-use Rattle.receipt.proofs.Names.{good-settings}
 use Rattle.journal.specs.State.{unopened, TypedRegister, TypedState}
-use Rattle.journal.specs.Opening.{openNumber, opened}
-use Rattle.journal.specs.Issuing.{issueNumber, issued, issueBuffer}
-use Rattle.journal.specs.Checking.{accepted, takeOver}
-use Rattle.journal.specs.Calls.{Call, TypedCall, TypedCalls, none, more, Register, journalOf, opening, numberOf, numbersOf, call, calls}
-use Rattle.journal.specs.Demands.{Written}
+use Rattle.journal.specs.Opening.{openNumber, openBuffer}
+use Rattle.journal.specs.Issuing.{issued, issueBuffer}
+use Rattle.journal.specs.Calls.{Call, TypedCall, TypedCalls, none, more, Register, opening, numberOf, numbersOf, receiptOfCall, receiptsOf, call, calls}
 use Rattle.journal.specs.declared.state.State.{State}
-use Rattle.journal.proofs.Lists.{Bounds}
+use Rattle.journal.specs.declared.state.Opened.{Opened}
+use Rattle.journal.proofs.CallLists.{Bounds}
 use Rattle.journal.proofs.Places.{part-length}
 use Rattle.journal.proofs.Registers.{run-bounds, refused-same, entriesOf, open-zero, Holds, holds-behind, accepted-length, holds-calls, opening-holds, opening-length}
-use Rattle.journal.proofs.Forth.{forth}
-use Rattle.device.specs.Layout.{stateBytes, nameAt, settingsAt, keyAt, noSettings, settingsOf, widthOf, keyOf, stateOf, kept}
-use Rattle.device.specs.Calls.{keyFrom, widthWith, openAnswer, openJournal, noDetails, dateOf, detailsWith, ofKind, detailsOf, takeOverAnswer}
+use Rattle.device.specs.Layout.{stateBytes, nameAt, settingsAt, keyAt, settingsOf, widthOf, keyOf, stateOf}
+use Rattle.device.specs.Calls.{noDetails, dateOf, detailsWith, ofKind, detailsOf, Slices, openedNumber, openedSlices, IssueCall, callIn, issueAnswer, issuedNumber, issuedSlices}
 use Rattle.device.specs.Demand as demand
-use Rattle.device.specs.Demand.{IssueCall, TypedIssueCall, TypedIssueCalls, callIn, Slices, openedSlices, issuedSlices, issuedAll, issuedNumber, issuedNumbers, journalIn, registerIn, WrittenFromC, CallsFromC}
+use Rattle.device.specs.Demand.{TypedIssueCall, TypedIssueCalls, issuedAll, issuedNumbers, issuedReceipts, registerIn}
+use Rattle.device.proofs.Below.{opened-number, opening-is, number-is, call-is, calls-none, calls-more, numbers-none, numbers-more, receipts-none, receipts-more}
+use Rattle.device.proofs.Sizes.{good-register, kept-all, open-six, open-answer}
 use Rattle.device.proofs.Writers.{length-state}
 use Rattle.device.proofs.Spelling.{state-is-read}
 use Rattle.device.proofs.Zeros.{no-settings-get-one}
@@ -63,7 +63,7 @@ call-typed c t =
     let p = kind-small (c .number) date amounts (c .kind) (t .number) refl in
     record { number = p .0; amounts = p .1; bytes = t .signature }
 
-calls-typed : (cs : List IssueCall) → TypedIssueCalls cs → TypedCalls (map callIn cs)
+pub calls-typed : (cs : List IssueCall) → TypedIssueCalls cs → TypedCalls (map callIn cs)
 calls-typed [] demand.none = none
 calls-typed (c ∷ cs) (demand.more t ts) = more (call-typed c t) (calls-typed cs ts)
 
@@ -74,7 +74,7 @@ module _ (b : List ℕ) where
   unfolding settingsOf
   settings-long room z = go (eqb (length b) 123) refl z
     where
-      go : (t : Bool) → eqb (length b) 123 ≡ t → openNumber (cond t (settingsAt b) noSettings) (widthOf b) room ≡ 0 → length b ≡ 123
+      go : (t : Bool) → eqb (length b) 123 ≡ t → openNumber (cond t (settingsAt b) (unopened .settings)) (widthOf b) room ≡ 0 → length b ≡ 123
       go true e q = eqb-true (length b) 123 e
       go false e q = absurd (omega (arith, q, no-settings-get-one (widthOf b) room))
 
@@ -92,60 +92,62 @@ module _ (b : List ℕ) where
     key-typed = rw (eq-eqb (length b) 123 l) (part-length b a 91 32 (omega arith), bytes-take 32 (bytes-drop 91 a))
 
     register-typed : settingsGood (settingsOf b) ≡ true → widthGood (widthOf b) ≡ true → TypedRegister (settingsOf b) (widthOf b) (keyOf b)
-    register-typed good width =
-        let g = good-settings (settingsOf b) good in
-        record {
-          settings = settings-typed;
-          id = omega (arith, g .id .most);
-          serial = omega (arith, g .serial .most);
-          width = omega (arith, width-true (widthOf b) width .most);
-          keyLength = key-typed .0;
-          keyBytes = key-typed .1;
-        }
+    register-typed good width = good-register (settingsOf b) (widthOf b) (keyOf b) (settings-typed .lengths) good width (key-typed .0) (key-typed .1)
 
-open-accepted : (b : List ℕ) (room size : ℕ) → openAnswer b room size .number ≡ 0 → (size ≡ 155) × (openNumber (settingsOf b) (widthOf b) room ≡ 0)
-unfolding openAnswer opened
-open-accepted b room size z = go (eqb size 155) refl z
+pub open-accepted : (b : List ℕ) (g : Slices) → openedNumber b g ≡ 0 → (length (g .state) ≡ 155) × (openNumber (settingsOf b) (widthOf b) (length (g .journal)) ≡ 0)
+unfolding openedNumber
+open-accepted b g z = go (eqb (length (g .state)) 155) refl
   where
-    go : (t : Bool) → eqb size 155 ≡ t → (cond t (opened (settingsOf b) (keyOf b) (widthOf b) room) (record { number = 6; state = unopened })) .number ≡ 0
-        → (size ≡ 155) × (openNumber (settingsOf b) (widthOf b) room ≡ 0)
-    go true e q = (eqb-true size 155 e, q)
-    go false e q = absurd (omega arith)
+    go : (t : Bool) → eqb (length (g .state)) 155 ≡ t → (length (g .state) ≡ 155) × (openNumber (settingsOf b) (widthOf b) (length (g .journal)) ≡ 0)
+    go true e =
+        let h = eqb-true (length (g .state)) 155 e in
+        (h, sym (ap (λ (x : Opened). x .number) (open-answer b (length (g .journal)) (length (g .state)) h) ∙ opened-number (settingsOf b) (keyOf b) (widthOf b) (length (g .journal))) ∙ z)
+    go false e =
+        let q : _≡_ {A = ℕ} 0 6 = sym z ∙ ap (λ (x : Opened). x .number) (open-six b (length (g .journal)) (length (g .state)) (eqb-false (length (g .state)) 155 e)) in
+        absurd (omega arith)
 
 -- ---- the slices of a register
 
-slicesOf : Register → Slices
+unfoldable pub slicesOf : Register → Slices
 slicesOf g = record { state = stateBytes (g .state); journal = g .buf }
 
-kept-all : (b : List ℕ) (st : State) → length b ≡ 155 → kept b st ≡ stateBytes st
-unfolding kept
-kept-all b st l = rw (eq-eqb (length b) 155 l)
-
-opened-same : (b journal state : List ℕ) → length state ≡ 155 → openedSlices b journal state ≡ slicesOf (registerIn b journal)
-unfolding openedSlices openAnswer openJournal kept opening slicesOf
-opened-same b journal state l = rw (eq-eqb (length state) 155 l)
+pub opened-same : (b : List ℕ) (g : Slices) → length (g .state) ≡ 155 → openedSlices b g ≡ slicesOf (registerIn b (g .journal))
+unfolding openedSlices slicesOf
+opened-same b g l =
+    let p = kept-all (g .state) _ l ∙ ap (λ (x : Opened). stateBytes (x .state)) (open-answer b (length (g .journal)) (length (g .state)) l) in
+    let q = ap (λ (t : Bool). cond t (openBuffer (settingsOf b) (widthOf b) (g .journal)) (g .journal)) (eq-eqb (length (g .state)) 155 l) in
+    (λ i. record { state = p i; journal = q i }) ∙ ap slicesOf (sym (opening-is (settingsOf b) (keyOf b) (widthOf b) (g .journal)))
 
 issued-same : (g : Register) (c : IssueCall) → TypedState (g .state) → issuedSlices (slicesOf g) c ≡ slicesOf (call g (callIn c))
-unfolding issuedSlices slicesOf call callIn
+unfolding issuedSlices issueAnswer slicesOf callIn
 issued-same g c t =
     let st = g .state in
     let r = t .register in
     let d = callIn c .details in
     let q = state-is-read st t in
-    let l = length-state st (r .settings .lengths) (r .keyLength) (t .chain) in
+    let l = length-state st (r .settings) (r .keyLength) (t .chain) in
     let e = ap (λ (x : State). issued x d (c .signature) (length (g .buf)) .state) q in
     let k = kept-all (stateBytes st) (issued (stateOf (stateBytes st)) d (c .signature) (length (g .buf)) .state) l ∙ ap stateBytes e in
-    λ i. record { state = k i; journal = issueBuffer (q i) d (c .signature) (g .buf) }
+    (λ i. record { state = k i; journal = issueBuffer (q i) d (c .signature) (g .buf) }) ∙ ap slicesOf (sym (call-is g (callIn c)))
 
 number-same : (g : Register) (c : IssueCall) → TypedState (g .state) → issuedNumber (slicesOf g) c ≡ numberOf g (callIn c)
-unfolding issuedNumber slicesOf numberOf issued callIn
-number-same g c t = ap (λ (x : State). issueNumber x (callIn c .details) (c .signature) (length (g .buf))) (state-is-read (g .state) t)
+unfolding issuedNumber issueAnswer slicesOf callIn
+number-same g c t =
+    ap (λ (x : State). issued x (callIn c .details) (c .signature) (length (g .buf)) .number) (state-is-read (g .state) t) ∙ sym (number-is g (callIn c))
 
-module _ (s : Settings) (n : ℕ) (key : List ℕ) (t : TypedRegister s n key) (good : settingsGood s ≡ true) (width : widthGood n ≡ true) where
+-- a list of calls leaves and returns the same, and its receipts are the same
+pub record Same (g : Register) (cs : List IssueCall) : Type 0 where
+  pub slices : issuedAll (slicesOf g) cs ≡ slicesOf (calls g (map callIn cs))
+  pub numbers : issuedNumbers (slicesOf g) cs ≡ numbersOf g (map callIn cs)
+  pub receipts : issuedReceipts (slicesOf g) cs ≡ receiptsOf g (map callIn cs)
+  pub typed : TypedState (calls g (map callIn cs) .state)
+
+module _ (s : Settings) (n : ℕ) (key : List ℕ) (ts : TypedSettings s) (t : TypedRegister s n key)
+    (good : settingsGood s ≡ true) (width : widthGood n ≡ true) where
   module _ (g : Register) (es : List Entry) (h : Holds s n key g es) where
     held-typed : length (g .buf) < 18446744073709551616 → TypedState (g .state)
     held-typed l =
-        let b = holds-behind s n key (t .settings) good width (t .keyBytes) g es h in
+        let b = holds-behind s n key ts good width (t .keyBytes) g es h in
         let o = subst Bounds (sym (h .state)) (run-bounds s n key es width (h .right)) in
         let m = g .state .width in
         let z = g .state .counter in
@@ -164,60 +166,54 @@ module _ (s : Settings) (n : ℕ) (key : List ℕ) (t : TypedRegister s n key) (
     same-length c = go (numberOf g c) refl
       where
         go : (k : ℕ) → numberOf g c ≡ k → length (call g c .buf) ≡ length (g .buf)
-        go zero e = accepted-length s n key (t .settings) good width (t .keyBytes) g es h c e
+        go zero e = accepted-length s n key ts good width (t .keyBytes) g es h c e
         go (suc k) e = ap (λ (x : Register). length (x .buf)) (refused-same g c (λ q. omega (arith, e, q)))
 
-  all-same : (cs : List IssueCall) (g : Register) (es : List Entry) → TypedIssueCalls cs → Holds s n key g es → length (g .buf) < 18446744073709551616
-      → (issuedAll (slicesOf g) cs ≡ slicesOf (calls g (map callIn cs))) × (issuedNumbers (slicesOf g) cs ≡ numbersOf g (map callIn cs)) × TypedState (calls g (map callIn cs) .state)
-  unfolding issuedAll calls issuedNumbers numbersOf
-  all-same [] g es demand.none h l = (refl, refl, held-typed g es h l)
+  pub all-same : (cs : List IssueCall) (g : Register) (es : List Entry) → TypedIssueCalls cs → Holds s n key g es → length (g .buf) < 18446744073709551616 → Same g cs
+  unfolding issuedAll issuedNumbers issuedReceipts
+  all-same [] g es demand.none h l =
+      let e = sym (calls-none g) in
+      record {
+        slices = ap slicesOf e;
+        numbers = sym (numbers-none g);
+        receipts = sym (receipts-none g);
+        typed = subst (λ (x : Register). TypedState (x .state)) e (held-typed g es h l);
+      }
   all-same (c ∷ cs) g es (demand.more tc tcs) h l =
       let k = callIn c in
-      let h₁ = holds-calls s n key (t .settings) good width (t .keyBytes) (k ∷ []) g es (more (call-typed c tc) none) h in
+      let ks = map callIn cs in
+      let m = sym (calls-more g k ks) in
+      let h₁ : Holds s n key (call g k) (es ++ entriesOf g (k ∷ [])) =
+      subst (λ (x : Register). Holds s n key x (es ++ entriesOf g (k ∷ []))) (calls-more g k [] ∙ calls-none (call g k))
+      (holds-calls s n key ts good width (t .keyBytes) (k ∷ []) g es (more (call-typed c tc) none) h) in
       let p = all-same cs (call g k) (es ++ entriesOf g (k ∷ [])) tcs h₁ (omega (arith, same-length g es h k)) in
       let e = issued-same g c (held-typed g es h l) in
-      let r = ap (λ (x : Slices). issuedNumbers x cs) e ∙ p .1 in
-      (ap (λ (x : Slices). issuedAll x cs) e ∙ p .0, λ i. number-same g c (held-typed g es h l) i ∷ r i, p .2)
+      let z = number-same g c (held-typed g es h l) in
+      let ns = ap (λ (x : Slices). issuedNumbers x cs) e ∙ p .numbers in
+      let rs = ap (λ (x : Slices). issuedReceipts x cs) e ∙ p .receipts in
+      record {
+        slices = ap (λ (x : Slices). issuedAll x cs) e ∙ p .slices ∙ ap slicesOf m;
+        numbers = (λ i. z i ∷ ns i) ∙ sym (numbers-more g k ks);
+        receipts = (λ i. ifZero (z i) (receiptOfCall k ∷ rs i) (rs i)) ∙ sym (receipts-more g k ks);
+        typed = subst (λ (x : Register). TypedState (x .state)) m (p .typed);
+      }
 
--- ---- the demand
+-- ---- from an Open that was not refused
 
-take-over-same : (j key : List ℕ) (n : ℕ) → length key ≡ 32 → takeOverAnswer j key n 155 ≡ takeOver j key n
-unfolding takeOverAnswer keyFrom widthWith
-take-over-same j key n l = rw (eq-eqb (length key) 32 l)
+-- all calls, in a buffer whose length is a number of 64 bits
+pub same-calls : (s : Settings) (n : ℕ) (key buf : List ℕ) → TypedSettings s → TypedRegister s n key → length buf < 18446744073709551616
+    → openNumber s n (length buf) ≡ 0 → (cs : List IssueCall) → TypedIssueCalls cs → Same (opening s key n buf) cs
+same-calls s n key buf ts t l z cs tcs =
+    let o = open-zero s n (length buf) z in
+    let h = opening-holds s n key ts (o .0) (o .1) (t .keyBytes) buf z in
+    let m = opening-length s n key ts (o .0) (o .1) (t .keyBytes) buf z in
+    all-same s n key ts t (o .0) (o .1) cs (opening s key n buf) [] tcs h (omega (arith, m))
 
--- what the journal crate proved, of the slices
-written-same : (b journal : List ℕ) (cs : List IssueCall) {returned : List ℕ} → length (keyOf b) ≡ 32 → TypedState (calls (registerIn b journal) (map callIn cs) .state)
-    → returned ≡ numbersOf (registerIn b journal) (map callIn cs) → Written (keyOf b) (widthOf b) (registerIn b journal) (map callIn cs)
-    → WrittenFromC b journal cs (slicesOf (calls (registerIn b journal) (map callIn cs))) returned
-unfolding slicesOf journalIn journalOf accepted
-written-same b journal cs l t r w =
-    let g = calls (registerIn b journal) (map callIn cs) in
-    let q = state-is-read (g .state) t in
-    record {
-      taken =
-          take-over-same (take (stateOf (stateBytes (g .state)) .length) (g .buf)) (keyOf b) (widthOf b) l
-          ∙ ap (λ (x : State). takeOver (take (x .length) (g .buf)) (keyOf b) (widthOf b)) q
-          ∙ w .taken
-          ∙ ap accepted (sym q);
-      state = λ out m. kept-all out (stateOf (stateBytes (g .state))) m ∙ ap stateBytes q;
-      numbers = r;
-      counter = ap (λ (x : State). x .counter) q ∙ w .counter;
-    }
-
-pub calls-from-c : CallsFromC
-calls-from-c b journal state a l z cs tcs =
-    let s = settingsOf b in
-    let key = keyOf b in
-    let n = widthOf b in
-    let p = open-accepted b (length journal) (length state) z in
-    let o = open-zero s n (length journal) (p .1) in
-    let t = register-typed b a (settings-long b (length journal) (p .1)) (o .0) (o .1) in
-    let h = opening-holds s n key (t .settings) (o .0) (o .1) (t .keyBytes) journal (p .1) in
-    let m = opening-length s n key (t .settings) (o .0) (o .1) (t .keyBytes) journal (p .1) in
-    let q = all-same s n key t (o .0) (o .1) cs (registerIn b journal) [] tcs h (omega (arith, m)) in
-    let w = forth s key n journal (t .settings) (t .keyBytes) (p .1) (map callIn cs) (calls-typed cs tcs) in
-    let f = opened-same b journal state (p .0) in
-    let e = ap (λ (x : Slices). issuedAll x cs) f ∙ q .0 in
-    let r = ap (λ (x : Slices). issuedNumbers x cs) f ∙ q .1 in
-    subst (λ (g : Slices). WrittenFromC b journal cs g (issuedNumbers (openedSlices b journal state) cs)) (sym e)
-    (written-same b journal cs (t .keyLength) (q .2) r w)
+-- what the types say of settings that ditgrux_open accepted
+pub opened-typed : (b : List ℕ) (g : Slices) → AllBytes b → openedNumber b g ≡ 0
+    → TypedSettings (settingsOf b) × TypedRegister (settingsOf b) (widthOf b) (keyOf b)
+opened-typed b g a z =
+    let q = open-accepted b g z .1 in
+    let o = open-zero (settingsOf b) (widthOf b) (length (g .journal)) q in
+    let l = settings-long b (length (g .journal)) q in
+    (settings-typed b a l, register-typed b a l (o .0) (o .1))

@@ -1,6 +1,9 @@
+pub mod AgreementInC
 pub mod Answers
+pub mod Below
 pub mod CallsFromC
 pub mod Reading
+pub mod Sizes
 pub mod Spelling
 pub mod TextAnswers
 pub mod Writers

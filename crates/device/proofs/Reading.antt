@@ -17,6 +17,7 @@ use Rattle.primitives.proofs.Numbers.{number-there, number-found}
 use Rattle.primitives.proofs.Over.{length-over, read-over, placed-room}
 use Rattle.receipt.specs.declared.settings.Settings.{Settings}
 use Rattle.device.specs.Layout.{settingsAt, widthAt, keyAt, stateAt}
+use Rattle.device.proofs.Below.{count-is}
 
 -- ---- arrays
 
@@ -41,8 +42,7 @@ copied n b zs at z h q =
 
 module _ (b : List ℕ) (at n : ℕ) where
   pub long-found : {v : ℕ} → numberAt b at n ≡ Is v → v ≡ countAt b at n
-  unfolding countAt
-  long-found e = number-found b at n e .is
+  long-found e = number-found b at n e .is ∙ sym (count-is b at n)
 
   pub not-missing {ℓ} : {X : Type ℓ} → n ≤ 8 → at + n ≤ length b → numberAt b at n ≡ Missing → X
   not-missing w h e =

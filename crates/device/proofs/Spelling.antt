@@ -1,6 +1,6 @@
 -- Reading and writing settings and states undo each other.
 use Prim.Native.Nat.{ℕ, _+_, _≤_, _<_}
-use mathlib.Core.Path.{_≡_, refl, sym, ap, _∙_}
+use mathlib.Core.Path.{_≡_, refl, sym, ap, _∙_, subst}
 use mathlib.Core.Bool.{Bool, true, false, cond}
 use mathlib.Core.List.{List, [], _++_, append-assoc, append-nil}
 use native.Mathlib.Omega.{arith}
@@ -10,21 +10,23 @@ use lib.ListN.{length, take, drop, length-append, drop-of-length-le}
 use lib.Seq.{take-add, take-all}
 use Rattle.primitives.specs.Bytes.{AllBytes}
 use Rattle.primitives.specs.Number.{bytesOf, countAt}
+use Rattle.primitives.specs.Questions.{ask}
 use Rattle.primitives.specs.Counter.{widthGood, counterFits, counterBytes, counterValue}
 use Rattle.primitives.proofs.ByteLists.{bytes-take, bytes-drop}
 use Rattle.primitives.proofs.Numbers.{length-bytesOf}
-use Rattle.primitives.proofs.Twos.{fits-wide, counter-back, counter-whole, length-counterBytes}
+use Rattle.primitives.proofs.Twos.{width-test, fits-wide, counter-back, counter-whole, length-counterBytes}
+use Rattle.primitives.proofs.Rows.{ifZero-yes}
 use Rattle.receipt.specs.declared.settings.Name.{Name}
 use Rattle.receipt.specs.declared.settings.Settings.{Settings}
-use Rattle.receipt.specs.declared.details.Details.{Details}
-use Rattle.journal.specs.Issuing.{issueNumber, textOf, issued}
-use Rattle.journal.specs.Step.{next}
+use Rattle.receipt.proofs.Names.{settings-zero}
+use Rattle.journal.specs.State.{TypedRegister, TypedState}
+use Rattle.journal.specs.Issuing.{issued}
 use Rattle.journal.specs.declared.state.State.{State}
-use Rattle.primitives.proofs.Rows.{ifZero-no}
 use Rattle.journal.proofs.Places.{part-at, count-in, part-length, count-bytes}
 use Rattle.device.specs.Layout.{nameBytes, settingsBytes, figuresBytes, stateBytes, nameAt, settingsAt, widthAt, keyAt, stateAt, settingsOf, widthOf, keyOf, stateOf, kept}
-use Rattle.device.specs.Laws.{SettingsAreRead, SettingsBytesAreKept, StateIsRead, BytesAreKept, RefusedIssueKeepsState}
-use Rattle.journal.specs.State.{TypedRegister, TypedState}
+use Rattle.device.specs.Calls.{settingsFrom, widthWith, settingsAnswer, settingsBuffer}
+use Rattle.device.specs.Laws.{SettingsAreRead, WrittenSettingsAreRead, SettingsBytesAreKept, StateIsRead, BytesAreKept}
+use Rattle.device.proofs.Sizes.{width-whole, key-long, from-typed, good-register}
 use Rattle.device.proofs.Writers.{front-long, names-long, length-settings, length-state}
 
 -- ---- what was written is read
@@ -51,14 +53,14 @@ module _ (s : Settings) (n : ℕ) (key : List ℕ) (t : TypedRegister s n key) (
   csp-read =
       let q = nameBytes (s .id) ++ (nameBytes (s .serial) ++ (bytesOf 8 n ++ (key ++ more))) in
       let e : b ≡ [] ++ (s .csp ++ q) = simp append-assoc in
-      ap (λ (x : List ℕ). take 3 (drop 0 x)) e ∙ part-at [] (s .csp) q 0 3 refl (t .settings .lengths .csp)
+      ap (λ (x : List ℕ). take 3 (drop 0 x)) e ∙ part-at [] (s .csp) q 0 3 refl (t .settings .csp)
 
   id-read : nameAt b 3 ≡ s .id
   unfolding b settingsBytes
   id-read =
       let q = nameBytes (s .serial) ++ (bytesOf 8 n ++ (key ++ more)) in
       let e : b ≡ s .csp ++ (nameBytes (s .id) ++ q) = simp append-assoc in
-      ap (λ (x : List ℕ). nameAt x 3) e ∙ name-in (s .csp) q (s .id) 3 (t .settings .lengths .csp) (t .settings .lengths .id) (t .id)
+      ap (λ (x : List ℕ). nameAt x 3) e ∙ name-in (s .csp) q (s .id) 3 (t .settings .csp) (t .settings .id) (t .id)
 
   serial-read : nameAt b 43 ≡ s .serial
   unfolding b settingsBytes
@@ -66,7 +68,7 @@ module _ (s : Settings) (n : ℕ) (key : List ℕ) (t : TypedRegister s n key) (
       let q = bytesOf 8 n ++ (key ++ more) in
       let e : b ≡ (s .csp ++ nameBytes (s .id)) ++ (nameBytes (s .serial) ++ q) = simp append-assoc in
       ap (λ (x : List ℕ). nameAt x 43) e
-      ∙ name-in (s .csp ++ nameBytes (s .id)) q (s .serial) 43 (front-long s (t .settings .lengths)) (t .settings .lengths .serial) (t .serial)
+      ∙ name-in (s .csp ++ nameBytes (s .id)) q (s .serial) 43 (front-long s (t .settings)) (t .settings .serial) (t .serial)
 
   settings-read : settingsAt b ≡ s
   unfolding settingsAt
@@ -78,14 +80,14 @@ module _ (s : Settings) (n : ℕ) (key : List ℕ) (t : TypedRegister s n key) (
       let p = s .csp ++ nameBytes (s .id) ++ nameBytes (s .serial) in
       let e : b ≡ p ++ (bytesOf 8 n ++ (key ++ more)) = simp append-assoc in
       ap (λ (x : List ℕ). countAt x 83 8) e
-      ∙ count-in p (key ++ more) 83 8 n (names-long s (t .settings .lengths)) (omega (arith, t .width))
+      ∙ count-in p (key ++ more) 83 8 n (names-long s (t .settings)) (omega (arith, t .width))
 
   key-read : keyAt b ≡ key
   unfolding b settingsBytes keyAt
   key-read =
       let p = s .csp ++ nameBytes (s .id) ++ nameBytes (s .serial) in
       let e : b ≡ (p ++ bytesOf 8 n) ++ (key ++ more) = simp append-assoc in
-      let l : length (p ++ bytesOf 8 n) ≡ 91 = length-append p (bytesOf 8 n) ∙ omega (arith, names-long s (t .settings .lengths), length-bytesOf 8 n) in
+      let l : length (p ++ bytesOf 8 n) ≡ 91 = length-append p (bytesOf 8 n) ∙ omega (arith, names-long s (t .settings), length-bytesOf 8 n) in
       ap (λ (x : List ℕ). take 32 (drop 91 x)) e ∙ part-at (p ++ bytesOf 8 n) key more 91 32 l (t .keyLength)
 
 pub settings-are-read : SettingsAreRead
@@ -93,12 +95,22 @@ unfolding b settingsOf widthOf keyOf
 settings-are-read s n key t =
     let x = settingsBytes s n key in
     let e : x ++ [] ≡ x = append-nil x in
-    let f = eq-eqb (length x) 123 (length-settings s (t .settings .lengths) n key (t .keyLength)) in
+    let f = eq-eqb (length x) 123 (length-settings s (t .settings) n key (t .keyLength)) in
     rw f (ap settingsAt (sym e) ∙ settings-read s n key t [], ap widthAt (sym e) ∙ width-read s n key t [], ap keyAt (sym e) ∙ key-read s n key t [])
 
+pub written-settings-are-read : WrittenSettingsAreRead
+unfolding settingsAnswer settingsBuffer
+written-settings-are-read csp id serial key n out b z =
+    let s = settingsFrom csp id serial in
+    let a = settings-zero s (widthWith key n) (ask (eqb (length out) 123) 23 0) z in
+    let l = key-long key n (a .1) in
+    let w : widthGood n ≡ true = subst (λ (k : ℕ). widthGood k ≡ true) (width-whole key n l) (a .1) in
+    let e : settingsBuffer s key n out ≡ settingsBytes s n key = ifZero-yes (settingsBytes s n key) out z in
+    let r = settings-are-read s n key (good-register s n key (from-typed csp id serial) (a .0) w l b) in
+    (ap settingsOf e ∙ r .0, ap widthOf e ∙ r .1, ap keyOf e ∙ r .2)
+
 eight-good : widthGood 8 ≡ true
-unfolding widthGood
-eight-good = refl
+eight-good = sym (width-test 8 (omega arith))
 
 module _ (st : State) (t : TypedState st) where
   x : List ℕ
@@ -106,7 +118,7 @@ module _ (st : State) (t : TypedState st) where
 
   x-long : length x ≡ 123
   unfolding x
-  x-long = length-settings (st .settings) (t .register .settings .lengths) (st .width) (st .key) (t .register .keyLength)
+  x-long = length-settings (st .settings) (t .register .settings) (st .width) (st .key) (t .register .keyLength)
 
   -- what stands before each figure
   before-last : length (x ++ counterBytes 8 (st .counter)) ≡ 131
@@ -188,7 +200,7 @@ pub state-is-read : StateIsRead
 unfolding stateOf
 state-is-read st t =
     let r = t .register in
-    rw (eq-eqb (length (stateBytes st)) 155 (length-state st (r .settings .lengths) (r .keyLength) (t .chain))) (state-read st t)
+    rw (eq-eqb (length (stateBytes st)) 155 (length-state st (r .settings) (r .keyLength) (t .chain))) (state-read st t)
 
 -- ---- what was read is written
 
@@ -255,19 +267,12 @@ pub bytes-are-kept : BytesAreKept
 unfolding stateOf
 bytes-are-kept b a e = rw (eq-eqb (length b) 155 e) (state-again b a e)
 
--- ---- a refused Issue
+-- ---- a state that was read is kept as it was
 
-same-state : (st : State) (d : Details) (sig : List ℕ) (room : ℕ) → (issued st d sig room .number ≡ 0 → ⊥) → issued st d sig room .state ≡ st
-unfolding issued
-same-state st d sig room h = ifZero-no (issueNumber st d sig room) (next st d (textOf st d sig)) st h
-
-kept-as-it-was : (b : List ℕ) → AllBytes b → kept b (stateOf b) ≡ b
+pub kept-as-it-was : (b : List ℕ) → AllBytes b → kept b (stateOf b) ≡ b
 unfolding kept
 kept-as-it-was b a = go (eqb (length b) 155) refl
   where
     go : (t : Bool) → eqb (length b) 155 ≡ t → cond t (stateBytes (stateOf b)) b ≡ b
     go true e = bytes-are-kept b a (eqb-true (length b) 155 e)
     go false e = refl
-
-pub refused-issue-keeps-state : RefusedIssueKeepsState
-refused-issue-keeps-state b a d sig room h = ap (kept b) (same-state (stateOf b) d sig room h) ∙ kept-as-it-was b a

@@ -24,6 +24,8 @@ use Rattle.primitives.specs.Answers.{written, answerWith, bufferWith}
 use Rattle.primitives.specs.declared.answer.Answer.{Answer}
 use Rattle.receipt.specs.declared.machine_code.Part.{Part}
 use Rattle.device.specs.Texts.{fieldsNumber, fieldsLength, hashNumber, hashBuffer, alphabetOf, encodeAnswer, encodeBuffer, decodeAnswer, decodeBuffer, writtenNumber, decodedLength, decodedNumber}
+use Rattle.device.proofs.Below as below
+use Rattle.device.proofs.Below.{written-is, written-room}
 
 -- an answer in its two parts, beside the output
 pub parts-of : {a e : Answer} {b b₁ : List ℕ} → (a ≡ e) × (b ≡ b₁) → (a .number ≡ e .number) × (b ≡ b₁) × (a .length ≡ e .length)
@@ -99,20 +101,17 @@ module _ (a : Alphabet) (xs out : List ℕ) where
 
   pub encoded : {n end : ℕ} → end ≡ behind out 0 (encoding a xs) → n ≡ writtenNumber (length xs) end
       → (n ≡ written out (encoding a xs) .number) × (end ≡ written out (encoding a xs) .length)
-  unfolding written room
   encoded {n} {end} e q = go (leb (0 + length (encoding a xs)) (length out)) refl
     where
-      go : (t : Bool) → leb (0 + length (encoding a xs)) (length out) ≡ t
-          → (n ≡ cond {A = Answer} t (record { number = 0; length = length (encoding a xs) }) (record { number = 23; length = 0 }) .number)
-          × (end ≡ cond {A = Answer} t (record { number = 0; length = length (encoding a xs) }) (record { number = 23; length = 0 }) .length)
+      go : (t : Bool) → leb (0 + length (encoding a xs)) (length out) ≡ t → (n ≡ written out (encoding a xs) .number) × (end ≡ written out (encoding a xs) .length)
       go true f =
           let r = leb-true (0 + length (encoding a xs)) (length out) f in
           let w = e ∙ behind-room out 0 (encoding a xs) r in
-          (q ∙ ap (writtenNumber (length xs)) w ∙ sym (fitted r), w ∙ omega arith)
+          rw (written-room out (encoding a xs) (omega arith)) (q ∙ ap (writtenNumber (length xs)) w ∙ sym (fitted r), w ∙ omega arith)
       go false f =
           let r = leb-false (0 + length (encoding a xs)) (length out) f in
           let w = e ∙ behind-full out 0 (encoding a xs) r in
-          (q ∙ ap (writtenNumber (length xs)) w ∙ sym (cut-off r), w)
+          rw (below.written-full out (encoding a xs) (omega arith)) (q ∙ ap (writtenNumber (length xs)) w ∙ sym (cut-off r), w)
 
 pub encode-is : (url : ℕ) (xs out : List ℕ) {a : Alphabet} {n end : ℕ} {b : List ℕ} → a ≡ alphabetOf url
     → (end ≡ behind out 0 (encoding a xs)) × (b ≡ placed out 0 (encoding a xs)) → n ≡ writtenNumber (length xs) end
@@ -124,18 +123,16 @@ encode-is url xs out ea p q =
 
 module _ (out : List ℕ) where
   number-of : (o : Option (List ℕ)) → decodedNumber (answerOf o out 0) ≡ answerWith 22 o out .number
-  unfolding written
   number-of none = refl
-  number-of (some ys) = go (room out 0 ys)
+  number-of (some ys) = go (room out 0 ys) ∙ sym (ap (λ (x : Answer). x .number) (written-is out ys))
     where
       go : (t : Bool) → decodedNumber (cond t (Upto (0 + length ys)) NoRoom) ≡ cond {A = Answer} t (record { number = 0; length = length ys }) (record { number = 23; length = 0 }) .number
       go true = refl
       go false = refl
 
   length-of : (o : Option (List ℕ)) → decodedLength (answerOf o out 0) ≡ answerWith 22 o out .length
-  unfolding written
   length-of none = refl
-  length-of (some ys) = go (room out 0 ys)
+  length-of (some ys) = go (room out 0 ys) ∙ sym (ap (λ (x : Answer). x .length) (written-is out ys))
     where
       go : (t : Bool) → decodedLength (cond t (Upto (0 + length ys)) NoRoom) ≡ cond {A = Answer} t (record { number = 0; length = length ys }) (record { number = 23; length = 0 }) .length
       go true = omega arith

@@ -5,14 +5,15 @@ use native.Mathlib.Omega.{arith}
 use borrow.Author.Tests.{le-ltb}
 use Rattle.primitives.specs.Number.{bytesOf}
 use Rattle.primitives.specs.Counter.{widthGood, half, fitsIn, counterFits, twos, counterBytes}
-use Rattle.receipt.specs.Settings.{between, cspGood, settingsGood}
+use Rattle.primitives.proofs.Rows.{ask-no}
+use Rattle.receipt.specs.Settings.{between, cspGood, settingsGood, settingsNumber}
 use Rattle.journal.specs.State.{unopened}
 use Rattle.primitives.specs.Questions.{ask}
 use Rattle.journal.specs.Opening.{openNumber}
 use Rattle.journal.specs.Step.{soundAlone, sound, numberAbove, detailsNumber}
 use Rattle.journal.specs.Issuing.{issueNumber}
 use Rattle.journal.specs.Preparing.{prepareNumber}
-use Rattle.device.specs.Layout.{settingsBytes, figuresBytes, stateBytes, noSettings}
+use Rattle.device.specs.Layout.{settingsBytes, figuresBytes, stateBytes}
 use Rattle.device.specs.Calls.{noDetails}
 use Rattle.device.specs.Laws.{UnopenedIsZero, NoSettingsGetOne, UnopenedGetsSix, NoKindGetsSeven}
 
@@ -20,13 +21,17 @@ pub unopened-is-zero : UnopenedIsZero
 unfolding stateBytes settingsBytes figuresBytes unopened bytesOf counterBytes counterFits fitsIn half widthGood twos
 unopened-is-zero = refl
 
+csp-bad : cspGood (unopened .settings .csp) ≡ false
+unfolding unopened cspGood between
+csp-bad = refl
+
 pub no-settings-get-one : NoSettingsGetOne
-unfolding openNumber noSettings cspGood between ask
-no-settings-get-one n room = refl
+unfolding openNumber settingsNumber
+no-settings-get-one n room = ask-no 1 _ csp-bad
 
 unopened-unsound : soundAlone unopened ≡ false
-unfolding soundAlone settingsGood unopened cspGood between
-unopened-unsound = refl
+unfolding soundAlone settingsGood
+unopened-unsound = rw csp-bad
 
 pub unopened-gets-six : UnopenedGetsSix
 unfolding issueNumber prepareNumber sound ask

@@ -5,46 +5,48 @@ use mathlib.Core.List.{List, [], _∷_}
 use lib.Dec.{eqb}
 use lib.IntN.{ℤ, pos}
 use lib.ListN.{length, replicate}
-use Rattle.primitives.specs.Counter.{widthGood}
-use Rattle.receipt.specs.Settings.{nameOf, cspGood, idGood, serialGood}
+use Rattle.primitives.specs.Questions.{ask, ifZero}
+use Rattle.receipt.specs.Settings.{nameOf, settingsNumber}
 use Rattle.receipt.specs.declared.settings.Settings.{Settings}
 use Rattle.receipt.specs.declared.datetime.DateTime.{DateTime}
 use Rattle.receipt.specs.declared.details.Kind.{Kind}
 use Rattle.receipt.specs.declared.details.Kind.the-variants.{Standard, Cancellation, Training}
 use Rattle.receipt.specs.declared.details.Details.{Details}
 use Rattle.journal.specs.State.{unopened}
-use Rattle.primitives.specs.Questions.{ask, ifZero}
 use Rattle.journal.specs.Opening.{opened, openBuffer}
+use Rattle.journal.specs.Issuing.{issued, issueBuffer}
+use Rattle.journal.specs.Calls.{Call}
 use Rattle.journal.specs.Checking.{takeOver}
 use Rattle.journal.specs.declared.state.Opened.{Opened}
+use Rattle.journal.specs.declared.state.Issued.{Issued}
 use Rattle.journal.specs.declared.state.TakenOver.{TakenOver}
-use Rattle.device.specs.Layout.{settingsBytes, settingsOf, widthOf, keyOf}
+use Rattle.device.specs.Layout.{settingsBytes, arrayOf, settingsOf, widthOf, keyOf, stateOf, kept}
 
 -- ---- settings
 
--- three bytes, and zeros where the slice has another length
-unfoldable pub cspOf : List ℕ → List ℕ
-cspOf csp = cond (eqb (length csp) 3) csp (replicate 3 0)
-
 unfoldable pub settingsFrom : List ℕ → List ℕ → List ℕ → Settings
-settingsFrom csp id serial = record { csp = cspOf csp; id = nameOf id; serial = nameOf serial }
+settingsFrom csp id serial = record { csp = arrayOf 3 csp; id = nameOf id; serial = nameOf serial }
 
--- a key of 32 bytes, and zeros where the slice has another length
-unfoldable pub keyFrom : List ℕ → List ℕ
-keyFrom key = cond (eqb (length key) 32) key (replicate 32 0)
-
--- the width that comes with a key: 0, which is no width, where the key has not 32 bytes
+-- the width that comes with a key: 0, which is no width, where the key is not 32 bytes long
 unfoldable pub widthWith : List ℕ → ℕ → ℕ
 widthWith key n = cond (eqb (length key) 32) n 0
 
 -- questions 1 to 4, then 23 for an output of this length
-unfoldable pub settingsNumber : Settings → ℕ → ℕ → ℕ
-settingsNumber s n room =
-    ask (cspGood (s .csp)) 1 (ask (idGood (s .id)) 2 (ask (serialGood (s .serial)) 3 (ask (widthGood n) 4 (ask (eqb room 123) 23 0))))
+unfoldable pub settingsAnswer : Settings → ℕ → ℕ → ℕ
+settingsAnswer s n room = settingsNumber s n (ask (eqb room 123) 23 0)
 
--- the output behind the call
+-- the output after the call
 unfoldable pub settingsBuffer : Settings → List ℕ → ℕ → List ℕ → List ℕ
-settingsBuffer s key n out = ifZero (settingsNumber s (widthWith key n) (length out)) (settingsBytes s n key) out
+settingsBuffer s key n out = ifZero (settingsAnswer s (widthWith key n) (length out)) (settingsBytes s n key) out
+
+-- ---- what a program holds: the bytes of a state, and the buffer of a journal
+
+pub record Slices : Type 0 where
+  pub state : List ℕ
+  pub journal : List ℕ
+
+abbrev pub slicesWith : List ℕ → List ℕ → Slices
+slicesWith state journal = record { state = state; journal = journal }
 
 -- ---- open
 
@@ -53,9 +55,17 @@ unfoldable pub openAnswer : List ℕ → ℕ → ℕ → Opened
 openAnswer settings room size =
     cond (eqb size 155) (opened (settingsOf settings) (keyOf settings) (widthOf settings) room) (record { number = 6; state = unopened })
 
--- the journal behind the call
-unfoldable pub openJournal : List ℕ → ℕ → List ℕ → List ℕ
-openJournal settings size journal = cond (eqb size 155) (openBuffer (settingsOf settings) (widthOf settings) journal) journal
+-- what ditgrux_open returns
+unfoldable pub openedNumber : List ℕ → Slices → ℕ
+openedNumber settings g = openAnswer settings (length (g .journal)) (length (g .state)) .number
+
+-- what it leaves; nothing is written where the state's slice is not 155 bytes long
+unfoldable pub openedSlices : List ℕ → Slices → Slices
+openedSlices settings g =
+    record {
+      state = kept (g .state) (openAnswer settings (length (g .journal)) (length (g .state)) .state);
+      journal = cond (eqb (length (g .state)) 155) (openBuffer (settingsOf settings) (widthOf settings) (g .journal)) (g .journal);
+    }
 
 -- ---- the details of a receipt
 
@@ -87,9 +97,72 @@ unfoldable pub detailsOf : ℕ → ℕ → ℕ → ℕ → ℕ → ℕ → ℕ �
 detailsOf number year month day hour minute second a b c d e kind =
     ofKind number (dateOf year month day hour minute second) (a ∷ b ∷ c ∷ d ∷ e ∷ []) kind
 
+-- ---- issue
+
+-- what a call of ditgrux_issue is given beside state and journal
+pub record IssueCall : Type 0 where
+  pub number : ℕ
+  pub year : ℕ
+  pub month : ℕ
+  pub day : ℕ
+  pub hour : ℕ
+  pub minute : ℕ
+  pub second : ℕ
+  pub standard : ℤ
+  pub reduced1 : ℤ
+  pub reduced2 : ℤ
+  pub zero : ℤ
+  pub special : ℤ
+  pub kind : ℕ
+  pub signature : List ℕ
+
+abbrev pub callWith : ℕ → ℕ → ℕ → ℕ → ℕ → ℕ → ℕ → ℤ → ℤ → ℤ → ℤ → ℤ → ℕ → List ℕ → IssueCall
+callWith number year month day hour minute second a b c d e kind signature =
+    record {
+      number = number;
+      year = year;
+      month = month;
+      day = day;
+      hour = hour;
+      minute = minute;
+      second = second;
+      standard = a;
+      reduced1 = b;
+      reduced2 = c;
+      zero = d;
+      special = e;
+      kind = kind;
+      signature = signature;
+    }
+
+-- the call of the journal that it makes
+unfoldable pub callIn : IssueCall → Call
+callIn c =
+    record {
+      details =
+          detailsOf (c .number) (c .year) (c .month) (c .day) (c .hour) (c .minute) (c .second) (c .standard) (c .reduced1) (c .reduced2) (c .zero) (c .special) (c .kind);
+      signature = c .signature;
+    }
+
+-- what the journal answers it: questions 6 to 13
+unfoldable pub issueAnswer : Slices → IssueCall → Issued
+issueAnswer g c = issued (stateOf (g .state)) (callIn c .details) (c .signature) (length (g .journal))
+
+-- what ditgrux_issue returns
+unfoldable pub issuedNumber : Slices → IssueCall → ℕ
+issuedNumber g c = issueAnswer g c .number
+
+-- what it leaves
+unfoldable pub issuedSlices : Slices → IssueCall → Slices
+issuedSlices g c =
+    record {
+      state = kept (g .state) (issueAnswer g c .state);
+      journal = issueBuffer (stateOf (g .state)) (callIn c .details) (c .signature) (g .journal);
+    }
+
 -- ---- take over
 
 -- the answer for a state's slice of this length: 6 with index 0, and then questions 4 and 14 to 21
 unfoldable pub takeOverAnswer : List ℕ → List ℕ → ℕ → ℕ → TakenOver
 takeOverAnswer journal key n size =
-    cond (eqb size 155) (takeOver journal (keyFrom key) (widthWith key n)) (record { number = 6; index = 0; state = unopened })
+    cond (eqb size 155) (takeOver journal (arrayOf 32 key) (widthWith key n)) (record { number = 6; index = 0; state = unopened })

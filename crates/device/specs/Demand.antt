@@ -1,112 +1,148 @@
 -- Demand 3 in bytes: what a C program holds after ditgrux_open and a list of ditgrux_issue, and what ditgrux_take_over answers it.
 use Prim.Native.Nat.{ℕ, _<_}
 use mathlib.Core.Path.{_≡_}
+use mathlib.Core.Bool.{true}
 use mathlib.Core.List.{List, [], _∷_, map}
-use lib.IntN.{ℤ}
-use lib.ListN.{length, take}
+use lib.IntN.{pos}
+use lib.ListN.{length, take, replicate, getD}
 use Rattle.primitives.specs.Bytes.{AllBytes}
-use Rattle.journal.specs.Issuing.{issued, issueBuffer}
-use Rattle.journal.specs.Receipts.{sum}
-use Rattle.journal.specs.Calls.{Call, Register, opening, numbersOf, receiptsOf}
+use Rattle.primitives.specs.Counter.{fitsIn}
+use Rattle.primitives.specs.Questions.{ifZero}
+use Rattle.receipt.specs.Settings.{nameText}
+use Rattle.receipt.specs.declared.settings.Settings.{Settings}
+use Rattle.receipt.specs.declared.details.Kind.{Kind}
+use Rattle.receipt.specs.declared.details.Kind.the-variants.{Standard, Cancellation, Training}
+use Rattle.receipt.specs.declared.details.Details.{Details}
+use Rattle.receipt.specs.declared.entry.Entry.{Entry}
+use Rattle.journal.specs.Receipts.{Receipt, receiptsIn, sum}
+use Rattle.journal.specs.Valid.{Valid}
+use Rattle.journal.specs.Calls.{Register, opening, numbersOf, receiptOfCall, callOf}
 use Rattle.device.specs.Layout.{settingsOf, widthOf, keyOf, stateOf, kept}
-use Rattle.device.specs.Calls.{openAnswer, openJournal, detailsOf, takeOverAnswer}
+use Rattle.device.specs.Calls.{settingsFrom, widthWith, settingsAnswer, settingsBuffer, Slices, openedNumber, openedSlices, IssueCall, callWith, callIn, issuedNumber, issuedSlices, takeOverAnswer}
 
--- ---- a call of ditgrux_issue
+-- ---- lists of calls of ditgrux_issue
 
--- what it is given beside state and journal
-pub record IssueCall : Type 0 where
-  pub number : ℕ
-  pub year : ℕ
-  pub month : ℕ
-  pub day : ℕ
-  pub hour : ℕ
-  pub minute : ℕ
-  pub second : ℕ
-  pub standard : ℤ
-  pub reduced1 : ℤ
-  pub reduced2 : ℤ
-  pub zero : ℤ
-  pub special : ℤ
-  pub kind : ℕ
-  pub signature : List ℕ
-
--- what the code's types say of it
+-- what C's types say of a call: numbers of 32 bits, amounts of 64 with their signs, and bytes
 pub record TypedIssueCall (c : IssueCall) : Type 0 where
   pub number : c .number < 4294967296
+  pub year : c .year < 4294967296
+  pub month : c .month < 4294967296
+  pub day : c .day < 4294967296
+  pub hour : c .hour < 4294967296
+  pub minute : c .minute < 4294967296
+  pub second : c .second < 4294967296
+  pub standard : fitsIn 8 (c .standard) ≡ true
+  pub reduced1 : fitsIn 8 (c .reduced1) ≡ true
+  pub reduced2 : fitsIn 8 (c .reduced2) ≡ true
+  pub zero : fitsIn 8 (c .zero) ≡ true
+  pub special : fitsIn 8 (c .special) ≡ true
+  pub kind : c .kind < 4294967296
   pub signature : AllBytes (c .signature)
 
 pub data TypedIssueCalls : List IssueCall → Type 0 where
   none : TypedIssueCalls []
   more : {c : IssueCall} {cs : List IssueCall} → TypedIssueCall c → TypedIssueCalls cs → TypedIssueCalls (c ∷ cs)
 
--- the call of the journal that it makes
-unfoldable pub callIn : IssueCall → Call
-callIn c =
-    record {
-      details =
-          detailsOf (c .number) (c .year) (c .month) (c .day) (c .hour) (c .minute) (c .second) (c .standard) (c .reduced1) (c .reduced2) (c .zero) (c .special) (c .kind);
-      signature = c .signature;
-    }
-
--- ---- what the program holds
-
-pub record Slices : Type 0 where
-  pub state : List ℕ
-  pub journal : List ℕ
-
--- what ditgrux_open leaves
-unfoldable pub openedSlices : List ℕ → List ℕ → List ℕ → Slices
-openedSlices settings journal state =
-    record {
-      state = kept state (openAnswer settings (length journal) (length state) .state);
-      journal = openJournal settings (length state) journal;
-    }
-
--- what ditgrux_issue leaves
-unfoldable pub issuedSlices : Slices → IssueCall → Slices
-issuedSlices g c =
-    record {
-      state = kept (g .state) (issued (stateOf (g .state)) (callIn c .details) (c .signature) (length (g .journal)) .state);
-      journal = issueBuffer (stateOf (g .state)) (callIn c .details) (c .signature) (g .journal);
-    }
-
--- each call gets the slices as the call before it left them
+-- "Each Issue gets the state that the call before it returned and the buffer as that call left it"
 unfoldable pub issuedAll : Slices → List IssueCall → Slices
 issuedAll g [] = g
 issuedAll g (c ∷ cs) = issuedAll (issuedSlices g c) cs
 
--- what ditgrux_issue returns, and what each call of a list returns
-unfoldable pub issuedNumber : Slices → IssueCall → ℕ
-issuedNumber g c = issued (stateOf (g .state)) (callIn c .details) (c .signature) (length (g .journal)) .number
-
+-- what each call returns
 unfoldable pub issuedNumbers : Slices → List IssueCall → List ℕ
 issuedNumbers g [] = []
 issuedNumbers g (c ∷ cs) = issuedNumber g c ∷ issuedNumbers (issuedSlices g c) cs
+
+-- the receipts of the calls that return 0, in order
+unfoldable pub issuedReceipts : Slices → List IssueCall → List Receipt
+issuedReceipts g [] = []
+issuedReceipts g (c ∷ cs) =
+    ifZero (issuedNumber g c) (receiptOfCall (callIn c) ∷ issuedReceipts (issuedSlices g c) cs) (issuedReceipts (issuedSlices g c) cs)
 
 -- the journal: as many bytes as ditgrux_journal_length says
 unfoldable pub journalIn : Slices → List ℕ
 journalIn g = take (stateOf (g .state) .length) (g .journal)
 
--- ---- the demand
+-- ---- what is accepted
 
--- the register of the journal that ditgrux_open makes of these settings and this journal
+-- "Accepted means that Take over returns no number, which is so exactly for a valid journal": with a key of 32 bytes and a state of 155
+abbrev pub AcceptedIsValidInC : Type 0
+AcceptedIsValidInC =
+    (j key : List ℕ) (n size : ℕ) → AllBytes j
+    → (takeOverAnswer j key n size .number ≡ 0 → (size ≡ 155) × (length key ≡ 32) × Valid j key n)
+    × (size ≡ 155 → length key ≡ 32 → Valid j key n → takeOverAnswer j key n size .number ≡ 0)
+
+-- ---- what is written is accepted
+
+-- the register of the journal that ditgrux_open makes of these settings and this buffer
 abbrev pub registerIn : List ℕ → List ℕ → Register
-registerIn settings journal = opening (settingsOf settings) (keyOf settings) (widthOf settings) journal
+registerIn settings buffer = opening (settingsOf settings) (keyOf settings) (widthOf settings) buffer
 
--- what holds of the slices g behind the calls cs and of what the calls returned, since ditgrux_open got these settings and this journal
-pub record WrittenFromC (settings journal : List ℕ) (cs : List IssueCall) (g : Slices) (returned : List ℕ) : Type 0 where
+-- what holds of the slices that the calls left, and of the receipts rs of those that returned 0, since ditgrux_open got these settings
+pub record WrittenInC (settings : List ℕ) (left : Slices) (rs : List Receipt) : Type 0 where
   -- ditgrux_take_over accepts the journal under the key and the width of the settings, with the register's own state
-  pub taken : takeOverAnswer (journalIn g) (keyOf settings) (widthOf settings) 155 ≡ record { number = 0; index = 0; state = stateOf (g .state) }
+  pub taken : takeOverAnswer (journalIn left) (keyOf settings) (widthOf settings) 155 ≡ record { number = 0; index = 0; state = stateOf (left .state) }
   -- the bytes that it writes into any state's slice are those of the register's state
-  pub state : (out : List ℕ) → length out ≡ 155 → kept out (stateOf (g .state)) ≡ g .state
-  -- the calls returned the numbers of the journal's calls
-  pub numbers : returned ≡ numbersOf (registerIn settings journal) (map callIn cs)
-  -- the counter is the sum of the amounts of the receipts other than training, of the calls that returned 0
-  pub counter : stateOf (g .state) .counter ≡ sum (receiptsOf (registerIn settings journal) (map callIn cs))
+  pub state : (out : List ℕ) → length out ≡ 155 → kept out (stateOf (left .state)) ≡ left .state
+  -- the journal is valid, and its receipts are those of the calls, in order
+  pub valid : Valid (journalIn left) (keyOf settings) (widthOf settings)
+  pub receipts : (v : Valid (journalIn left) (keyOf settings) (widthOf settings)) → receiptsIn (v .entries) ≡ rs
+  -- the counter that ditgrux_counter returns is the sum of their amounts
+  pub counter : stateOf (left .state) .counter ≡ sum rs
 
--- from a ditgrux_open that returned 0, after every list of calls
-abbrev pub CallsFromC : Type 0
-CallsFromC =
-    (settings journal state : List ℕ) → AllBytes settings → length journal < 18446744073709551616
-    → openAnswer settings (length journal) (length state) .number ≡ 0 → (cs : List IssueCall) → TypedIssueCalls cs
-    → WrittenFromC settings journal cs (issuedAll (openedSlices settings journal state) cs) (issuedNumbers (openedSlices settings journal state) cs)
+-- from a ditgrux_open that returned 0, after every list of calls; and they return the numbers of the journal's calls
+abbrev pub WrittenIsAcceptedInC : Type 0
+WrittenIsAcceptedInC =
+    (settings : List ℕ) (g : Slices) → AllBytes settings → length (g .journal) < 18446744073709551616 → openedNumber settings g ≡ 0
+    → (cs : List IssueCall) → TypedIssueCalls cs
+    → WrittenInC settings (issuedAll (openedSlices settings g) cs) (issuedReceipts (openedSlices settings g) cs)
+    × (issuedNumbers (openedSlices settings g) cs ≡ numbersOf (registerIn settings (g .journal)) (map callIn cs))
+
+-- ---- what is accepted is written
+
+-- CSP, ID and serial of a head, as ditgrux_settings makes settings of them
+abbrev pub settingsAgain : Settings → Settings
+settingsAgain s = settingsFrom (s .csp) (nameText (s .id)) (nameText (s .serial))
+
+abbrev pub kindNumber : Kind → ℕ
+kindNumber Standard = 0
+kindNumber Cancellation = 1
+kindNumber Training = 2
+
+-- the call with these details
+abbrev pub callWithDetails : Details → List ℕ → IssueCall
+callWithDetails d signature =
+    callWith (d .number) (d .date .year) (d .date .month) (d .date .day) (d .date .hour) (d .date .minute) (d .date .second) (getD (d .amounts) 0 (pos 0))
+    (getD (d .amounts) 1 (pos 0)) (getD (d .amounts) 2 (pos 0)) (getD (d .amounts) 3 (pos 0)) (getD (d .amounts) 4 (pos 0)) (kindNumber (d .kind)) signature
+
+-- the call that issues the receipt of an entry: with its 64 signature bytes, or with none where the device had failed
+unfoldable pub issueCallOf : Entry → IssueCall
+issueCallOf e = callWithDetails (e .fields .details) (callOf e .signature)
+
+-- what holds where the entries es of the journal j are issued anew, from the slices g that ditgrux_open left
+pub record AgainInC (j key : List ℕ) (n : ℕ) (es : List Entry) (g : Slices) : Type 0 where
+  -- one call for each entry, such as C's types allow: each returns 0
+  pub typed : TypedIssueCalls (map issueCallOf es)
+  pub none : issuedNumbers g (map issueCallOf es) ≡ replicate (length es) 0
+  -- the buffer is the journal, byte by byte
+  pub journal : issuedAll g (map issueCallOf es) .journal ≡ j
+  -- the state's bytes are those that ditgrux_take_over writes into any state's slice
+  pub state : (out : List ℕ) → length out ≡ 155 → issuedAll g (map issueCallOf es) .state ≡ kept out (takeOverAnswer j key n 155 .state)
+  -- the counter that ditgrux_counter returns is the sum of the amounts
+  pub counter : stateOf (issuedAll g (map issueCallOf es) .state) .counter ≡ sum (receiptsIn es)
+
+-- for every accepted journal: ditgrux_settings returns 0 with the CSP, ID and serial of its head and the key and width under which it was accepted,
+-- ditgrux_open returns 0 with what it writes "and any buffer of its length", and then the entries are issued anew
+abbrev pub AcceptedIsWrittenInC : Type 0
+AcceptedIsWrittenInC =
+    (j key : List ℕ) (n : ℕ) → length j < 18446744073709551616 → AllBytes key → length key ≡ 32 → (v : Valid j key n)
+    → (out : List ℕ) → length out ≡ 123 → (g : Slices) → length (g .journal) ≡ length j → length (g .state) ≡ 155
+    → (settingsAnswer (settingsAgain (v .settings)) (widthWith key n) (length out) ≡ 0)
+    × (openedNumber (settingsBuffer (settingsAgain (v .settings)) key n out) g ≡ 0)
+    × AgainInC j key n (v .entries) (openedSlices (settingsBuffer (settingsAgain (v .settings)) key n out) g)
+
+-- demand 3 of the C library as one theorem
+pub record WritingAndCheckingAgreeInC : Type 0 where
+  pub accepted : AcceptedIsValidInC
+  pub forth : WrittenIsAcceptedInC
+  pub back : AcceptedIsWrittenInC

@@ -1,22 +1,19 @@
 -- What holds of the bytes of settings and states. Proved in proofs/.
-use Prim.Native.Nat.{ℕ, _<_}
+use Prim.Native.Nat.{ℕ}
 use mathlib.Core.Path.{_≡_}
-use mathlib.Core.Bool.{true}
 use mathlib.Core.List.{List}
 use lib.ListN.{length, replicate}
 use Rattle.primitives.specs.Bytes.{AllBytes}
-use Rattle.primitives.specs.Counter.{fitsIn}
 use Rattle.receipt.specs.declared.settings.Settings.{Settings}
 use Rattle.receipt.specs.declared.details.Details.{Details}
-use Rattle.journal.specs.State.{unopened}
-use Rattle.receipt.specs.Settings.{TypedSettings}
+use Rattle.journal.specs.State.{unopened, TypedRegister, TypedState}
 use Rattle.journal.specs.Opening.{openNumber}
 use Rattle.journal.specs.Preparing.{prepareNumber}
 use Rattle.journal.specs.Step.{detailsNumber}
-use Rattle.journal.specs.Issuing.{issueNumber, issued}
+use Rattle.journal.specs.Issuing.{issueNumber}
 use Rattle.journal.specs.declared.state.State.{State}
-use Rattle.device.specs.Layout.{settingsBytes, stateBytes, noSettings, settingsOf, widthOf, keyOf, stateOf, kept}
-use Rattle.device.specs.Calls.{noDetails}
+use Rattle.device.specs.Layout.{settingsBytes, stateBytes, settingsOf, widthOf, keyOf, stateOf}
+use Rattle.device.specs.Calls.{settingsFrom, widthWith, settingsAnswer, settingsBuffer, noDetails, Slices, IssueCall, issuedNumber, issuedSlices}
 
 -- ---- reading and writing undo each other
 
@@ -24,6 +21,14 @@ abbrev pub SettingsAreRead : Type 0
 SettingsAreRead =
     (s : Settings) (n : ℕ) (key : List ℕ) → TypedRegister s n key
     → (settingsOf (settingsBytes s n key) ≡ s) × (widthOf (settingsBytes s n key) ≡ n) × (keyOf (settingsBytes s n key) ≡ key)
+
+-- what ditgrux_settings writes where it returns 0 is what it was given
+abbrev pub WrittenSettingsAreRead : Type 0
+WrittenSettingsAreRead =
+    (csp id serial key : List ℕ) (n : ℕ) (out : List ℕ) → AllBytes key → settingsAnswer (settingsFrom csp id serial) (widthWith key n) (length out) ≡ 0
+    → (settingsOf (settingsBuffer (settingsFrom csp id serial) key n out) ≡ settingsFrom csp id serial)
+    × (widthOf (settingsBuffer (settingsFrom csp id serial) key n out) ≡ n)
+    × (keyOf (settingsBuffer (settingsFrom csp id serial) key n out) ≡ key)
 
 abbrev pub SettingsBytesAreKept : Type 0
 SettingsBytesAreKept = (b : List ℕ) → AllBytes b → length b ≡ 123 → settingsBytes (settingsOf b) (widthOf b) (keyOf b) ≡ b
@@ -41,7 +46,7 @@ UnopenedIsZero = stateBytes unopened ≡ replicate 155 0
 
 -- settings of another length get 1, a state of another length gets 6, and a kind that is none gets 7
 abbrev pub NoSettingsGetOne : Type 0
-NoSettingsGetOne = (n room : ℕ) → openNumber noSettings n room ≡ 1
+NoSettingsGetOne = (n room : ℕ) → openNumber (unopened .settings) n room ≡ 1
 
 abbrev pub UnopenedGetsSix : Type 0
 UnopenedGetsSix = (d : Details) (sig : List ℕ) (room : ℕ) → (issueNumber unopened d sig room ≡ 6) × (prepareNumber unopened d room ≡ 6)
@@ -49,9 +54,7 @@ UnopenedGetsSix = (d : Details) (sig : List ℕ) (room : ℕ) → (issueNumber u
 abbrev pub NoKindGetsSeven : Type 0
 NoKindGetsSeven = (st : State) (rest : ℕ) → detailsNumber st noDetails rest ≡ 7
 
--- ---- a refused Issue leaves the bytes of the state as they were, also those of a slice that has not 155
+-- ---- a refused ditgrux_issue leaves the bytes of the state and the journal as they were, also where the state is not 155 bytes long
 
-abbrev pub RefusedIssueKeepsState : Type 0
-RefusedIssueKeepsState =
-    (b : List ℕ) → AllBytes b → (d : Details) (sig : List ℕ) (room : ℕ) → (issued (stateOf b) d sig room .number ≡ 0 → ⊥)
-    → kept b (issued (stateOf b) d sig room .state) ≡ b
+abbrev pub RefusedIssueKeepsSlices : Type 0
+RefusedIssueKeepsSlices = (g : Slices) → AllBytes (g .state) → (c : IssueCall) → (issuedNumber g c ≡ 0 → ⊥) → issuedSlices g c ≡ g

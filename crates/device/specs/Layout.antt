@@ -9,7 +9,7 @@ use Rattle.primitives.specs.Number.{bytesOf, countAt}
 use Rattle.primitives.specs.Counter.{counterBytes, counterValue}
 use Rattle.receipt.specs.declared.settings.Name.{Name}
 use Rattle.receipt.specs.declared.settings.Settings.{Settings}
-use Rattle.journal.specs.State.{noName, unopened}
+use Rattle.journal.specs.State.{unopened}
 use Rattle.journal.specs.declared.state.State.{State}
 
 -- ---- writing
@@ -60,13 +60,13 @@ stateAt b =
 
 -- ---- slices of any length
 
--- settings that are all zero
-unfoldable pub noSettings : Settings
-noSettings = record { csp = replicate 3 0; id = noName; serial = noName }
+-- n bytes: the slice, and zeros where it is not n bytes long
+unfoldable pub arrayOf : ℕ → List ℕ → List ℕ
+arrayOf n b = cond (eqb (length b) n) b (replicate n 0)
 
--- settings, width and key in a slice: all zero where it has not 123 bytes
+-- settings, width and key in a slice: all zero, as in the unopened state, where it is not 123 bytes long
 unfoldable pub settingsOf : List ℕ → Settings
-settingsOf b = cond (eqb (length b) 123) (settingsAt b) noSettings
+settingsOf b = cond (eqb (length b) 123) (settingsAt b) (unopened .settings)
 
 unfoldable pub widthOf : List ℕ → ℕ
 widthOf b = cond (eqb (length b) 123) (widthAt b) 0
@@ -74,10 +74,10 @@ widthOf b = cond (eqb (length b) 123) (widthAt b) 0
 unfoldable pub keyOf : List ℕ → List ℕ
 keyOf b = cond (eqb (length b) 123) (keyAt b) (replicate 32 0)
 
--- the state in a slice: the unopened one where it has not 155 bytes
+-- the state in a slice: the unopened one where it is not 155 bytes long
 unfoldable pub stateOf : List ℕ → State
 stateOf b = cond (eqb (length b) 155) (stateAt b) unopened
 
--- what a state's slice holds after a call: the state, and what it held where it has not 155 bytes
+-- what a state's slice holds after a call: the state, and what it held before where it is not 155 bytes long
 unfoldable pub kept : List ℕ → State → List ℕ
 kept b st = cond (eqb (length b) 155) (stateBytes st) b

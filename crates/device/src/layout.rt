@@ -10,7 +10,7 @@ ghost use lib.ListN.{length, take, drop};
 ghost use Rattle.primitives.specs.Place.{overwrite};
 ghost use Rattle.primitives.specs.Number.{bytesOf, countAt};
 ghost use Rattle.primitives.specs.Counter.{counterBytes, counterValue};
-ghost use Rattle.device.specs.Layout.{nameBytes, settingsBytes, stateBytes, nameAt, settingsAt, widthAt, keyAt, stateAt, noSettings, settingsOf, widthOf, keyOf, stateOf, kept};
+ghost use Rattle.device.specs.Layout.{nameBytes, settingsBytes, stateBytes, nameAt, settingsAt, widthAt, keyAt, stateAt, settingsOf, widthOf, keyOf, stateOf, kept};
 
 // The bytes of settings, and those of a state.
 pub(crate) const SETTINGS: usize = 123;
@@ -19,7 +19,7 @@ pub(crate) const STATE: usize = 155;
 
 // ---- reading
 
-fn array3_at(b: &[u8], at: usize) -> [u8; 3]
+pub(crate) fn array3_at(b: &[u8], at: usize) -> [u8; 3]
     requires { ⌜ at + 3 ≤ length (now b) ⌝ }
     ensures { λ r. ⌜ r ≡ take 3 (drop at (now (b .entry))) ⌝ }
 {
@@ -39,7 +39,7 @@ fn array8_at(b: &[u8], at: usize) -> [u8; 8]
     r
 }
 
-fn array32_at(b: &[u8], at: usize) -> [u8; 32]
+pub(crate) fn array32_at(b: &[u8], at: usize) -> [u8; 32]
     requires { ⌜ at + 32 ≤ length (now b) ⌝ }
     ensures { λ r. ⌜ r ≡ take 32 (drop at (now (b .entry))) ⌝ }
 {
@@ -139,28 +139,13 @@ fn state_at(b: &[u8]) -> State
 
 // ---- slices of any length
 
-fn no_settings() -> Settings
-    ensures { λ r. ⌜ r ≡ noSettings ⌝ }
-{
-    Settings {
-        csp: [0u8; 3],
-        id: Name {
-            bytes: [0u8; 32],
-            len: 0,
-        },
-        serial: Name {
-            bytes: [0u8; 32],
-            len: 0,
-        },
-    }
-}
-
-// The settings in 123 bytes; all zero in a slice of another length.
+// The settings in 123 bytes; those of the unopened state in a slice of another length.
 pub(crate) fn settings_of(b: &[u8]) -> Settings
     ensures { λ r. ⌜ r ≡ settingsOf (now (b .entry)) ⌝ }
 {
     if b.len() != SETTINGS {
-        return no_settings();
+        let none = journal::unopened();
+        return none.settings;
     }
     settings_at(b)
 }
@@ -220,7 +205,7 @@ fn put_names(s: Settings, out: &mut [u8])
     put_name(serial, out, 43);
 }
 
-// Width and key behind them.
+// Width and key after them.
 fn put_key(n: usize, key: [u8; 32], out: &mut [u8])
     requires { ⌜ 123 ≤ length (now out) ⌝ }
     ensures { λ _. ⌜ now (out .exit) ≡ overwrite (now (out .entry)) 83 (bytesOf 8 n ++ key) ⌝ }
@@ -238,10 +223,11 @@ pub(crate) fn put_settings(s: Settings, n: usize, key: [u8; 32], out: &mut [u8])
     put_key(n, key, out);
 }
 
-// Counter, last number and receipts issued, behind the settings.
+// Counter, last number and receipts issued, after the settings.
 fn put_counts(st: State, out: &mut [u8])
     requires { ⌜ 155 ≤ length (now out) ⌝ }
-    ensures { λ _. ⌜ now (out .exit) ≡ overwrite (now (out .entry)) 123 (counterBytes 8 (st .counter) ++ bytesOf 4 (st .last) ++ bytesOf 4 (st .issued)) ⌝ }
+    ensures { λ _.
+        ⌜ now (out .exit) ≡ overwrite (now (out .entry)) 123 (counterBytes 8 (st .counter) ++ bytesOf 4 (st .last) ++ bytesOf 4 (st .issued)) ⌝ }
 {
     let counter = primitives::counter_bytes(8, st.counter);
     let _ = receipt::put(out, 123, &counter);
@@ -249,7 +235,7 @@ fn put_counts(st: State, out: &mut [u8])
     let _ = receipt::put_number(out, 135, 4, st.issued as u64);
 }
 
-// Chain value and length of the journal behind them.
+// Chain value and length of the journal after them.
 fn put_chain(st: State, out: &mut [u8])
     requires { ⌜ 155 ≤ length (now out) ⌝ }
     ensures { λ _. ⌜ now (out .exit) ≡ overwrite (now (out .entry)) 139 (st .chain ++ bytesOf 8 (st .length)) ⌝ }
@@ -271,7 +257,7 @@ fn put_state(st: State, out: &mut [u8])
     put_chain(st, out);
 }
 
-// A state in its slice; nothing is written where that has not 155 bytes.
+// A state in its slice; nothing is written where that is not 155 bytes long.
 pub(crate) fn keep(st: State, out: &mut [u8])
     ensures { λ _. ⌜ now (out .exit) ≡ kept (now (out .entry)) st ⌝ }
 {

@@ -1,6 +1,8 @@
 // The calls of a register.
 use super::layout::SETTINGS;
 use super::layout::STATE;
+use super::layout::array3_at;
+use super::layout::array32_at;
 use super::layout::keep;
 use super::layout::key_of;
 use super::layout::put_settings;
@@ -13,23 +15,20 @@ use receipt::Kind;
 use receipt::Settings;
 ghost use mathlib.Core.Path.{_≡_};
 ghost use lib.ListN.{length};
-ghost use Rattle.journal.specs.Issuing.{issued, issueBuffer};
 ghost use Rattle.journal.specs.Preparing.{prepareAnswer, prepareBuffer};
-ghost use Rattle.device.specs.Layout.{stateOf, kept};
-ghost use Rattle.device.specs.Calls.{cspOf, settingsFrom, keyFrom, widthWith, settingsNumber, settingsBuffer, openAnswer, openJournal, noDetails, detailsWith, ofKind, dateOf, detailsOf, takeOverAnswer};
+ghost use Rattle.device.specs.Layout.{arrayOf, stateOf, kept};
+ghost use Rattle.device.specs.Calls.{settingsFrom, widthWith, settingsAnswer, settingsBuffer, slicesWith, openedNumber, openedSlices, noDetails, detailsWith, ofKind, dateOf, detailsOf, callWith, issuedNumber, issuedSlices, takeOverAnswer};
 
 // ---- settings
 
 // Three bytes; zeros where the slice has another length.
 fn csp_of(csp: &[u8]) -> [u8; 3]
-    ensures { λ r. ⌜ r ≡ cspOf (now (csp .entry)) ⌝ }
+    ensures { λ r. ⌜ r ≡ arrayOf 3 (now (csp .entry)) ⌝ }
 {
-    let mut r = [0u8; 3];
     if csp.len() != 3 {
-        return r;
+        return [0u8; 3];
     }
-    let _ = receipt::put(&mut r, 0, csp);
-    r
+    array3_at(csp, 0)
 }
 
 fn settings_from(csp: &[u8], id: &[u8], serial: &[u8]) -> Settings
@@ -47,17 +46,15 @@ fn settings_from(csp: &[u8], id: &[u8], serial: &[u8]) -> Settings
 
 // A key of 32 bytes; zeros where the slice has another length.
 fn key_from(key: &[u8]) -> [u8; 32]
-    ensures { λ r. ⌜ r ≡ keyFrom (now (key .entry)) ⌝ }
+    ensures { λ r. ⌜ r ≡ arrayOf 32 (now (key .entry)) ⌝ }
 {
-    let mut r = [0u8; 32];
     if key.len() != 32 {
-        return r;
+        return [0u8; 32];
     }
-    let _ = receipt::put(&mut r, 0, key);
-    r
+    array32_at(key, 0)
 }
 
-// The width that comes with a key: 0, which is no width, where the key has not 32 bytes.
+// The width that comes with a key: 0, which is no width, where the key is not 32 bytes long.
 fn width_with(key: &[u8], n: usize) -> usize
     ensures { λ r. ⌜ r ≡ widthWith (now (key .entry)) n ⌝ }
 {
@@ -68,23 +65,12 @@ fn width_with(key: &[u8], n: usize) -> usize
 }
 
 // Questions 1 to 4, then 23 for an output of this length.
-fn settings_number(s: Settings, n: usize, room: usize) -> u32
-    ensures { λ r. ⌜ r ≡ settingsNumber s n room ⌝ }
+fn settings_answer(s: Settings, n: usize, room: usize) -> u32
+    ensures { λ r. ⌜ r ≡ settingsAnswer s n room ⌝ }
 {
-    let csp = s.csp;
-    if !receipt::csp_good(csp) {
-        return 1;
-    }
-    let id = s.id;
-    if !receipt::id_good(id) {
-        return 2;
-    }
-    let serial = s.serial;
-    if !receipt::serial_good(serial) {
-        return 3;
-    }
-    if !receipt::width_good(n) {
-        return 4;
+    let number = receipt::settings_number(s, n);
+    if number != 0 {
+        return number;
     }
     if room != SETTINGS {
         return 23;
@@ -102,11 +88,15 @@ pub extern "C" fn ditgrux_settings(
     key: &[u8],
     settings: &mut [u8],
 ) -> u32
-    ensures { λ r. ⌜ (r ≡ settingsNumber (settingsFrom (now (csp .entry)) (now (id .entry)) (now (serial .entry))) (widthWith (now (key .entry)) width) (length (now (settings .entry)))) × (now (settings .exit) ≡ settingsBuffer (settingsFrom (now (csp .entry)) (now (id .entry)) (now (serial .entry))) (now (key .entry)) width (now (settings .entry))) ⌝ }
+    ensures { λ r.
+        let s : _ = settingsFrom (now (csp .entry)) (now (id .entry)) (now (serial .entry)) in
+        let k : _ = now (key .entry) in
+        let out : _ = now (settings .entry) in
+        ⌜ (r ≡ settingsAnswer s (widthWith k width) (length out)) × (now (settings .exit) ≡ settingsBuffer s k width out) ⌝ }
 {
     let s = settings_from(csp, id, serial);
     let n = width_with(key, width);
-    let number = settings_number(s, n, settings.len());
+    let number = settings_answer(s, n, settings.len());
     if number != 0 {
         return number;
     }
@@ -155,10 +145,15 @@ pub extern "C" fn ditgrux_journal_length(state: &[u8]) -> usize
 
 // ---- open
 
-// Writes the head of a journal, and the state behind it. 6 where the state has not 155 bytes, then questions 1 to 5.
+// Writes the head of a journal, and the state after it. 6 where the state is not 155 bytes long, then questions 1 to 5.
 #[no_mangle]
 pub extern "C" fn ditgrux_open(settings: &[u8], journal: &mut [u8], state: &mut [u8]) -> u32
-    ensures { λ r. ⌜ (r ≡ openAnswer (now (settings .entry)) (length (now (journal .entry))) (length (now (state .entry))) .number) × (now (journal .exit) ≡ openJournal (now (settings .entry)) (length (now (state .entry))) (now (journal .entry))) × (now (state .exit) ≡ kept (now (state .entry)) (openAnswer (now (settings .entry)) (length (now (journal .entry))) (length (now (state .entry))) .state)) ⌝ }
+    ensures { λ r.
+        let s : _ = now (settings .entry) in
+        let g : _ = slicesWith (now (state .entry)) (now (journal .entry)) in
+        ⌜ (r ≡ openedNumber s g)
+        × (now (journal .exit) ≡ openedSlices s g .journal)
+        × (now (state .exit) ≡ openedSlices s g .state) ⌝ }
 {
     if state.len() != STATE {
         return 6;
@@ -276,7 +271,11 @@ pub extern "C" fn ditgrux_prepare(
     output: &mut [u8],
     length: &mut usize,
 ) -> u32
-    ensures { λ r. ⌜ (r ≡ prepareAnswer (stateOf (now (state .entry))) (detailsOf number year month day hour minute second standard «reduced_1» «reduced_2» zero special kind) (lib.ListN.length (now (output .entry))) .number) × (now (output .exit) ≡ prepareBuffer (stateOf (now (state .entry))) (detailsOf number year month day hour minute second standard «reduced_1» «reduced_2» zero special kind) (now (output .entry))) × (now (length .exit) ≡ prepareAnswer (stateOf (now (state .entry))) (detailsOf number year month day hour minute second standard «reduced_1» «reduced_2» zero special kind) (lib.ListN.length (now (output .entry))) .length) ⌝ }
+    ensures { λ r.
+        let st : _ = stateOf (now (state .entry)) in
+        let d : _ = detailsOf number year month day hour minute second standard «reduced_1» «reduced_2» zero special kind in
+        let a : _ = prepareAnswer st d (lib.ListN.length (now (output .entry))) in
+        ⌜ (r ≡ a .number) × (now (output .exit) ≡ prepareBuffer st d (now (output .entry))) × (now (length .exit) ≡ a .length) ⌝ }
 {
     let st = state_of(state);
     let d = details_of(
@@ -301,7 +300,7 @@ pub extern "C" fn ditgrux_prepare(
 
 // ---- issue
 
-// Appends a receipt to the journal, and writes the state behind it. Questions 6 to 13.
+// Appends a receipt to the journal, and writes the state after it. Questions 6 to 13.
 #[no_mangle]
 pub extern "C" fn ditgrux_issue(
     state: &mut [u8],
@@ -321,7 +320,12 @@ pub extern "C" fn ditgrux_issue(
     signature: &[u8],
     journal: &mut [u8],
 ) -> u32
-    ensures { λ r. ⌜ (r ≡ issued (stateOf (now (state .entry))) (detailsOf number year month day hour minute second standard «reduced_1» «reduced_2» zero special kind) (now (signature .entry)) (length (now (journal .entry))) .number) × (now (state .exit) ≡ kept (now (state .entry)) (issued (stateOf (now (state .entry))) (detailsOf number year month day hour minute second standard «reduced_1» «reduced_2» zero special kind) (now (signature .entry)) (length (now (journal .entry))) .state)) × (now (journal .exit) ≡ issueBuffer (stateOf (now (state .entry))) (detailsOf number year month day hour minute second standard «reduced_1» «reduced_2» zero special kind) (now (signature .entry)) (now (journal .entry))) ⌝ }
+    ensures { λ r.
+        let g : _ = slicesWith (now (state .entry)) (now (journal .entry)) in
+        let c : _ = callWith number year month day hour minute second standard «reduced_1» «reduced_2» zero special kind (now (signature .entry)) in
+        ⌜ (r ≡ issuedNumber g c)
+        × (now (state .exit) ≡ issuedSlices g c .state)
+        × (now (journal .exit) ≡ issuedSlices g c .journal) ⌝ }
 {
     let st = state_of(state);
     let d = details_of(
@@ -347,7 +351,7 @@ pub extern "C" fn ditgrux_issue(
 
 // ---- take over
 
-// Checks a whole journal, and writes the state behind it. 6 where the state has not 155 bytes, then questions 4 and 14 to 21.
+// Checks a whole journal, and writes the state after it. 6 where the state is not 155 bytes long, then questions 4 and 14 to 21.
 #[no_mangle]
 pub extern "C" fn ditgrux_take_over(
     journal: &[u8],
@@ -356,7 +360,9 @@ pub extern "C" fn ditgrux_take_over(
     state: &mut [u8],
     index: &mut u32,
 ) -> u32
-    ensures { λ r. ⌜ (r ≡ takeOverAnswer (now (journal .entry)) (now (key .entry)) width (length (now (state .entry))) .number) × (now (state .exit) ≡ kept (now (state .entry)) (takeOverAnswer (now (journal .entry)) (now (key .entry)) width (length (now (state .entry))) .state)) × (now (index .exit) ≡ takeOverAnswer (now (journal .entry)) (now (key .entry)) width (length (now (state .entry))) .index) ⌝ }
+    ensures { λ r.
+        let a : _ = takeOverAnswer (now (journal .entry)) (now (key .entry)) width (length (now (state .entry))) in
+        ⌜ (r ≡ a .number) × (now (state .exit) ≡ kept (now (state .entry)) (a .state)) × (now (index .exit) ≡ a .index) ⌝ }
 {
     if state.len() != STATE {
         *index = 0;

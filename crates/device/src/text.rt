@@ -10,7 +10,10 @@ ghost use Rattle.device.specs.Texts.{writtenNumber, decodedLength, decod
 // The code of a compact form. Questions 22 and 23.
 #[no_mangle]
 pub extern "C" fn ditgrux_code(form: &[u8], output: &mut [u8], length: &mut usize) -> u32
-    ensures { λ r. ⌜ (r ≡ codeAnswer (now (form .entry)) (now (output .entry)) .number) × (now (output .exit) ≡ codeBuffer (now (form .entry)) (now (output .entry))) × (now (length .exit) ≡ codeAnswer (now (form .entry)) (now (output .entry)) .length) ⌝ }
+    ensures { λ r.
+        ⌜ (r ≡ codeAnswer (now (form .entry)) (now (output .entry)) .number)
+        × (now (output .exit) ≡ codeBuffer (now (form .entry)) (now (output .entry)))
+        × (now (length .exit) ≡ codeAnswer (now (form .entry)) (now (output .entry)) .length) ⌝ }
 {
     let answer = receipt::code(form, output);
     *length = answer.length;
@@ -20,7 +23,10 @@ pub extern "C" fn ditgrux_code(form: &[u8], output: &mut [u8], length: &mut usiz
 // The compact form of a code. Questions 24 and 23.
 #[no_mangle]
 pub extern "C" fn ditgrux_uncode(code: &[u8], output: &mut [u8], length: &mut usize) -> u32
-    ensures { λ r. ⌜ (r ≡ uncodeAnswer (now (code .entry)) (now (output .entry)) .number) × (now (output .exit) ≡ uncodeBuffer (now (code .entry)) (now (output .entry))) × (now (length .exit) ≡ uncodeAnswer (now (code .entry)) (now (output .entry)) .length) ⌝ }
+    ensures { λ r.
+        ⌜ (r ≡ uncodeAnswer (now (code .entry)) (now (output .entry)) .number)
+        × (now (output .exit) ≡ uncodeBuffer (now (code .entry)) (now (output .entry)))
+        × (now (length .exit) ≡ uncodeAnswer (now (code .entry)) (now (output .entry)) .length) ⌝ }
 {
     let answer = receipt::uncode(code, output);
     *length = answer.length;
@@ -30,7 +36,10 @@ pub extern "C" fn ditgrux_uncode(code: &[u8], output: &mut [u8], length: &mut us
 // Where in a code the register ID stands, and its length. Question 24.
 #[no_mangle]
 pub extern "C" fn ditgrux_fields(code: &[u8], start: &mut usize, length: &mut usize) -> u32
-    ensures { λ r. ⌜ (r ≡ fieldsNumber (now (code .entry))) × (now (start .exit) ≡ idPlace (now (code .entry)) .start) × (now (length .exit) ≡ fieldsLength (now (code .entry))) ⌝ }
+    ensures { λ r.
+        ⌜ (r ≡ fieldsNumber (now (code .entry)))
+        × (now (start .exit) ≡ idPlace (now (code .entry)) .start)
+        × (now (length .exit) ≡ fieldsLength (now (code .entry))) ⌝ }
 {
     let place = receipt::id_place(code);
     let a = place.start;
@@ -45,10 +54,11 @@ pub extern "C" fn ditgrux_fields(code: &[u8], start: &mut usize, length: &mut us
 
 // ---- for tests
 
-// The SHA-256 value. 23 where the output has not 32 bytes.
+// The SHA-256 value. 23 where the output is shorter than 32 bytes.
 #[no_mangle]
 pub extern "C" fn ditgrux_sha256(data: &[u8], output: &mut [u8]) -> u32
-    ensures { λ r. ⌜ (r ≡ hashNumber (now (output .entry))) × (now (output .exit) ≡ hashBuffer (now («data» .entry)) (now (output .entry))) ⌝ }
+    ensures { λ r.
+        ⌜ (r ≡ hashNumber (now (output .entry))) × (now (output .exit) ≡ hashBuffer (now («data» .entry)) (now (output .entry))) ⌝ }
 {
     if output.len() < 32 {
         return 23;
@@ -89,7 +99,10 @@ pub extern "C" fn ditgrux_base64(
     output: &mut [u8],
     length: &mut usize,
 ) -> u32
-    ensures { λ r. ⌜ (r ≡ encodeAnswer url (now («data» .entry)) (now (output .entry)) .number) × (now (output .exit) ≡ encodeBuffer url (now («data» .entry)) (now (output .entry))) × (now (length .exit) ≡ encodeAnswer url (now («data» .entry)) (now (output .entry)) .length) ⌝ }
+    ensures { λ r.
+        ⌜ (r ≡ encodeAnswer url (now («data» .entry)) (now (output .entry)) .number)
+        × (now (output .exit) ≡ encodeBuffer url (now («data» .entry)) (now (output .entry)))
+        × (now (length .exit) ≡ encodeAnswer url (now («data» .entry)) (now (output .entry)) .length) ⌝ }
 {
     let alphabet = alphabet_of(url);
     let end = primitives::base64_encode(alphabet, data, output, 0);
@@ -125,7 +138,10 @@ pub extern "C" fn ditgrux_unbase64(
     output: &mut [u8],
     length: &mut usize,
 ) -> u32
-    ensures { λ r. ⌜ (r ≡ decodeAnswer url (now (text .entry)) (now (output .entry)) .number) × (now (output .exit) ≡ decodeBuffer url (now (text .entry)) (now (output .entry))) × (now (length .exit) ≡ decodeAnswer url (now (text .entry)) (now (output .entry)) .length) ⌝ }
+    ensures { λ r.
+        ⌜ (r ≡ decodeAnswer url (now (text .entry)) (now (output .entry)) .number)
+        × (now (output .exit) ≡ decodeBuffer url (now (text .entry)) (now (output .entry)))
+        × (now (length .exit) ≡ decodeAnswer url (now (text .entry)) (now (output .entry)) .length) ⌝ }
 {
     let alphabet = alphabet_of(url);
     let decoded = primitives::base64_decode(alphabet, text, output, 0);

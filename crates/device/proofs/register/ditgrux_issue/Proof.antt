@@ -1,4 +1,5 @@
 -- `register::ditgrux_issue` meets its contract.
+use Rattle.device.specs.Calls.{slicesWith, callWith}
 use Rattle.device.proofs.Answers.{details-plain, issue-is}
 use borrow.Author.Needs.{needs}
 use Rattle.device.proofs.register.ditgrux_issue.Statement.{statement}
@@ -26,7 +27,9 @@ returns : tie.Need-returns
 returns c =
     let s = c .before .before .before .before .before .before .before .before .before .before .before .before .before .before .before .args in
     let f = c .before .before .before .before .before .before .before .before .before .before .before .before .before .before .before .fits in
-    issue-is (s .state .now) (c .before .before .before .before .before .before .before .before .before .before .state-of .ensures) (details-plain (s .number) (s .year) (s .month) (s .day) (s .hour) (s .minute) (s .second) (s .kind) (f .standard) (f .reduced-1) (f .reduced-2) (f .zero) (f .special) (c .before .before .before .before .before .before .before .before .before .details-of .ensures)) (s .signature .now) (s .journal .now) (c .before .before .before .before .before .before .before .issue .ensures) (c .before .before .keep .ensures)
+    let k = callWith (s .number) (s .year) (s .month) (s .day) (s .hour) (s .minute) (s .second) (s .standard) (s .reduced-1) (s .reduced-2) (s .zero) (s .special) (s .kind) (s .signature .now) in
+    let d = details-plain (s .number) (s .year) (s .month) (s .day) (s .hour) (s .minute) (s .second) (s .kind) (f .standard) (f .reduced-1) (f .reduced-2) (f .zero) (f .special) (c .before .before .before .before .before .before .before .before .before .details-of .ensures) in
+    issue-is (slicesWith (s .state .now) (s .journal .now)) k (c .before .before .before .before .before .before .before .before .before .before .state-of .ensures) d (c .before .before .before .before .before .before .before .issue .ensures) (c .before .before .keep .ensures)
 
 pub ditgrux-issue-spec : {M : Type 1} → statement M
 ditgrux-issue-spec =

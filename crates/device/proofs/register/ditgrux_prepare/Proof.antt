@@ -20,7 +20,8 @@ returns : tie.Need-returns
 returns c =
     let s = c .before .before .before .before .before .before .before .before .args in
     let f = c .before .before .before .before .before .before .before .before .fits in
-    prepare-is (s .state .now) (c .before .before .before .before .before .state-of .ensures) (details-plain (s .number) (s .year) (s .month) (s .day) (s .hour) (s .minute) (s .second) (s .kind) (f .standard) (f .reduced-1) (f .reduced-2) (f .zero) (f .special) (c .before .before .before .before .details-of .ensures)) (s .output .now) (c .before .before .prepare .ensures)
+    let d = details-plain (s .number) (s .year) (s .month) (s .day) (s .hour) (s .minute) (s .second) (s .kind) (f .standard) (f .reduced-1) (f .reduced-2) (f .zero) (f .special) (c .before .before .before .before .details-of .ensures) in
+    prepare-is (s .state .now) (s .output .now) (c .before .before .before .before .before .state-of .ensures) d (c .before .before .prepare .ensures)
 
 pub ditgrux-prepare-spec : {M : Type 1} → statement M
 ditgrux-prepare-spec =

@@ -1,5 +1,6 @@
 -- `register::ditgrux_settings` meets its contract.
-use Rattle.device.proofs.Answers.{from-typed, settings-refused, settings-room, settings-done}
+use Rattle.device.proofs.Sizes.{from-typed}
+use Rattle.device.proofs.Answers.{settings-refused, settings-room, settings-done}
 use borrow.Author.Needs.{needs}
 use Rattle.device.proofs.register.ditgrux_settings.Statement.{statement}
 use Rattle.device.proofs.register.ditgrux_settings.Tie as tie
@@ -10,13 +11,13 @@ settings-from-requires c κs = search needs
 width-with-requires : tie.Need-width-with-requires
 width-with-requires c κs = search needs
 
-settings-number-requires : tie.Need-settings-number-requires
-settings-number-requires c κs = search needs
+settings-answer-requires : tie.Need-settings-answer-requires
+settings-answer-requires c κs = search needs
 
 returns : tie.Need-returns
 returns c =
     let s = c .before .before .before .before .before .before .before .before .before .args in
-    settings-refused _ (s .key .now) (s .width) (s .settings .now) (c .before .before .before .settings-from .ensures) (c .before .before .width-with .ensures) (c .before .settings-number .ensures) (c .if1 .taken)
+    settings-refused _ (s .key .now) (s .width) (s .settings .now) (c .before .before .before .settings-from .ensures) (c .before .before .width-with .ensures) (c .before .settings-answer .ensures) (c .if1 .taken)
 
 key-from-requires : tie.Need-key-from-requires
 key-from-requires c κs = search needs
@@ -24,7 +25,7 @@ key-from-requires c κs = search needs
 put-settings-requires : tie.Need-put-settings-requires
 put-settings-requires c κs =
     let s = c .before .before .before .before .before .before .before .before .before .before .before .args in
-    settings-room _ (s .key .now) (s .width) (s .settings .now) (c .before .before .before .before .before .settings-from .ensures) (c .before .before .before .before .width-with .ensures) (c .before .before .before .settings-number .ensures) (c .before .before .if1 .left)
+    settings-room _ (s .key .now) (s .width) (s .settings .now) (c .before .before .before .before .before .settings-from .ensures) (c .before .before .before .before .width-with .ensures) (c .before .before .before .settings-answer .ensures) (c .before .before .if1 .left)
 
 same-length : tie.Need-same-length
 same-length c = search needs
@@ -32,7 +33,7 @@ same-length c = search needs
 returns-2 : tie.Need-returns-2
 returns-2 c =
     let s = c .before .before .before .before .before .before .before .before .before .before .before .before .before .before .args in
-    settings-done _ (s .key .now) (s .width) (s .settings .now) (c .before .before .before .before .before .before .before .before .settings-from .ensures) (c .before .before .before .before .before .before .before .width-with .ensures) (c .before .before .before .before .before .before .settings-number .ensures) (c .before .before .before .before .before .if1 .left) (from-typed (s .csp .now) (s .id .now) (s .serial .now)) (c .before .before .before .before .key-from .ensures) (c .before .before .put-settings .ensures)
+    settings-done _ (s .key .now) (s .width) (s .settings .now) (c .before .before .before .before .before .before .before .before .settings-from .ensures) (c .before .before .before .before .before .before .before .width-with .ensures) (c .before .before .before .before .before .before .settings-answer .ensures) (c .before .before .before .before .before .if1 .left) (from-typed (s .csp .now) (s .id .now) (s .serial .now)) (c .before .before .before .before .key-from .ensures) (c .before .before .put-settings .ensures)
 
 pub ditgrux-settings-spec : {M : Type 1} → statement M
 ditgrux-settings-spec =
@@ -40,7 +41,7 @@ ditgrux-settings-spec =
     (tie.spec
     settings-from-requires
     width-with-requires
-    settings-number-requires
+    settings-answer-requires
     returns
     key-from-requires
     put-settings-requires
