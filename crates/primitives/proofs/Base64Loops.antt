@@ -6,10 +6,10 @@ use mathlib.Core.List.{List, [], _∷_, _++_}
 use native.Mathlib.Nat.{add-assoc}
 use native.Mathlib.Numerals.{add-one}
 use native.Mathlib.Omega.{arith}
-use borrow.Author.Tests.{lt-ltb, le-ltb}
-use lib.Dec.{eqb}
+use borrow.Author.Tests.{lt-ltb, le-ltb, leb-true, leb-false}
+use lib.Dec.{eqb, ltb, leb}
 use lib.ListN.{length, getD, set, take, drop, length-append, length-drop, drop-of-length-le}
-use lib.Seq.{take-suc, length-take-le}
+use lib.Seq.{take-all, take-suc, length-take-le}
 use Rattle.primitives.specs.Place.{overwrite}
 use Rattle.primitives.specs.declared.base64.Alphabet.{Alphabet}
 use Rattle.primitives.specs.Base64.{fromBytes, fromDigits, digit, quad, triple, letters, bytes, known, ended}
@@ -280,6 +280,50 @@ module _ (a : Alphabet) (s : List ℕ) (i : ℕ) (h : i < length s) where
   pub known-not : 64 ≤ digit a (getD s i 0) → known a (drop i s) ≡ false
   unfolding known
   known-not k = ap (known a) (drop-one s i h) ∙ ap (λ (t : Bool). t && known a (drop (i + 1) s)) (le-ltb (digit a (getD s i 0)) 64 k)
+
+-- one letter before others
+pub letter-no : (a : Alphabet) (x : ℕ) (xs : List ℕ) → 63 < digit a x → false ≡ known a (x ∷ xs)
+unfolding known
+letter-no a x xs h = sym (ap (λ (t : Bool). t && known a xs) (le-ltb (digit a x) 64 (omega arith)))
+
+pub letter-yes : (a : Alphabet) (x : ℕ) (xs : List ℕ) {t : Bool} → digit a x ≤ 63 → t ≡ known a xs → t ≡ known a (x ∷ xs)
+unfolding known
+letter-yes a x xs h e = e ∙ sym (ap (λ (t : Bool). t && known a xs) (lt-ltb (digit a x) 64 (omega arith)))
+
+pub letter-last : (a : Alphabet) (x : ℕ) {d : ℕ} → d ≡ digit a x → leb d 63 ≡ known a (x ∷ [])
+unfolding known
+letter-last a x {d} e = go (leb d 63) refl
+  where
+    go : (t : Bool) → leb d 63 ≡ t → t ≡ ltb (digit a x) 64 && true
+    go true q = sym (ap (λ (t : Bool). t && true) (lt-ltb (digit a x) 64 (omega (arith, e, leb-true d 63 q))))
+    go false q = sym (ap (λ (t : Bool). t && true) (le-ltb (digit a x) 64 (omega (arith, e, leb-false d 63 q))))
+
+known-append : (a : Alphabet) (xs ys : List ℕ) → known a (xs ++ ys) ≡ known a xs && known a ys
+unfolding known
+known-append a [] ys = refl
+known-append a (x ∷ xs) ys = go (ltb (digit a x) 64) (known-append a xs ys)
+  where
+    go : (t : Bool) → known a (xs ++ ys) ≡ known a xs && known a ys → t && known a (xs ++ ys) ≡ (t && known a xs) && known a ys
+    go true e = e
+    go false e = refl
+
+-- by fours
+module _ (a : Alphabet) (s : List ℕ) (i : ℕ) (h : 3 < length s - i) where
+  abbrev pub fourAt : List ℕ
+  fourAt = getD s i 0 ∷ getD s (i + 1) 0 ∷ getD s (i + 2) 0 ∷ getD s (i + 3) 0 ∷ []
+
+  split-four : known a (drop i s) ≡ known a fourAt && known a (drop (i + 4) s)
+  split-four = ap (known a) (drop-four a s i (omega arith)) ∙ known-append a fourAt (drop (i + 4) s)
+
+  pub four-next : {t : Bool} → t ≡ known a fourAt → t ≡ true → known a (drop i s) ≡ known a (drop (i + 4) s)
+  four-next e y = split-four ∙ ap (λ (b : Bool). b && known a (drop (i + 4) s)) (sym e ∙ y)
+
+  pub four-not : {t : Bool} → t ≡ known a fourAt → t ≡ false → known a (drop i s) ≡ false
+  four-not e n = split-four ∙ ap (λ (b : Bool). b && known a (drop (i + 4) s)) (sym e ∙ n)
+
+-- what is lent from a place on
+pub rest-known : (a : Alphabet) (s : List ℕ) (i : ℕ) {t : Bool} → t ≡ known a (take (length s - i) (drop i s)) → t ≡ known a (drop i s)
+rest-known a s i e = e ∙ ap (known a) (take-all (length s - i) (drop i s) (omega (arith, length-drop i s)))
 
 pub known-end : (a : Alphabet) (s : List ℕ) (i : ℕ) → length s ≤ i → known a (drop i s) ≡ true
 unfolding known

@@ -232,8 +232,25 @@ fn put_bytes(alphabet: Alphabet, table: &[u8; 256], s: &[u8], out: &mut [u8], at
     o
 }
 
-// Every byte is a letter.
-fn all_known(alphabet: Alphabet, table: &[u8; 256], s: &[u8]) -> bool
+// Four bytes are letters.
+fn four_known(alphabet: Alphabet, table: &[u8; 256], w: u8, x: u8, y: u8, z: u8) -> bool
+    requires { ⌜ DigitTable alphabet (now table) ⌝ }
+    ensures { λ r. ⌜ r ≡ known alphabet (w ∷ x ∷ y ∷ z ∷ []) ⌝ }
+{
+    if 63 < table[w as usize] {
+        return false;
+    }
+    if 63 < table[x as usize] {
+        return false;
+    }
+    if 63 < table[y as usize] {
+        return false;
+    }
+    table[z as usize] <= 63
+}
+
+// Every byte is a letter, asked one by one.
+fn each_known(alphabet: Alphabet, table: &[u8; 256], s: &[u8]) -> bool
     requires { ⌜ DigitTable alphabet (now table) ⌝ }
     ensures { λ r. ⌜ r ≡ known alphabet (now (s .entry)) ⌝ }
 {
@@ -246,6 +263,21 @@ fn all_known(alphabet: Alphabet, table: &[u8; 256], s: &[u8]) -> bool
         i += 1;
     }
     true
+}
+
+// Every byte is a letter: by fours, and then those that are left.
+fn all_known(alphabet: Alphabet, table: &[u8; 256], s: &[u8]) -> bool
+    requires { ⌜ DigitTable alphabet (now table) ⌝ }
+    ensures { λ r. ⌜ r ≡ known alphabet (now (s .entry)) ⌝ }
+{
+    let mut i: usize = 0;
+    while 3 < s.len() - i {
+        if !four_known(alphabet, table, s[i], s[i + 1], s[i + 2], s[i + 3]) {
+            return false;
+        }
+        i += 4;
+    }
+    each_known(alphabet, table, &s[i..])
 }
 
 // No letter stands alone at the end, and the last letter's unused bits are zero.
