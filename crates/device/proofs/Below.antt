@@ -1,19 +1,16 @@
 -- Laws of definitions of the crates below that these do not state. Beside proofs/Zeros.antt, which computes, this is the one place of the
 -- crate that unfolds a definition of a lower one.
-use Prim.Native.Nat.{ℕ, _≤_, _<_}
+use Prim.Native.Nat.{ℕ, _<_}
 use mathlib.Core.Path.{_≡_, refl}
-use mathlib.Core.Bool.{cond, true}
+use mathlib.Core.Bool.{true}
 use mathlib.Core.List.{List, [], _∷_}
 use native.Mathlib.Omega.{arith}
 use borrow.Author.Tests.{leb-true}
 use lib.Dec.{leb}
-use lib.ListN.{length, take, drop}
+use lib.ListN.{length, take}
 use Rattle.primitives.specs.Place.{room}
-use Rattle.primitives.specs.Number.{valueOf, countAt}
 use Rattle.primitives.specs.Questions.{ifZero}
-use Rattle.primitives.specs.Answers.{written}
 use Rattle.primitives.proofs.Rows.{both}
-use Rattle.primitives.proofs.Over.{room-true, room-false}
 use Rattle.receipt.specs.DateTime.{daysIn, dayGood, timeGood, dateGood}
 use Rattle.receipt.specs.declared.settings.Settings.{Settings}
 use Rattle.receipt.specs.declared.datetime.DateTime.{DateTime}
@@ -24,25 +21,6 @@ use Rattle.journal.specs.Issuing.{issued, issueBuffer}
 use Rattle.journal.specs.Checking.{accepted}
 use Rattle.journal.specs.Calls.{Call, Register, journalOf, opening, numberOf, numbersOf, receiptOfCall, receiptsOf, call, calls, callOf, callsOf}
 use Rattle.journal.specs.declared.state.State.{State}
-
--- ---- primitives
-
-pub count-is : (b : List ℕ) (at n : ℕ) → countAt b at n ≡ valueOf (take n (drop at b))
-unfolding countAt
-count-is b at n = refl
-
-module _ (out text : List ℕ) where
-  pub written-is : written out text ≡ cond (room out 0 text) (record { number = 0; length = length text }) (record { number = 23; length = 0 })
-  unfolding written
-  written-is = refl
-
-  pub written-room : length text ≤ length out → written out text ≡ record { number = 0; length = length text }
-  unfolding written
-  written-room h = rw (room-true out 0 text (omega arith))
-
-  pub written-full : length out < length text → written out text ≡ record { number = 23; length = 0 }
-  unfolding written
-  written-full h = rw (room-false out 0 text (omega arith))
 
 -- ---- receipt
 

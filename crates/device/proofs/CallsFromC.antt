@@ -27,7 +27,7 @@ use Rattle.journal.specs.Calls.{Call, TypedCall, TypedCalls, none, more, Regist
 use Rattle.journal.specs.declared.state.State.{State}
 use Rattle.journal.specs.declared.state.Opened.{Opened}
 use Rattle.journal.proofs.CallLists.{Bounds}
-use Rattle.journal.proofs.Places.{part-length}
+use Rattle.primitives.proofs.Counts.{part-length}
 use Rattle.journal.proofs.Registers.{run-bounds, refused-same, entriesOf, open-zero, Holds, holds-behind, accepted-length, holds-calls, opening-holds, opening-length}
 use Rattle.device.specs.Layout.{stateBytes, nameAt, settingsAt, keyAt, settingsOf, widthOf, keyOf, stateOf}
 use Rattle.device.specs.Calls.{noDetails, dateOf, detailsWith, ofKind, detailsOf, Slices, openedNumber, openedSlices, IssueCall, callIn, issueAnswer, issuedNumber, issuedSlices}

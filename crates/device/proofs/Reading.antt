@@ -17,7 +17,7 @@ use Rattle.primitives.proofs.Numbers.{number-there, number-found}
 use Rattle.primitives.proofs.Over.{length-over, read-over, placed-room}
 use Rattle.receipt.specs.declared.settings.Settings.{Settings}
 use Rattle.device.specs.Layout.{settingsAt, widthAt, keyAt, stateAt}
-use Rattle.device.proofs.Below.{count-is}
+use Rattle.primitives.proofs.Counts.{count-is}
 
 -- ---- arrays
 

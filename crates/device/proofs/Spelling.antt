@@ -22,7 +22,7 @@ use Rattle.receipt.proofs.Names.{settings-zero}
 use Rattle.journal.specs.State.{TypedRegister, TypedState}
 use Rattle.journal.specs.Issuing.{issued}
 use Rattle.journal.specs.declared.state.State.{State}
-use Rattle.journal.proofs.Places.{part-at, count-in, part-length, count-bytes}
+use Rattle.primitives.proofs.Counts.{part-at, count-in, part-length, count-bytes}
 use Rattle.device.specs.Layout.{nameBytes, settingsBytes, figuresBytes, stateBytes, nameAt, settingsAt, widthAt, keyAt, stateAt, settingsOf, widthOf, keyOf, stateOf, kept}
 use Rattle.device.specs.Calls.{settingsFrom, widthWith, settingsAnswer, settingsBuffer}
 use Rattle.device.specs.Laws.{SettingsAreRead, WrittenSettingsAreRead, SettingsBytesAreKept, StateIsRead, BytesAreKept}

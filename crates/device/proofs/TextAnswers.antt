@@ -25,7 +25,7 @@ use Rattle.primitives.specs.declared.answer.Answer.{Answer}
 use Rattle.receipt.specs.declared.machine_code.Part.{Part}
 use Rattle.device.specs.Texts.{fieldsNumber, fieldsLength, hashNumber, hashBuffer, alphabetOf, encodeAnswer, encodeBuffer, decodeAnswer, decodeBuffer, writtenNumber, decodedLength, decodedNumber}
 use Rattle.device.proofs.Below as below
-use Rattle.device.proofs.Below.{written-is, written-room}
+use Rattle.primitives.proofs.Answers.{written-is, written-room}
 
 -- an answer in its two parts, beside the output
 pub parts-of : {a e : Answer} {b b₁ : List ℕ} → (a ≡ e) × (b ≡ b₁) → (a .number ≡ e .number) × (b ≡ b₁) × (a .length ≡ e .length)

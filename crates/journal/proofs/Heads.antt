@@ -18,7 +18,7 @@ use Rattle.receipt.specs.declared.settings.Letters.the-variants.{Id, Serial}
 use Rattle.receipt.proofs.Names.{GoodSettings, good-settings, length-text, text-of, name-of}
 use Rattle.receipt.proofs.Entries.{len-of, length-array, bytes-array, settings-all}
 use Rattle.journal.specs.Head.{section, sectionText, sectionEnd, front, head, headLength, countPlace, serialPlace, countPlaceIn, headSettings, headGood}
-use Rattle.journal.proofs.Places.{count-in, cut, count-bytes, count-lt}
+use Rattle.primitives.proofs.Counts.{count-in, cut, count-bytes, count-lt}
 use Rattle.journal.proofs.Sections.{length-section, section-count, section-text, section-end, text-length, text-bytes, section-there}
 
 -- the receipts count

@@ -1,47 +1,17 @@
--- Counts, and the bytes of an entry, at a place of a journal.
-use Prim.Native.Nat.{ℕ, _+_, _≤_, _<_, _^_}
-use mathlib.Core.Path.{_≡_, refl, sym, ap, _∙_, subst}
+-- The bytes of an entry, at a place of a journal.
+use Prim.Native.Nat.{ℕ, _+_, _≤_, _<_}
+use mathlib.Core.Path.{_≡_, refl, sym, ap, _∙_}
 use mathlib.Core.Bool.{true}
 use mathlib.Core.List.{List, _++_, append-assoc}
 use native.Mathlib.Omega.{arith}
 use borrow.Author.Tests.{leb-true, le-leb}
-use lib.ListN.{length, take, drop, length-append, length-drop, take-append-drop}
-use lib.Seq.{take-at, drop-at, length-take-le, drop-drop}
+use lib.ListN.{length, take, drop, length-append}
 use Rattle.primitives.specs.Bytes.{AllBytes}
-use Rattle.primitives.specs.Number.{bytesOf, valueOf, countAt}
-use Rattle.primitives.proofs.ByteLists.{bytes-take, bytes-drop}
-use Rattle.primitives.proofs.Numbers.{length-bytesOf, value-bytesOf, bytesOf-value, value-lt}
+use Rattle.primitives.specs.Number.{bytesOf, countAt}
+use Rattle.primitives.proofs.Numbers.{length-bytesOf}
 use Rattle.primitives.proofs.Rows.{both}
 use Rattle.journal.specs.Head.{entryText, lengthAt, there, textAt}
-
--- ---- what stands in the middle
-
-pub part-at : (p m q : List ℕ) (at n : ℕ) → length p ≡ at → length m ≡ n → take n (drop at (p ++ (m ++ q))) ≡ m
-part-at p m q at n e f = ap (take n) (drop-at p (m ++ q) at e) ∙ take-at m q n f
-
--- a count is read back
-pub count-in : (p q : List ℕ) (at n v : ℕ) → length p ≡ at → v < 256 ^ n → countAt (p ++ (bytesOf n v ++ q)) at n ≡ v
-unfolding countAt
-count-in p q at n v e h = ap valueOf (part-at p (bytesOf n v) q at n e (length-bytesOf n v)) ∙ value-bytesOf n v h
-
--- the rest from a place on, cut
-pub cut : (j : List ℕ) (at n : ℕ) → drop at j ≡ take n (drop at j) ++ drop (at + n) j
-cut j at n = sym (take-append-drop n (drop at j)) ∙ ap (λ (l : List ℕ). take n (drop at j) ++ l) (drop-drop n at j)
-
-module _ (j : List ℕ) (b : AllBytes j) (at n : ℕ) (room : at + n ≤ length j) where
-  pub part-length : length (take n (drop at j)) ≡ n
-  part-length = length-take-le n (drop at j) (omega (arith, length-drop at j))
-
-  -- a count that was read has these bytes
-  pub count-bytes : bytesOf n (countAt j at n) ≡ take n (drop at j)
-  unfolding countAt
-  count-bytes =
-      ap (λ (k : ℕ). bytesOf k (valueOf (take n (drop at j)))) (sym part-length)
-      ∙ bytesOf-value (take n (drop at j)) (bytes-take n (bytes-drop at b))
-
-  pub count-lt : countAt j at n < 256 ^ n
-  unfolding countAt
-  count-lt = subst (λ (k : ℕ). valueOf (take n (drop at j)) < 256 ^ k) part-length (value-lt (take n (drop at j)) (bytes-take n (bytes-drop at b)))
+use Rattle.primitives.proofs.Counts.{part-at, count-in, cut, part-length, count-bytes, count-lt}
 
 -- ---- entries
 

@@ -3,36 +3,17 @@ use Prim.Native.Nat.{ℕ, _+_, _-_, _≤_, _<_}
 use mathlib.Core.Path.{_≡_, refl, sym, ap, _∙_, subst}
 use mathlib.Core.Bool.{Bool, true, false, _&&_, and-false}
 use mathlib.Core.List.{List, [], _∷_}
-use native.Mathlib.Nat.{pow-le-pow-right}
 use native.Mathlib.Omega.{arith}
 use borrow.Author.Tests.{leb-true, leb-false, le-leb, lt-leb, eq-eqb, ne-eqb, eqb-true}
-use lib.Dec.{leb, eqb, lit<}
+use lib.Dec.{leb, eqb}
 use lib.ListN.{length, take, drop, getD}
 use lib.Seq.{drop-cons}
-use Rattle.primitives.specs.Bytes.{AllBytes}
-use Rattle.primitives.specs.Number.{numberAt, countAt}
-use Rattle.primitives.specs.declared.buffer.Number.the-variants.{Is, Missing}
-use Rattle.primitives.proofs.Numbers.{number-there, number-found, found-lt}
+use Rattle.primitives.specs.Number.{countAt}
 use Rattle.receipt.specs.Settings.{nameOf, settingsGood}
 use Rattle.receipt.specs.declared.settings.Name.{Name}
 use Rattle.receipt.specs.declared.settings.Settings.{Settings}
 use Rattle.primitives.proofs.Rows.{both, and-no, and-yes}
 use Rattle.journal.specs.Head.{headSettings, headGood, sectionText, sectionEnd, serialPlace, countPlaceIn}
-
--- ---- a count
-
-module _ (j : List ℕ) (at n : ℕ) (few : n ≤ 4) where
-  pub count-found : {v : ℕ} → AllBytes j → numberAt j at n ≡ Is v → (v ≡ countAt j at n) × (v < 4294967296)
-  unfolding countAt
-  count-found b e =
-      let f = number-found j at n e in
-      (f .is, omega (arith, found-lt b f, pow-le-pow-right {n = 256} (lit< tt) few))
-
-  pub count-missing {ℓ} : {X : Type ℓ} → at + n ≤ length j → numberAt j at n ≡ Missing → X
-  count-missing h e =
-      let q = number-there j at n (omega arith) h in
-      let z : _≡_ {A = ℕ} 0 1 = cc in
-      absurd (omega arith)
 
 -- ---- the head
 

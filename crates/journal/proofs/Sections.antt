@@ -9,7 +9,7 @@ use Rattle.primitives.specs.Number.{bytesOf, countAt}
 use Rattle.primitives.proofs.ByteLists.{bytes-take, bytes-drop}
 use Rattle.primitives.proofs.Numbers.{length-bytesOf}
 use Rattle.journal.specs.Head.{section, sectionText, sectionEnd}
-use Rattle.journal.proofs.Places.{part-at, count-in, cut, part-length, count-bytes}
+use Rattle.primitives.proofs.Counts.{part-at, count-in, cut, part-length, count-bytes}
 
 pub length-section : (t : List ℕ) → length (section t) ≡ 4 + length t
 unfolding section

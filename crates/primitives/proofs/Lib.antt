@@ -1,4 +1,5 @@
 pub mod Adding
+pub mod Answers
 pub mod Base64Answers
 pub mod Base64Laws
 pub mod Base64Lengths
@@ -9,6 +10,7 @@ pub mod Cipher
 pub mod Columns
 pub mod Compression
 pub mod CounterCode
+pub mod Counts
 pub mod Digest
 pub mod Each
 pub mod Field

@@ -22,7 +22,7 @@ use Rattle.receipt.specs.Form.{nextAt, part, further, parts, payloadGood
 use Rattle.receipt.specs.Code.{lastAt, codeText, partsOfCode, codeAnswer, codeBuffer, uncodeAnswer, uncodeBuffer, idStart, idEnd, idThere, nowhere, idPlace, idField}
 use Rattle.primitives.specs.Answers.{written}
 use Rattle.receipt.specs.FormReading.{short, found}
-use Rattle.receipt.proofs.Below.{written-room, written-full}
+use Rattle.primitives.proofs.Answers.{written-room, written-full}
 use Rattle.receipt.proofs.Finding.{next-most}
 use Rattle.receipt.proofs.CodeTexts.{good-payload, good-signature, read-signed}
 use Rattle.receipt.proofs.Forms.{length-form}

@@ -19,9 +19,9 @@ use Rattle.primitives.proofs.Base64Lengths.{length-encoding}
 use Rattle.primitives.proofs.Base64Laws.{no-underscore, decode-encode, encode-decode, decoded-bytes}
 use Rattle.receipt.specs.Form.{part, Parts, partsGood, PartsOfBytes, signedForm, goodParts, partsOfForm}
 use Rattle.receipt.specs.Code.{lastAt, codeText, partsOfCode, codeAnswer, codeBuffer, uncodeAnswer, uncodeBuffer}
-use Rattle.primitives.specs.Answers.{written, answerWith, bufferWith}
+use Rattle.primitives.specs.Answers.{answerWith, bufferWith}
 use Rattle.receipt.specs.CodeLaws.{CodeIsExact, CodeIsShort, UncodeAfterCode, CodeAfterUncode}
-use Rattle.receipt.proofs.Below.{written-room, written-full}
+use Rattle.primitives.proofs.Answers.{written-room, written-full}
 use Rattle.receipt.proofs.Finding.{last-is, last-without}
 use Rattle.receipt.proofs.CodeTexts.{good-payload, good-signature, good-some, Inverted, good-inverted, exactly}
 use Rattle.receipt.proofs.Forms.{chosen, cut, form-good, form-bytes, form-back, form-only}

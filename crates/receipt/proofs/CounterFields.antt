@@ -1,12 +1,12 @@
 -- The counter field and the chain field: reading what was spelled.
 use mathlib.Core.Path.{_≡_, refl, sym, ap, _∙_, subst}
 use mathlib.Core.Bool.{Bool, true, false, cond}
-use mathlib.Core.List.{List, [], _∷_, _++_, append-nil}
+use mathlib.Core.List.{List, _∷_, _++_, append-nil}
 use mathlib.Core.Option.{Option, none, some}
 use Prim.Native.Nat.{ℕ, zero, suc, _+_, _-_, _*_, _/_, _<_, _≤_}
 use native.Mathlib.Omega.{arith}
-use borrow.Author.Tests.{eqb-true, ne-eqb, leb-true, leb-false}
-use lib.Dec.{leb, eqb}
+use borrow.Author.Tests.{ne-eqb, leb-true, leb-false}
+use lib.Dec.{leb}
 use lib.ListN.{length, take, drop, replicate, length-drop, take-append-drop, List·getD-append}
 use lib.Seq.{take-at, length-take-le, sets-eq}
 use Rattle.primitives.specs.Place.{overwrite, placed}
@@ -23,7 +23,6 @@ use Rattle.receipt.specs.Payload.{base64, counterContent, counterField, 
 use Rattle.receipt.specs.PayloadReading.{eight, fieldWidth, kindOf, readCounter}
 use Rattle.receipt.specs.declared.details.Kind.{Kind}
 use Rattle.receipt.specs.declared.details.Kind.the-variants.{Standard, Cancellation, Training}
-use Rattle.primitives.proofs.Rows.{both}
 use Rattle.receipt.proofs.Names.{zeros-are}
 use Rattle.receipt.proofs.PaperCases.{cancellation-letters, training-letters}
 use Rattle.receipt.proofs.Written.{length-base64}

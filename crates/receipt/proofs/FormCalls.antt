@@ -20,7 +20,7 @@ use Rattle.primitives.proofs.ByteLists.{same-length}
 use Rattle.primitives.proofs.Questions.{yes, no}
 use Rattle.primitives.proofs.Base64Lengths.{length-encoding}
 use Rattle.receipt.specs.declared.form.Reading.{Reading}
-use Rattle.receipt.specs.Form.{nextAt, part, Parts, parts, payloadGood, signatureGood, signedInput, signedForm, secondDot, partsOfForm, header, firstElement}
+use Rattle.receipt.specs.Form.{nextAt, part, Parts, parts, payloadGood, signatureGood, signedInput, signedForm, secondDot, partsOfForm, firstElement}
 use Rattle.receipt.specs.FormReading.{short, nothing, found}
 use Rattle.receipt.proofs.Finding.{next-from}
 use Rattle.receipt.proofs.Texts.{first-long}

@@ -12,7 +12,7 @@ use lib.Seq.{take-at, drop-at, drop-cons, getD-take, append-snoc}
 use Rattle.primitives.specs.Bytes.{AllBytes}
 use Rattle.primitives.proofs.Rows.{both}
 use Rattle.receipt.specs.Texts.{beginning}
-use Rattle.receipt.specs.Form.{nextAt, part, Without, Parts, payloadGood, signatureGood, partsGood}
+use Rattle.receipt.specs.Form.{nextAt, part, Without, Parts, payloadGood, signatureGood}
 use Rattle.receipt.specs.Code.{lastAt, partsOfCode, idStart, idEnd, idThere, idPlaceOf, idPlace, idField, nowhere}
 use Rattle.receipt.specs.CodeLaws.{IdPart, HasId, IdFieldIsExact}
 use Rattle.receipt.specs.declared.machine_code.Part.{Part}

@@ -1,4 +1,3 @@
-pub mod Below
 pub mod Cents
 pub mod Chains
 pub mod CodeCalls

@@ -1,16 +1,15 @@
 -- The loose reader: where its fields stand, and what its contract says of each.
 use mathlib.Core.Path.{_≡_, refl, sym, ap, _∙_}
 use mathlib.Core.Bool.{true, false}
-use mathlib.Core.List.{List, [], _∷_}
+use mathlib.Core.List.{List, []}
 use Prim.Native.Nat.{ℕ, _+_, _-_, _%_, _<_, _≤_}
 use native.Mathlib.Nat.{add-zero}
-use native.Mathlib.Numerals.{add-one}
 use native.Mathlib.Omega.{arith}
 use borrow.Author.Tests.{leb-true, le-leb, lt-leb, eq-eqb, ne-eqb}
 use lib.Dec.{leb}
 use lib.IntN.{ℤ}
 use lib.ListN.{length, take, drop, getD, length-drop, drop-of-length-le}
-use lib.Seq.{getD-drop, drop-cons, take-all}
+use lib.Seq.{getD-drop, take-all}
 use Rattle.receipt.specs.Decimal.{valueOf}
 use Rattle.receipt.specs.DateTime.{readDate}
 use Rattle.receipt.specs.Separated.{after, skip, At, readAmounts}

@@ -4,12 +4,11 @@ use mathlib.Core.Bool.{true}
 use mathlib.Core.List.{List, [], _∷_}
 use Prim.Native.Nat.{ℕ, zero, suc, _<_}
 use native.Mathlib.Omega.{arith}
-use lib.Dec.{ltb}
 use lib.ListN.{length, getD}
 use Rattle.primitives.specs.Text.{ascii}
 use Rattle.primitives.specs.declared.base64.Alphabet.the-variants.{Standard, UrlSafe}
 use Rattle.primitives.proofs.ByteLists.{same-true}
-use Rattle.primitives.proofs.Rows.{both, true-is-not-false}
+use Rattle.primitives.proofs.Rows.{both}
 use Rattle.primitives.specs.Bytes.{same}
 use Rattle.primitives.specs.Number.{bytesOf}
 use Rattle.primitives.specs.Counter.{widthGood, half, fitsIn, counterFits, twos, counterBytes}

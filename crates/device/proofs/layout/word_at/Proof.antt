@@ -1,7 +1,7 @@
 -- `layout::word_at` meets its contract.
 use mathlib.Core.Path.{sym, _∙_}
 use native.Mathlib.Omega.{arith}
-use Rattle.journal.proofs.Readings.{count-found}
+use Rattle.primitives.proofs.Counts.{count-found}
 use Rattle.device.proofs.Reading.{long-found, not-missing}
 use borrow.Author.Needs.{needs}
 use Rattle.device.proofs.layout.word_at.Statement.{statement}

@@ -1,6 +1,6 @@
 -- A number that is there.
 use mathlib.Core.Path.{sym, _∙_}
-use Rattle.journal.proofs.Readings.{count-found, count-missing}
+use Rattle.primitives.proofs.Counts.{count-found, count-missing}
 use borrow.Author.Needs.{needs}
 use Rattle.journal.proofs.head.count_at.Statement.{statement}
 use Rattle.journal.proofs.head.count_at.Tie as tie

@@ -1,7 +1,6 @@
 -- `bits_of` meets its contract.
 use borrow.Author.Needs.{needs}
 use Rattle.primitives.proofs.Zlaws.{same-mag, bits-neg, bits-pos}
-use borrow.Author.Needs.{needs}
 use Rattle.primitives.proofs.counter.bits_of.Statement.{statement}
 use Rattle.primitives.proofs.counter.bits_of.Tie as tie
 

@@ -6,7 +6,6 @@ use Rattle.primitives.proofs.Zlaws.{same-mag}
 use Rattle.primitives.proofs.Twos.{width-true, no-width}
 use Rattle.primitives.proofs.Questions.{yes, no}
 use Rattle.primitives.proofs.CounterCode.{fits-test}
-use borrow.Author.Needs.{needs}
 use Rattle.primitives.proofs.counter.counter_fits.Statement.{statement}
 use Rattle.primitives.proofs.counter.counter_fits.Tie as tie
 

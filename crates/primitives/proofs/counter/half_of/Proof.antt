@@ -1,7 +1,6 @@
 -- `half_of` meets its contract: a shift is half of the power.
 use borrow.Author.Needs.{needs}
 use Rattle.primitives.proofs.Twos.{half-shift}
-use borrow.Author.Needs.{needs}
 use Rattle.primitives.proofs.counter.half_of.Statement.{statement}
 use Rattle.primitives.proofs.counter.half_of.Tie as tie
 

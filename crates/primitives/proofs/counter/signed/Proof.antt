@@ -1,7 +1,6 @@
 -- `signed` meets its contract, in the lower half and in the upper one.
 use borrow.Author.Needs.{needs}
 use Rattle.primitives.proofs.CounterCode.{lower-fits, lower-is, upper-some, upper-within, upper-fits, upper-is}
-use borrow.Author.Needs.{needs}
 use Rattle.primitives.proofs.counter.signed.Statement.{statement}
 use Rattle.primitives.proofs.counter.signed.Tie as tie
 

@@ -1,5 +1,4 @@
 -- The length is asked on both sides, then the first four bytes.
-use mathlib.Core.Path.{_∙_, ap}
 use Rattle.receipt.proofs.CodeTexts.{payload-short, payload-long, payload-mark}
 use borrow.Author.Needs.{needs}
 use Rattle.receipt.proofs.form.payload_good.Statement.{statement}

@@ -1,5 +1,5 @@
 -- `payload::put_register` meets its contract.
-use mathlib.Core.Path.{_≡_, _∙_, ap}
+use mathlib.Core.Path.{_≡_}
 use native.Mathlib.Omega.{arith}
 use lib.ListN.{length}
 use Rattle.receipt.proofs.Written.{put-register}

@@ -1,6 +1,5 @@
 -- `settings::settings_number` meets its contract.
 use borrow.Author.Needs.{needs}
-use Rattle.primitives.proofs.Questions.{yes, no}
 use Rattle.primitives.proofs.Rows.{rows}
 use Rattle.receipt.specs.Settings.{settingsNumber}
 use Rattle.receipt.proofs.settings.settings_number.Statement.{statement}

@@ -1,12 +1,13 @@
--- Laws of the primitives' definitions that the primitives do not state. Beside the table of proofs/PaperCases.antt, which computes,
--- this is the one place of the crate that unfolds a definition of the layer below.
-use Prim.Native.Nat.{ℕ, _+_, _≤_, _<_}
-use mathlib.Core.Path.{_≡_}
+-- Calls that write a text at the start of their output.
+use Prim.Native.Nat.{ℕ, _≤_, _<_}
+use mathlib.Core.Path.{_≡_, refl}
+use mathlib.Core.Bool.{cond}
 use mathlib.Core.List.{List}
 use native.Mathlib.Omega.{arith}
 use lib.ListN.{length}
+use Rattle.primitives.specs.Place.{room}
 use Rattle.primitives.specs.Answers.{written}
 use Rattle.primitives.proofs.Over.{room-true, room-false}
 
 -- what a call answers that writes a text at the start of its output
 module _ (out text : List ℕ) where
@@ -17,3 +18,8 @@ module _ (out text : List ℕ) where
   pub written-full : length out < length text → written out text ≡ record { number = 23; length = 0 }
   unfolding written
   written-full h = rw (room-false out 0 text (omega arith))
+
+  -- by its room
+  pub written-is : written out text ≡ cond (room out 0 text) (record { number = 0; length = length text }) (record { number = 23; length = 0 })
+  unfolding written
+  written-is = refl
