@@ -1,12 +1,12 @@
 // Taking over a journal: its head, and step by step.
 use super::head::count_at;
-use super::head::count_place;
 use super::head::head_settings;
 use super::head::head_whole;
 use super::head::there;
 use super::state::State;
 use super::state::TakenOver;
 use super::state::unopened;
+use super::step::count_place_now;
 use super::step::first_good;
 use super::step::fresh;
 use super::step::next;
@@ -151,8 +151,7 @@ fn full(st: State, j: &[u8]) -> bool
     requires { ⌜ (settingsGood (settingsNow st) ≡ true) × (headLengthNow st ≤ length (now j)) ⌝ }
     ensures { λ r. ⌜ r ≡ full st (now (j .entry)) ⌝ }
 {
-    let settings = st.settings;
-    let place = count_place(settings);
+    let place = count_place_now(st);
     count_at(j, place, 4) <= st.issued as usize
 }
 
