@@ -5,6 +5,7 @@ use super::head::head_whole;
 use super::head::there;
 use super::state::State;
 use super::state::TakenOver;
+use super::state::settings_now;
 use super::state::unopened;
 use super::step::count_place_now;
 use super::step::first_good;
@@ -41,7 +42,7 @@ fn chain_right(st: State, f: PayloadFields) -> bool
 fn decrypts_to(schedule: &[[u8; 4]; 60], st: State, f: PayloadFields, z: i64) -> bool
     ensures { λ r. ⌜ r ≡ equal (decryptedCounter (now (schedule .entry)) (settingsNow st .id) (f .details .number) (st .width) (f .counter)) z ⌝ }
 {
-    let settings = st.settings;
+    let settings = settings_now(st);
     let id = settings.id;
     let d = f.details;
     let bytes = f.counter;
@@ -110,7 +111,7 @@ fn check_text(schedule: &[[u8; 4]; 60], st: State, text: &[u8]) -> Checked
     requires { ⌜ (st .issued ≤ st .last) × (st .length + 2 + length (now text) < 18446744073709551616) ⌝ }
     ensures { λ r. ⌜ r ≡ textChecked (now (schedule .entry)) st (now (text .entry)) ⌝ }
 {
-    let settings = st.settings;
+    let settings = settings_now(st);
     let found = receipt::read_entry(settings, st.width, text);
     if !found.ok {
         return stopped(16, st);
