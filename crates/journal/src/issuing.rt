@@ -2,6 +2,7 @@
 use super::head::put_count;
 use super::state::Issued;
 use super::state::State;
+use super::state::settings_now;
 use super::step::details_number;
 use super::step::fields_of;
 use super::step::next;
@@ -71,7 +72,7 @@ fn put_entry(st: State, e: Entry, buf: &mut [u8]) -> usize
     ensures { λ r. ⌜ (r ≡ behind (now (buf .entry)) (st .length) (entryText (compact (settingsNow st) (st .width) e))) × (now (buf .exit) ≡ placed (now (buf .entry)) (st .length) (entryText (compact (settingsNow st) (st .width) e))) ⌝ }
 {
     let at = st.length;
-    let settings = st.settings;
+    let settings = settings_now(st);
     if !receipt::has_room(buf.len(), at, 2) {
         return at;
     }

@@ -158,7 +158,7 @@ pub(crate) fn details_number(st: State, d: Details) -> u32
 fn encrypted(st: State, d: Details) -> [u8; 8]
     ensures { λ r. ⌜ r ≡ encryptedCounter (keySchedule (st .key)) (settingsNow st .id) (d .number) (st .width) (newCounter st d .counter) ⌝ }
 {
-    let settings = st.settings;
+    let settings = settings_now(st);
     let id = settings.id;
     let key = st.key;
     let after = new_counter(st, d);
