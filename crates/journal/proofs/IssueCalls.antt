@@ -39,8 +39,9 @@ use Rattle.journal.specs.Issuing.{signatureSized, givenSignature, entryO
 use Rattle.journal.specs.Preparing.{preparedText, prepareNumber, prepareAnswer, prepareBuffer}
 use Rattle.journal.specs.declared.state.State.{State}
 use Rattle.journal.proofs.Places.{length-entry}
+use Rattle.journal.proofs.OpenCalls.{count-room}
 use Rattle.journal.proofs.CallLists.{sound-true, details-zero, details-yes, details-then, sized-cases, call-spellable}
-use Rattle.journal.specs.State.{settingsNow, headLengthNow, countPlaceNow}
+use Rattle.journal.specs.State.{settingsNow, countPlaceNow}
 
 -- ---- the questions 7 to 11, and then the rest
 
@@ -216,8 +217,11 @@ module _ (st : State) (d : Details) (sig b : List ℕ) (a : Asked st d sig (leng
   pub append-count : d .number < 4294967296 → st .issued + 1 < 4294967296
   append-count h = omega (arith, h, sound-true st (asked-alone .0) .issued, details-zero st d 0 (a .details) .0 .above)
 
-  pub append-head : (settingsGood (settingsNow st) ≡ true) × (headLengthNow st ≤ length b)
-  append-head = let s = sound-true st (asked-alone .0) in (s .settings, omega (arith, s .head, asked-alone .1))
+  pub append-good : settingsGood (settingsNow st) ≡ true
+  append-good = sound-true st (asked-alone .0) .settings
+
+  pub append-place : {k : ℕ} → k ≡ countPlaceNow st → k + 4 ≤ length b
+  append-place e = count-room (settingsNow st) e (omega (arith, sound-true st (asked-alone .0) .head, asked-alone .1))
 
   -- the number, as far as it is not known
   number-is : issueNumber st d sig (length b) ≡ ask (leb (st .length + length (entryText (textOf st d sig))) (length b)) 13 0
@@ -265,14 +269,14 @@ module _ (st : State) (d : Details) (sig b : List ℕ) (a : Asked st d sig (leng
             long = omega (arith, ap length text-is, appended .end, appended .room);
           }
 
-      pub append-done : {st₁ : State} {b₂ : List ℕ} → st₁ ≡ next st d (take (r - (st .length + 2)) (drop (st .length + 2) b₁))
-          → b₂ ≡ overwrite b₁ (countPlaceNow st) (bytesOf 4 (st .issued + 1))
+      pub append-done : {k : ℕ} {st₁ : State} {b₂ : List ℕ} → k ≡ countPlaceNow st → st₁ ≡ next st d (take (r - (st .length + 2)) (drop (st .length + 2) b₁))
+          → b₂ ≡ overwrite b₁ k (bytesOf 4 (st .issued + 1))
           → (record { number = 0; state = st₁ } ≡ issued st d sig (length b)) × (b₂ ≡ issueBuffer st d sig b)
       unfolding issued issueBuffer written
-      append-done f g =
+      append-done p f g =
           let n : issueNumber st d sig (length b) ≡ 0 = number-is ∙ ask-yes 13 0 (le-leb _ _ (appended .room)) in (
             (λ i. record { number = sym n i; state = (f ∙ ap (next st d) text-is ∙ sym (ifZero-yes (next st d (textOf st d sig)) st n)) i }),
-            g ∙ ap (λ (l : List ℕ). overwrite l (countPlaceNow st) (bytesOf 4 (st .issued + 1))) (appended .wrote) ∙ sym (ifZero-yes (written st (textOf st d sig) b) b n),
+            g ∙ (λ i. overwrite (appended .wrote i) (p i) (bytesOf 4 (st .issued + 1))) ∙ sym (ifZero-yes (written st (textOf st d sig) b) b n),
           )
 
 -- ---- the questions of an Issue

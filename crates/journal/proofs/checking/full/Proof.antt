@@ -8,16 +8,16 @@ use Rattle.journal.proofs.head.count_at.Reads as count-at-reads
 use Rattle.journal.proofs.step.count_place_now.Reads as count-place-now-reads
 use Rattle.journal.proofs.CheckCalls.{full-is}
 use native.Mathlib.Omega.{arith}
-use Rattle.journal.proofs.OpenCalls.{head-least}
-use Rattle.journal.specs.Head.{countPlace}
+use Rattle.journal.proofs.OpenCalls.{count-room}
 use Rattle.journal.specs.State.{settingsNow}
 
 count-place-now-requires : tie.Need-count-place-now-requires
 count-place-now-requires c κs = search needs
 
 count-at-requires : tie.Need-count-at-requires
-unfolding countPlace
-count-at-requires c κs = (omega arith, omega (arith, c .count-place-now .ensures, head-least (settingsNow (c .before .before .args .st)), c .before .before .pre .1))
+count-at-requires c κs =
+    let start = c .before .before in
+    (omega arith, count-room (settingsNow (start .args .st)) (c .count-place-now .ensures) (start .pre .1))
 
 cast-result : tie.Need-cast-result
 cast-result c = search needs
