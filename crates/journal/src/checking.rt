@@ -23,7 +23,6 @@ ghost use lib.ListN.{length};
 ghost use Rattle.primitives.specs.Bytes.{same};
 ghost use Rattle.receipt.specs.Settings.{settingsGood};
 ghost use Rattle.receipt.specs.Chain.{decryptedCounter};
-ghost use Rattle.journal.specs.Head.{headLength};
 ghost use Rattle.journal.specs.Checking.{equal, counterRight, contextNumber, full, stopped, textChecked, placeChecked, endChecked, oneStep, steps, refused, answerOf, takeOver, entryReady, entryChecked, stepChecked};
 ghost use Rattle.journal.specs.State.{settingsNow, headLengthNow};
 
