@@ -86,12 +86,19 @@ pub equal-yes : (a b : ℤ) → a ≡ b → equal a b ≡ true
 equal-yes a b e = ap (equal a) (sym e) ∙ equal-refl a
 
 -- a test of the bits of two numbers
-pub bits-equal : {x y z : ℤ} → SFits w64 x → SFits w64 y → x ≡ z → eqb (ofZ w64 x) (ofZ w64 y) ≡ equal z y
+bits-equal : {x y z : ℤ} → SFits w64 x → SFits w64 y → x ≡ z → eqb (ofZ w64 x) (ofZ w64 y) ≡ equal z y
 bits-equal {x} {y} {z} f g e = go (eqb (ofZ w64 x) (ofZ w64 y)) refl
   where
     go : (t : Bool) → eqb (ofZ w64 x) (ofZ w64 y) ≡ t → t ≡ equal z y
     go true q = sym (equal-yes z y (sym e ∙ same-bits x y f g (eqb-true (ofZ w64 x) (ofZ w64 y) q)))
     go false q = sym (equal-no z y (λ r. true-is-not-false (sym q ∙ eq-eqb (ofZ w64 x) (ofZ w64 y) (ap (ofZ w64) (e ∙ r)))))
+
+-- the same of what is decrypted with the settings in force
+pub decrypted-equal : (k : List (List ℕ)) (st : State) (f : PayloadFields) {s : Settings} {x y : ℤ} → s ≡ settingsNow st → SFits w64 x → SFits w64 y
+    → x ≡ decryptedCounter k (s .id) (f .details .number) (st .width) (f .counter)
+    → eqb (ofZ w64 x) (ofZ w64 y) ≡ equal (decryptedCounter k (settingsNow st .id) (f .details .number) (st .width) (f .counter)) y
+decrypted-equal k st f q a b e =
+    bits-equal a b (e ∙ ap (λ (s : Settings). decryptedCounter k (s .id) (f .details .number) (st .width) (f .counter)) q)
 
 -- the machine's number is the state's
 pub after-back : (st : State) (d : Details) {a : After} → SFits w64 (st .counter) → a ≡ counterAfter (st .width) (toZ w64 (ofZ w64 (st .counter))) d

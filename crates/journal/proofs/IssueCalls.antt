@@ -39,8 +39,9 @@ use Rattle.journal.specs.Issuing.{signatureSized, givenSignature, entryO
 use Rattle.journal.specs.Preparing.{preparedText, prepareNumber, prepareAnswer, prepareBuffer}
 use Rattle.journal.specs.declared.state.State.{State}
 use Rattle.journal.proofs.Places.{length-entry}
+use Rattle.journal.proofs.OpenCalls.{count-room}
 use Rattle.journal.proofs.CallLists.{sound-true, details-zero, details-yes, details-then, sized-cases, call-spellable}
-use Rattle.journal.specs.State.{settingsNow, headLengthNow, countPlaceNow}
+use Rattle.journal.specs.State.{settingsNow, countPlaceNow}
 
 -- ---- the questions 7 to 11, and then the rest
 
@@ -53,12 +54,12 @@ module _ (st : State) (d : Details) {k : ℕ} (e : k ≡ detailsNumber st d 0) (
 
 -- ---- the counter field
 
-pub encrypted-is : (st : State) (d : Details) {k : List (List ℕ)} {a : After} {z : ℤ} {r : List ℕ} → k ≡ keySchedule (st .key) → a ≡ newCounter st d → z ≡ a .counter
-    → r ≡ encryptedCounter k (settingsNow st .id) (d .number) (st .width) z
+pub encrypted-is : (st : State) (d : Details) {s : Settings} {k : List (List ℕ)} {a : After} {z : ℤ} {r : List ℕ} → s ≡ settingsNow st → k ≡ keySchedule (st .key) → a ≡ newCounter st d
+    → z ≡ a .counter → r ≡ encryptedCounter k (s .id) (d .number) (st .width) z
     → r ≡ encryptedCounter (keySchedule (st .key)) (settingsNow st .id) (d .number) (st .width) (newCounter st d .counter)
-encrypted-is st d e q f h =
+encrypted-is st d g e q f h =
     let p = f ∙ ap (λ (x : After). x .counter) q in
-    h ∙ (λ i. encryptedCounter (e i) (settingsNow st .id) (d .number) (st .width) (p i))
+    h ∙ (λ i. encryptedCounter (e i) (g i .id) (d .number) (st .width) (p i))
 
 pub field-standard : (st : State) (d : Details) {r : List ℕ} → d .kind ≡ Standard
     → r ≡ encryptedCounter (keySchedule (st .key)) (settingsNow st .id) (d .number) (st .width) (newCounter st d .counter) → r ≡ fieldsOf st d .counter
@@ -97,10 +98,12 @@ compact-some s n e =
     let t = encoding UrlSafe (signatureText (e .signature)) in
     omega (arith, ap length (compact-signed s n e), length-append f ((46 ∷ []) ++ t), length-append (46 ∷ []) t)
 
--- what was written is the compact form
-pub as-compact : (s : Settings) (n : ℕ) (e : Entry) → spellable s n e ≡ true → (b : List ℕ) (at : ℕ) {r : ℕ} {b₁ : List ℕ}
-    → (r ≡ behind b at (spelled s n e)) × (b₁ ≡ placed b at (spelled s n e)) → (r ≡ behind b at (compact s n e)) × (b₁ ≡ placed b at (compact s n e))
-as-compact s n e g b at w = let q = spelled-is s n e g in (w .0 ∙ ap (behind b at) q, w .1 ∙ ap (placed b at) q)
+-- what was written with these settings is the compact form
+pub as-compact : (s : Settings) (n : ℕ) (e : Entry) → spellable s n e ≡ true → (b : List ℕ) (at : ℕ) {u : Settings} {r : ℕ} {b₁ : List ℕ} → u ≡ s
+    → (r ≡ behind b at (spelled u n e)) × (b₁ ≡ placed b at (spelled u n e)) → (r ≡ behind b at (compact s n e)) × (b₁ ≡ placed b at (compact s n e))
+as-compact s n e g b at f w =
+    let q = ap (λ (x : Settings). spelled x n e) f ∙ spelled-is s n e g in
+    (w .0 ∙ ap (behind b at) q, w .1 ∙ ap (placed b at) q)
 
 -- ---- whether a writer has moved
 
@@ -214,8 +217,11 @@ module _ (st : State) (d : Details) (sig b : List ℕ) (a : Asked st d sig (leng
   pub append-count : d .number < 4294967296 → st .issued + 1 < 4294967296
   append-count h = omega (arith, h, sound-true st (asked-alone .0) .issued, details-zero st d 0 (a .details) .0 .above)
 
-  pub append-head : (settingsGood (settingsNow st) ≡ true) × (headLengthNow st ≤ length b)
-  append-head = let s = sound-true st (asked-alone .0) in (s .settings, omega (arith, s .head, asked-alone .1))
+  pub append-good : settingsGood (settingsNow st) ≡ true
+  append-good = sound-true st (asked-alone .0) .settings
+
+  pub append-place : {k : ℕ} → k ≡ countPlaceNow st → k + 4 ≤ length b
+  append-place e = count-room (settingsNow st) e (omega (arith, sound-true st (asked-alone .0) .head, asked-alone .1))
 
   -- the number, as far as it is not known
   number-is : issueNumber st d sig (length b) ≡ ask (leb (st .length + length (entryText (textOf st d sig))) (length b)) 13 0
@@ -263,14 +269,14 @@ module _ (st : State) (d : Details) (sig b : List ℕ) (a : Asked st d sig (leng
             long = omega (arith, ap length text-is, appended .end, appended .room);
           }
 
-      pub append-done : {st₁ : State} {b₂ : List ℕ} → st₁ ≡ next st d (take (r - (st .length + 2)) (drop (st .length + 2) b₁))
-          → b₂ ≡ overwrite b₁ (countPlaceNow st) (bytesOf 4 (st .issued + 1))
+      pub append-done : {k : ℕ} {st₁ : State} {b₂ : List ℕ} → k ≡ countPlaceNow st → st₁ ≡ next st d (take (r - (st .length + 2)) (drop (st .length + 2) b₁))
+          → b₂ ≡ overwrite b₁ k (bytesOf 4 (st .issued + 1))
           → (record { number = 0; state = st₁ } ≡ issued st d sig (length b)) × (b₂ ≡ issueBuffer st d sig b)
       unfolding issued issueBuffer written
-      append-done f g =
+      append-done p f g =
           let n : issueNumber st d sig (length b) ≡ 0 = number-is ∙ ask-yes 13 0 (le-leb _ _ (appended .room)) in (
             (λ i. record { number = sym n i; state = (f ∙ ap (next st d) text-is ∙ sym (ifZero-yes (next st d (textOf st d sig)) st n)) i }),
-            g ∙ ap (λ (l : List ℕ). overwrite l (countPlaceNow st) (bytesOf 4 (st .issued + 1))) (appended .wrote) ∙ sym (ifZero-yes (written st (textOf st d sig) b) b n),
+            g ∙ (λ i. overwrite (appended .wrote i) (p i) (bytesOf 4 (st .issued + 1))) ∙ sym (ifZero-yes (written st (textOf st d sig) b) b n),
           )
 
 -- ---- the questions of an Issue
@@ -321,18 +327,18 @@ module _ (st : State) (d : Details) (out : List ℕ) {k : ℕ} (e : k ≡ ask (s
       go true zero rest h = absurd (h refl)
       go true (suc m) rest h = refl
 
-  module _ (z : k ≡ 0) {f : PayloadFields} (q : f ≡ fieldsOf st d) {r : ℕ} {out₁ : List ℕ}
-      (w : (r ≡ behind out 0 (prepared (settingsNow st) (st .width) f)) × (out₁ ≡ placed out 0 (prepared (settingsNow st) (st .width) f))) where
+  module _ (z : k ≡ 0) {s : Settings} (g : s ≡ settingsNow st) {f : PayloadFields} (q : f ≡ fieldsOf st d) {r : ℕ} {out₁ : List ℕ}
+      (w : (r ≡ behind out 0 (prepared s (st .width) f)) × (out₁ ≡ placed out 0 (prepared s (st .width) f))) where
     asked : (soundAlone st ≡ true) × (detailsNumber st d 0 ≡ 0)
     asked = ask-zero _ _ _ (sym e ∙ z)
 
-    prepared-as : prepared (settingsNow st) (st .width) f ≡ preparedText st d
+    prepared-as : prepared s (st .width) f ≡ preparedText st d
     unfolding preparedText entryOf signatureSized
     prepared-as =
-        let s = st .settings in
+        let u = settingsNow st in
         let n = st .width in
         let y = spellable-asked st d [] (asked .0) (asked .1) none in
-        ap (prepared s n) q ∙ prepared-is s n (fieldsOf st d) (preparable-made s n (fieldsOf st d) (spellable-true s n (entryOf st d []) y .fields))
+        (λ i. prepared (g i) n (q i)) ∙ prepared-is u n (fieldsOf st d) (preparable-made u n (fieldsOf st d) (spellable-true u n (entryOf st d []) y .fields))
       where
         none : signatureSized [] ≡ true
         none = refl

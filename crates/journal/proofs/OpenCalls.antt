@@ -40,6 +40,11 @@ pub head-least : (s : Settings) → 19 ≤ headLength s
 unfolding headLength
 head-least s = omega arith
 
+-- the count is within the head
+pub count-room : (s : Settings) {k n : ℕ} → k ≡ countPlace s → headLength s ≤ n → k + 4 ≤ n
+unfolding countPlace
+count-room s e h = omega (arith, e, h, head-least s)
+
 pub put-section : (text b : List ℕ) (at : ℕ) {b₁ b₂ : List ℕ} → at + 4 + length text ≤ length b → b₁ ≡ placed b at (bytesOf 4 (length text)) → b₂ ≡ placed b₁ (at + 4) text
     → b₂ ≡ overwrite b at (section text)
 unfolding section
@@ -71,11 +76,11 @@ module _ (s : Settings) (t : SettingsLengths s) (b : List ℕ) (good : settingsG
   pub serial-room : (b₁ : List ℕ) → length b₁ ≡ length b → 11 + s .id .len + 4 + length (take (s .serial .len - 0) (s .serial .bytes)) ≤ length b₁
   serial-room b₁ e = omega (arith, room, lent-long .1, e)
 
-  pub put-head : {b₁ b₂ b₃ b₄ : List ℕ} → b₁ ≡ overwrite b 0 (section (s .csp)) → b₂ ≡ overwrite b₁ 7 (section (take (s .id .len - 0) (s .id .bytes)))
-      → b₃ ≡ overwrite b₂ (11 + s .id .len) (section (take (s .serial .len - 0) (s .serial .bytes))) → b₄ ≡ overwrite b₃ (countPlace s) (bytesOf 4 0)
+  pub put-head : {k : ℕ} {b₁ b₂ b₃ b₄ : List ℕ} → k ≡ countPlace s → b₁ ≡ overwrite b 0 (section (s .csp)) → b₂ ≡ overwrite b₁ 7 (section (take (s .id .len - 0) (s .id .bytes)))
+      → b₃ ≡ overwrite b₂ (11 + s .id .len) (section (take (s .serial .len - 0) (s .serial .bytes))) → b₄ ≡ overwrite b₃ k (bytesOf 4 0)
       → b₄ ≡ overwrite b 0 (head s 0)
   unfolding head front
-  put-head {b₁} {b₂} e₁ e₂ e₃ e₄ =
+  put-head {k} {b₁} {b₂} {b₃} q e₁ e₂ e₃ e₄ =
       let c = section (s .csp) in
       let i = section (nameText (s .id)) in
       let n = section (nameText (s .serial)) in
@@ -89,15 +94,12 @@ module _ (s : Settings) (t : SettingsLengths s) (b : List ℕ) (good : settingsG
       let l4 = length-bytesOf 4 0 in
       let w₂ = then b c i 0 7 e₁ (e₂ ∙ ap (λ (l : List ℕ). overwrite b₁ 7 (section l)) (lent-name (s .id))) (omega arith) (omega arith) in
       let w₃ = then b (c ++ i) n 0 (11 + s .id .len) w₂ (e₃ ∙ ap (λ (l : List ℕ). overwrite b₂ (11 + s .id .len) (section l)) (lent-name (s .serial))) (omega arith) (omega arith) in
-      then b (c ++ i ++ n) (bytesOf 4 0) 0 (countPlace s) w₃ e₄ (omega arith) (omega arith)
+      then b (c ++ i ++ n) (bytesOf 4 0) 0 (countPlace s) w₃ (e₄ ∙ ap (λ (x : ℕ). overwrite b₃ x (bytesOf 4 0)) q) (omega arith) (omega arith)
 
-pub put-count : (s : Settings) (count : ℕ) (b : List ℕ) {k : ℕ} {b₁ : List ℕ} → headLength s ≤ length b → k ≡ countPlace s → b₁ ≡ placed b k (bytesOf 4 count)
-    → b₁ ≡ overwrite b (countPlace s) (bytesOf 4 count)
-unfolding countPlace
-put-count s count b {k} h e q =
+pub put-count : (place count : ℕ) (b : List ℕ) {b₁ : List ℕ} → place + 4 ≤ length b → b₁ ≡ placed b place (bytesOf 4 count) → b₁ ≡ overwrite b place (bytesOf 4 count)
+put-count place count b h q =
     let l = length-bytesOf 4 count in
-    let m = head-least s in
-    q ∙ (λ i. placed b (e i) (bytesOf 4 count)) ∙ placed-room b (headLength s - 4) (bytesOf 4 count) (omega arith)
+    q ∙ placed-room b place (bytesOf 4 count) (omega arith)
 
 -- ---- the answers
 

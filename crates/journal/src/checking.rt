@@ -1,12 +1,13 @@
 // Taking over a journal: its head, and step by step.
 use super::head::count_at;
-use super::head::count_place;
 use super::head::head_settings;
 use super::head::head_whole;
 use super::head::there;
 use super::state::State;
 use super::state::TakenOver;
+use super::state::settings_now;
 use super::state::unopened;
+use super::step::count_place_now;
 use super::step::first_good;
 use super::step::fresh;
 use super::step::next;
@@ -22,7 +23,6 @@ ghost use lib.ListN.{length};
 ghost use Rattle.primitives.specs.Bytes.{same};
 ghost use Rattle.receipt.specs.Settings.{settingsGood};
 ghost use Rattle.receipt.specs.Chain.{decryptedCounter};
-ghost use Rattle.journal.specs.Head.{headLength};
 ghost use Rattle.journal.specs.Checking.{equal, counterRight, contextNumber, full, stopped, textChecked, placeChecked, endChecked, oneStep, steps, refused, answerOf, takeOver, entryReady, entryChecked, stepChecked};
 ghost use Rattle.journal.specs.State.{settingsNow, headLengthNow};
 
@@ -41,7 +41,7 @@ fn chain_right(st: State, f: PayloadFields) -> bool
 fn decrypts_to(schedule: &[[u8; 4]; 60], st: State, f: PayloadFields, z: i64) -> bool
     ensures { λ r. ⌜ r ≡ equal (decryptedCounter (now (schedule .entry)) (settingsNow st .id) (f .details .number) (st .width) (f .counter)) z ⌝ }
 {
-    let settings = st.settings;
+    let settings = settings_now(st);
     let id = settings.id;
     let d = f.details;
     let bytes = f.counter;
@@ -110,7 +110,7 @@ fn check_text(schedule: &[[u8; 4]; 60], st: State, text: &[u8]) -> Checked
     requires { ⌜ (st .issued ≤ st .last) × (st .length + 2 + length (now text) < 18446744073709551616) ⌝ }
     ensures { λ r. ⌜ r ≡ textChecked (now (schedule .entry)) st (now (text .entry)) ⌝ }
 {
-    let settings = st.settings;
+    let settings = settings_now(st);
     let found = receipt::read_entry(settings, st.width, text);
     if !found.ok {
         return stopped(16, st);
@@ -151,8 +151,7 @@ fn full(st: State, j: &[u8]) -> bool
     requires { ⌜ (settingsGood (settingsNow st) ≡ true) × (headLengthNow st ≤ length (now j)) ⌝ }
     ensures { λ r. ⌜ r ≡ full st (now (j .entry)) ⌝ }
 {
-    let settings = st.settings;
-    let place = count_place(settings);
+    let place = count_place_now(st);
     count_at(j, place, 4) <= st.issued as usize
 }
 

@@ -40,12 +40,11 @@ fn put_section(text: &[u8], buf: &mut [u8], at: usize)
     let _ = receipt::put(buf, at + 4, text);
 }
 
-// The count of receipts, at the end of the head.
-pub(crate) fn put_count(s: Settings, count: u32, buf: &mut [u8])
-    requires { ⌜ (settingsGood s ≡ true) × (headLength s ≤ length (now buf)) ⌝ }
-    ensures { λ _. ⌜ now (buf .exit) ≡ overwrite (now (buf .entry)) (countPlace s) (bytesOf 4 count) ⌝ }
+// The count of receipts, at its place.
+pub(crate) fn put_count(place: usize, count: u32, buf: &mut [u8])
+    requires { ⌜ place + 4 ≤ length (now buf) ⌝ }
+    ensures { λ _. ⌜ now (buf .exit) ≡ overwrite (now (buf .entry)) place (bytesOf 4 count) ⌝ }
 {
-    let place = count_place(s);
     let _ = receipt::put_number(buf, place, 4, count as u64);
 }
 
@@ -64,7 +63,8 @@ pub(crate) fn put_head(s: Settings, buf: &mut [u8])
     put_section(&csp, buf, 0);
     put_section(&i[0..n], buf, 7);
     put_section(&j[0..m], buf, 11 + n);
-    put_count(s, 0, buf);
+    let place = count_place(s);
+    put_count(place, 0, buf);
 }
 
 // ---- reading

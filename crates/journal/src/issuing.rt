@@ -2,6 +2,8 @@
 use super::head::put_count;
 use super::state::Issued;
 use super::state::State;
+use super::state::settings_now;
+use super::step::count_place_now;
 use super::step::details_number;
 use super::step::fields_of;
 use super::step::next;
@@ -71,7 +73,7 @@ fn put_entry(st: State, e: Entry, buf: &mut [u8]) -> usize
     ensures { λ r. ⌜ (r ≡ behind (now (buf .entry)) (st .length) (entryText (compact (settingsNow st) (st .width) e))) × (now (buf .exit) ≡ placed (now (buf .entry)) (st .length) (entryText (compact (settingsNow st) (st .width) e))) ⌝ }
 {
     let at = st.length;
-    let settings = st.settings;
+    let settings = settings_now(st);
     if !receipt::has_room(buf.len(), at, 2) {
         return at;
     }
@@ -89,7 +91,7 @@ fn append(st: State, d: Details, signature: &[u8], buf: &mut [u8]) -> Issued
     requires { ⌜ (sound st (length (now buf)) ≡ true) × (detailsNumber st d 0 ≡ 0) × (signatureSized (now signature) ≡ true) ⌝ }
     ensures { λ r. ⌜ (r ≡ issued st d (now (signature .entry)) (length (now (buf .entry)))) × (now (buf .exit) ≡ issueBuffer st d (now (signature .entry)) (now (buf .entry))) ⌝ }
 {
-    let settings = st.settings;
+    let place = count_place_now(st);
     let at = st.length;
     let e = entry_of(st, d, signature);
     let end = put_entry(st, e, buf);
@@ -101,7 +103,7 @@ fn append(st: State, d: Details, signature: &[u8], buf: &mut [u8]) -> Issued
     }
     let start = at + 2;
     let state = next(st, d, &buf[start..end]);
-    put_count(settings, st.issued + 1, buf);
+    put_count(place, st.issued + 1, buf);
     Issued { number: 0, state }
 }
 

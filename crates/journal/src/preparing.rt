@@ -1,5 +1,6 @@
 // The text that a device signs, before the receipt is issued.
 use super::state::State;
+use super::state::settings_now;
 use super::step::details_number;
 use super::step::fields_of;
 use super::step::sound_alone;
@@ -29,7 +30,7 @@ pub fn prepare(st: State, d: Details, out: &mut [u8]) -> Answer
     if number != 0 {
         return Answer { number, length: 0 };
     }
-    let settings = st.settings;
+    let settings = settings_now(st);
     let f = fields_of(st, d);
     let length = receipt::put_signing_input(settings, st.width, f, out, 0);
     if length == 0 {

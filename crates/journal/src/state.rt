@@ -2,7 +2,7 @@
 use receipt::Name;
 use receipt::Settings;
 ghost use mathlib.Core.Path.{_≡_};
-ghost use Rattle.journal.specs.State.{unopened};
+ghost use Rattle.journal.specs.State.{unopened, settingsNow};
 
 // What a register keeps between calls. Its journal is its buffer up to the length.
 pub struct State {
@@ -58,4 +58,11 @@ pub fn unopened() -> State
         chain: [0u8; 8],
         length: 0,
     }
+}
+
+// The settings in force: with them the next receipt is spelled.
+pub(crate) fn settings_now(st: State) -> Settings
+    ensures { λ r. ⌜ r ≡ settingsNow st ⌝ }
+{
+    st.settings
 }

@@ -1,6 +1,8 @@
 // One receipt more: what is asked of the state and of the details, the fields that the receipt gets, and the state after it.
+use super::head::count_place;
 use super::head::head_length;
 use super::state::State;
+use super::state::settings_now;
 use receipt::After;
 use receipt::Details;
 use receipt::Kind;
@@ -15,7 +17,7 @@ ghost use Rattle.primitives.specs.Aes.{keySchedule};
 ghost use Rattle.receipt.specs.Settings.{settingsGood, nameText};
 ghost use Rattle.receipt.specs.Chain.{chainValue, encryptedCounter};
 ghost use Rattle.journal.specs.Step.{fresh, soundAlone, sound, firstGood, newCounter, detailsNumber, fieldsOf, next};
-ghost use Rattle.journal.specs.State.{settingsNow};
+ghost use Rattle.journal.specs.State.{settingsNow, headLengthNow, countPlaceNow};
 
 // ---- the state of a register without receipts
 
@@ -49,6 +51,26 @@ pub(crate) fn fresh(s: Settings, n: usize, key: [u8; 32]) -> State
     }
 }
 
+// ---- the head of a state's journal
+
+// The length of the head.
+fn head_length_now(st: State) -> usize
+    requires { ⌜ settingsGood (settingsNow st) ≡ true ⌝ }
+    ensures { λ r. ⌜ r ≡ headLengthNow st ⌝ }
+{
+    let settings = settings_now(st);
+    head_length(settings)
+}
+
+// The place of the receipts count.
+pub(crate) fn count_place_now(st: State) -> usize
+    requires { ⌜ settingsGood (settingsNow st) ≡ true ⌝ }
+    ensures { λ r. ⌜ r ≡ countPlaceNow st ⌝ }
+{
+    let settings = settings_now(st);
+    count_place(settings)
+}
+
 // ---- the questions
 
 // The counter fits the width.
@@ -62,7 +84,7 @@ fn counter_good(st: State) -> bool
 pub(crate) fn sound_alone(st: State) -> bool
     ensures { λ r. ⌜ r ≡ soundAlone st ⌝ }
 {
-    let settings = st.settings;
+    let settings = settings_now(st);
     if !receipt::settings_good(settings) {
         return false;
     }
@@ -75,7 +97,7 @@ pub(crate) fn sound_alone(st: State) -> bool
     if st.last < st.issued {
         return false;
     }
-    head_length(settings) <= st.length
+    head_length_now(st) <= st.length
 }
 
 // Question 6, with a buffer of this length.
@@ -136,7 +158,7 @@ pub(crate) fn details_number(st: State, d: Details) -> u32
 fn encrypted(st: State, d: Details) -> [u8; 8]
     ensures { λ r. ⌜ r ≡ encryptedCounter (keySchedule (st .key)) (settingsNow st .id) (d .number) (st .width) (newCounter st d .counter) ⌝ }
 {
-    let settings = st.settings;
+    let settings = settings_now(st);
     let id = settings.id;
     let key = st.key;
     let after = new_counter(st, d);

@@ -4,12 +4,13 @@ use Rattle.journal.proofs.head.put_head.Statement.{statement}
 use Rattle.journal.proofs.head.put_head.Tie as tie
 use Rattle.journal.proofs.head.put_head.Reads as reads
 use Rattle.journal.proofs.head.put_head.Lts as lts
+use Rattle.journal.proofs.head.count_place.Reads as count-place-reads
 use Rattle.journal.proofs.head.put_count.Reads as put-count-reads
 use Rattle.journal.proofs.head.put_section.Reads as put-section-reads
 use native.Mathlib.Omega.{arith}
 use Rattle.receipt.specs.Settings.{SettingsLengths}
 use Rattle.receipt.proofs.Names.{good-settings}
-use Rattle.journal.proofs.OpenCalls.{csp-room, id-room, serial-room, put-head}
+use Rattle.journal.proofs.OpenCalls.{count-room, csp-room, id-room, serial-room, put-head}
 
 -- what the types say of the settings
 typed : (c : tie.Start) → SettingsLengths (c .args .s)
@@ -48,14 +49,19 @@ add-put-section c = omega (arith, good-settings _ (c .before .before .before .be
 put-section-requires-3 : tie.Need-put-section-requires-3
 put-section-requires-3 c κs = serial-room (c .before .before .before .before .before .before .before .before .before .before .before .before .before .before .before .before .before .before .before .before .args .s) (typed (c .before .before .before .before .before .before .before .before .before .before .before .before .before .before .before .before .before .before .before .before)) (c .before .before .before .before .before .before .before .before .before .before .before .before .before .before .before .before .before .before .before .before .args .buf .now) (c .before .before .before .before .before .before .before .before .before .before .before .before .before .before .before .before .before .before .before .before .pre .0) (c .before .before .before .before .before .before .before .before .before .before .before .before .before .before .before .before .before .before .before .before .pre .1) (c .before .before .before .before .before .put-section2 .last .1 .0) (search needs)
 
+count-place-requires : tie.Need-count-place-requires
+count-place-requires c κs = search needs
+
 put-count-requires : tie.Need-put-count-requires
-put-count-requires c κs = search needs
+put-count-requires c κs = count-room (c .before .before .before .before .before .before .before .before .before .before .before .before .before .before .before .before .before .before .before .before .before .before .before .before .before .args .s) (c .before .count-place .ensures) (search needs)
 
 same-length : tie.Need-same-length
 same-length c = search needs
 
 returns : tie.Need-returns
-returns c = put-head (c .before .before .before .before .before .before .before .before .before .before .before .before .before .before .before .before .before .before .before .before .before .before .before .before .before .before .before .args .s) (typed (c .before .before .before .before .before .before .before .before .before .before .before .before .before .before .before .before .before .before .before .before .before .before .before .before .before .before .before)) (c .before .before .before .before .before .before .before .before .before .before .before .before .before .before .before .before .before .before .before .before .before .before .before .before .before .before .before .args .buf .now) (c .before .before .before .before .before .before .before .before .before .before .before .before .before .before .before .before .before .before .before .before .before .before .before .before .before .before .before .pre .0) (c .before .before .before .before .before .before .before .before .before .before .before .before .before .before .before .before .before .before .before .before .before .before .before .before .before .before .before .pre .1) (c .before .before .before .before .before .before .before .before .before .before .before .before .before .before .before .before .before .before .put-section .ensures) (c .before .before .before .before .before .before .before .before .before .before .before .before .put-section2 .ensures) (c .before .before .before .before .before .before .put-section3 .ensures) (c .before .before .put-count .ensures)
+returns c =
+    let start = c .before .before .before .before .before .before .before .before .before .before .before .before .before .before .before .before .before .before .before .before .before .before .before .before .before .before .before .before in
+    put-head (start .args .s) (typed start) (start .args .buf .now) (start .pre .0) (start .pre .1) (c .before .before .before .before .count-place .ensures) (c .before .before .before .before .before .before .before .before .before .before .before .before .before .before .before .before .before .before .before .put-section .ensures) (c .before .before .before .before .before .before .before .before .before .before .before .before .before .put-section2 .ensures) (c .before .before .before .before .before .before .before .put-section3 .ensures) (c .before .before .put-count .ensures)
 
 pub put-head-spec : {M : Type 1} → statement M
 put-head-spec =
@@ -72,6 +78,7 @@ put-head-spec =
     part-put-section-end-2
     add-put-section
     put-section-requires-3
+    count-place-requires
     put-count-requires
     same-length
     returns)

@@ -1,10 +1,11 @@
 -- `issuing::append` meets its contract.
 use mathlib.Core.Path.{ap, _∙_}
-use Rattle.journal.proofs.IssueCalls.{Asked, Made, asked-alone, spellable-asked, append-count, append-head, append-refused, append-made, append-done}
+use Rattle.journal.proofs.IssueCalls.{Asked, Made, asked-alone, spellable-asked, append-count, append-good, append-place, append-refused, append-made, append-done}
 use native.Mathlib.Omega.{arith}
 use lib.ListN.{length}
 use Prim.Native.Nat.{_<_}
 use Rattle.receipt.specs.Compact.{spellable}
+use Rattle.journal.specs.State.{settingsNow}
 use borrow.Author.Needs.{needs}
 use Rattle.journal.proofs.issuing.append.Statement.{statement}
 use Rattle.journal.proofs.issuing.append.Tie as tie
@@ -21,6 +22,9 @@ below c = search needs
 made : (c : tie.Else1) → Made (c .before .before .before .before .before .before .before .before .before .args .st) (c .before .before .before .before .before .before .before .before .before .args .buf .now) (c .before .before .before .put-entry .last .1 .1 .0) (c .before .before .before .put-entry .result)
 made c = append-made _ _ _ (c .before .before .before .before .before .before .before .before .before .args .buf .now) (asked (c .before .before .before .before .before .before .before .before .before)) (c .before .before .before .before .before .entry-of .ensures) (c .before .before .before .put-entry .ensures) (c .if1 .left)
 
+count-place-now-requires : tie.Need-count-place-now-requires
+count-place-now-requires c κs = append-good _ _ _ (c .before .before .args .buf .now) (asked (c .before .before))
+
 entry-of-requires : tie.Need-entry-of-requires
 entry-of-requires c κs = search needs
 
@@ -28,7 +32,7 @@ put-entry-requires : tie.Need-put-entry-requires
 put-entry-requires c κs =
     let start = c .before .before .before .before .before in
     let s = start .args in
-    ap (spellable (s .st .settings) (s .st .width)) (c .before .entry-of .ensures)
+    ap (spellable (settingsNow (s .st)) (s .st .width)) (c .before .entry-of .ensures)
     ∙ spellable-asked (s .st) (s .d) (s .signature .now) (asked-alone _ _ _ (s .buf .now) (asked start) .0) (start .pre .1) (start .pre .2)
 
 same-length : tie.Need-same-length
@@ -63,20 +67,22 @@ add-put-count c =
 
 put-count-requires : tie.Need-put-count-requires
 put-count-requires c κs =
-    let h = append-head _ _ _ (c .before .before .before .before .before .before .before .before .before .before .before .before .before .before .args .buf .now) (asked (c .before .before .before .before .before .before .before .before .before .before .before .before .before .before)) in
+    let start = c .before .before .before .before .before .before .before .before .before .before .before .before .before .before in
+    let h = append-place _ _ _ (start .args .buf .now) (asked start) (c .before .before .before .before .before .before .before .before .before .before .before .count-place-now .ensures) in
     let m = made (c .before .before .before .before .before) in
-    (h .0, omega (arith, h .1, m .same))
+    omega (arith, h, m .same)
 
 same-length-2 : tie.Need-same-length-2
 same-length-2 c = search needs
 
 returns-2 : tie.Need-returns-2
-returns-2 c = append-done _ _ _ (c .before .before .before .before .before .before .before .before .before .before .before .before .before .before .before .before .before .args .buf .now) (asked (c .before .before .before .before .before .before .before .before .before .before .before .before .before .before .before .before .before)) (c .before .before .before .before .before .before .before .before .before .before .before .before .before .entry-of .ensures) (c .before .before .before .before .before .before .before .before .before .before .before .put-entry .ensures) (c .before .before .before .before .before .before .before .before .if1 .left) (c .before .before .before .before .before .next .ensures) (c .before .before .put-count .ensures)
+returns-2 c = append-done _ _ _ (c .before .before .before .before .before .before .before .before .before .before .before .before .before .before .before .before .before .args .buf .now) (asked (c .before .before .before .before .before .before .before .before .before .before .before .before .before .before .before .before .before)) (c .before .before .before .before .before .before .before .before .before .before .before .before .before .entry-of .ensures) (c .before .before .before .before .before .before .before .before .before .before .before .put-entry .ensures) (c .before .before .before .before .before .before .before .before .if1 .left) (c .before .before .before .before .before .before .before .before .before .before .before .before .before .before .count-place-now .ensures) (c .before .before .before .before .before .next .ensures) (c .before .before .put-count .ensures)
 
 pub append-spec : {M : Type 1} → statement M
 append-spec =
     tie.close
     (tie.spec
+    count-place-now-requires
     entry-of-requires
     put-entry-requires
     same-length

@@ -8,6 +8,9 @@ use borrow.Author.Needs.{needs}
 use Rattle.journal.proofs.issuing.put_entry.Statement.{statement}
 use Rattle.journal.proofs.issuing.put_entry.Tie as tie
 
+settings-now-requires : tie.Need-settings-now-requires
+settings-now-requires c κs = search needs
+
 has-room-requires : tie.Need-has-room-requires
 has-room-requires c κs = search needs
 
@@ -27,14 +30,14 @@ returns-2 : tie.Need-returns-2
 returns-2 c =
     let start = c .before .before .before .before .before .before .before .before .before in
     let s = start .args .st in
-    let w = as-compact _ _ _ (start .pre) (start .args .buf .now) (s .length + 2) (c .before .before .before .put-compact .ensures) in
+    let w = as-compact _ _ _ (start .pre) (start .args .buf .now) (s .length + 2) (c .before .before .before .before .before .before .before .settings-now .ensures) (c .before .before .before .put-compact .ensures) in
     entry-full _ (start .args .buf .now) (s .length) (compact-some _ _ _) w (c .if2 .taken)
 
 sub-put-number : tie.Need-sub-put-number
 sub-put-number c =
     let start = c .before .before .before .before .before .before .before .before .before .before in
     let s = start .args .st in
-    let w = as-compact _ _ _ (start .pre) (start .args .buf .now) (s .length + 2) (c .before .before .before .before .put-compact .ensures) in
+    let w = as-compact _ _ _ (start .pre) (start .args .buf .now) (s .length + 2) (c .before .before .before .before .before .before .before .before .settings-now .ensures) (c .before .before .before .before .put-compact .ensures) in
     let m = moved _ _ _ w (c .before .if2 .left) in
     omega (arith, m .end)
 
@@ -48,13 +51,14 @@ returns-3 : tie.Need-returns-3
 returns-3 c =
     let start = c .before .before .before .before .before .before .before .before .before .before .before .before .before in
     let s = start .args .st in
-    let w = as-compact _ _ _ (start .pre) (start .args .buf .now) (s .length + 2) (c .before .before .before .before .before .before .before .put-compact .ensures) in
+    let w = as-compact _ _ _ (start .pre) (start .args .buf .now) (s .length + 2) (c .before .before .before .before .before .before .before .before .before .before .before .settings-now .ensures) (c .before .before .before .before .before .before .before .put-compact .ensures) in
     entry-placed _ (start .args .buf .now) (s .length) (compact-some _ _ _) w (c .before .before .before .before .if2 .left) (c .before .before .put-number .ensures .1)
 
 pub put-entry-spec : {M : Type 1} → statement M
 put-entry-spec =
     tie.close
     (tie.spec
+    settings-now-requires
     has-room-requires
     returns
     add-start

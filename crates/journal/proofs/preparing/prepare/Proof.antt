@@ -10,6 +10,9 @@ prepare-number-requires c κs = search needs
 returns : tie.Need-returns
 returns c = prepare-refused (c .before .before .before .args .st) (c .before .before .before .args .d) (c .before .before .before .args .out .now) (c .before .prepare-number .ensures) (c .if1 .taken)
 
+settings-now-requires : tie.Need-settings-now-requires
+settings-now-requires c κs = search needs
+
 fields-of-requires : tie.Need-fields-of-requires
 fields-of-requires c κs = search needs
 
@@ -20,13 +23,13 @@ same-length : tie.Need-same-length
 same-length c = search needs
 
 returns-2 : tie.Need-returns-2
-returns-2 c = prepare-full (c .before .before .before .before .before .before .before .before .before .before .args .st) (c .before .before .before .before .before .before .before .before .before .before .args .d) (c .before .before .before .before .before .before .before .before .before .before .args .out .now) (c .before .before .before .before .before .before .before .before .prepare-number .ensures) (c .before .before .before .before .before .before .before .if1 .left) (c .before .before .before .before .before .fields-of .ensures) (c .before .before .before .put-signing-input .ensures) (c .if2 .taken)
+returns-2 c = prepare-full (c .before .before .before .before .before .before .before .before .before .before .args .st) (c .before .before .before .before .before .before .before .before .before .before .args .d) (c .before .before .before .before .before .before .before .before .before .before .args .out .now) (c .before .before .before .before .before .before .before .before .prepare-number .ensures) (c .before .before .before .before .before .before .before .if1 .left) (c .before .before .before .before .before .before .settings-now .ensures) (c .before .before .before .before .before .fields-of .ensures) (c .before .before .before .put-signing-input .ensures) (c .if2 .taken)
 
 same-length-2 : tie.Need-same-length-2
 same-length-2 c = search needs
 
 returns-3 : tie.Need-returns-3
-returns-3 c = prepare-done (c .before .before .before .before .before .before .before .before .before .before .args .st) (c .before .before .before .before .before .before .before .before .before .before .args .d) (c .before .before .before .before .before .before .before .before .before .before .args .out .now) (c .before .before .before .before .before .before .before .before .prepare-number .ensures) (c .before .before .before .before .before .before .before .if1 .left) (c .before .before .before .before .before .fields-of .ensures) (c .before .before .before .put-signing-input .ensures) (c .if2 .left)
+returns-3 c = prepare-done (c .before .before .before .before .before .before .before .before .before .before .args .st) (c .before .before .before .before .before .before .before .before .before .before .args .d) (c .before .before .before .before .before .before .before .before .before .before .args .out .now) (c .before .before .before .before .before .before .before .before .prepare-number .ensures) (c .before .before .before .before .before .before .before .if1 .left) (c .before .before .before .before .before .before .settings-now .ensures) (c .before .before .before .before .before .fields-of .ensures) (c .before .before .before .put-signing-input .ensures) (c .if2 .left)
 
 pub prepare-spec : {M : Type 1} → statement M
 prepare-spec =
@@ -34,6 +37,7 @@ prepare-spec =
     (tie.spec
     prepare-number-requires
     returns
+    settings-now-requires
     fields-of-requires
     put-signing-input-requires
     same-length
