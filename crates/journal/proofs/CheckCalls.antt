@@ -15,7 +15,7 @@ use Rattle.primitives.specs.Counter.{widthGood}
 use Rattle.primitives.specs.Aes.{keySchedule}
 use Rattle.receipt.specs.Details.{standard, counterAfter}
 use Rattle.receipt.specs.Chain.{decryptedCounter}
-use Rattle.receipt.specs.Compact.{readEntry, noEntry}
+use Rattle.receipt.specs.Compact.{readEntry}
 use Rattle.receipt.specs.declared.details.Details.{Details}
 use Rattle.receipt.specs.declared.details.After.{After}
 use Rattle.receipt.specs.declared.payload.PayloadFields.{PayloadFields}
@@ -39,6 +39,7 @@ use Rattle.journal.proofs.Places.{length-entry}
 use Rattle.receipt.specs.Settings.{settingsGood}
 use Rattle.journal.proofs.CallLists.{sound-true}
 use Rattle.journal.specs.State.{settingsNow, headLengthNow, countPlaceNow}
+use Rattle.receipt.proofs.Entries.{none-found}
 
 -- ---- the bytes of an entry
 
@@ -228,11 +229,11 @@ module _ (k : List (List ℕ)) (st : State) (j : List ℕ) where
 
     -- what a step that is not refused has read
     ended : full st j ≡ true → c .number ≡ 0 → (c ≡ stopped 0 st) × (c .found .ok ≡ false)
-    unfolding endChecked stopped noEntry
+    unfolding endChecked stopped
     ended f z =
         let q : c ≡ endChecked st j = e ∙ step-end k st j f in
         let m : ask (leb (length j) (st .length)) 21 0 ≡ 0 = sym (ap (λ (x : Checked). x .number) q) ∙ z in
-        (q ∙ ap (λ (n : ℕ). stopped n st) m, ap (λ (x : Checked). x .found .ok) q)
+        (q ∙ ap (λ (n : ℕ). stopped n st) m, ap (λ (x : Checked). x .found .ok) q ∙ none-found)
 
     read : full st j ≡ false → c .number ≡ 0 → (entryNumber k st j ≡ 0) × (c .state ≡ after st (textAt j (st .length))) × (c .found .ok ≡ true)
     unfolding placeChecked checked stopped

@@ -32,6 +32,7 @@ use Rattle.journal.proofs.Remaining.{scheduleOf, full-yes, full-no, end
 use Rattle.journal.proofs.Registers.{fresh-bounds}
 use Rattle.journal.proofs.Accepting.{valid-right}
 use Rattle.journal.specs.State.{settingsNow, headLengthNow, countPlaceNow}
+use Rattle.receipt.proofs.Entries.{none-found}
 
 -- ---- one step over a right entry
 
@@ -83,9 +84,11 @@ read-one k m st j q =
     ap (λ (c : Checked). cond (c .found .ok) (c .found .entry ∷ readBySteps k m (c .state) j) []) q
 
 read-none : (k : List (List ℕ)) (m : ℕ) (st : State) (j : List ℕ) → stepChecked k st j ≡ stopped 0 st → readBySteps k m st j ≡ []
-unfolding readBySteps stopped noEntry
+unfolding readBySteps stopped
 read-none k zero st j q = refl
-read-none k (suc m) st j q = ap (λ (c : Checked). cond (c .found .ok) (c .found .entry ∷ readBySteps k m (c .state) j) []) q
+read-none k (suc m) st j q =
+    ap (λ (c : Checked). cond (c .found .ok) (c .found .entry ∷ readBySteps k m (c .state) j) []) q
+    ∙ ap (λ (t : Bool). cond t (noEntry .entry ∷ readBySteps k m st j) []) none-found
 
 same-key : (st : State) (x : Entry) → scheduleOf st ≡ scheduleOf (step st x)
 unfolding next

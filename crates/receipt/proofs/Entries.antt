@@ -19,7 +19,7 @@ use Rattle.receipt.specs.DateTime.{dateGood}
 use Rattle.receipt.specs.Details.{standard, amountsGood}
 use Rattle.receipt.specs.Chain.{iv, keyStream, encryptedCounter, decryptedCounter}
 use Rattle.receipt.specs.Payload.{payload, counterGood, fieldsGood}
-use Rattle.receipt.specs.Compact.{signingInput, signatureZero, preparable, spellable}
+use Rattle.receipt.specs.Compact.{signingInput, signatureZero, preparable, spellable, noEntry}
 use Rattle.receipt.specs.declared.details.Kind.{Kind}
 use Rattle.receipt.specs.declared.details.Kind.the-variants.{Standard, Cancellation, Training}
 use Rattle.receipt.specs.declared.settings.Name.{Name}
@@ -156,3 +156,8 @@ encrypt-back schedule id number n bytes w g l b z =
 pub input-some : (s : Settings) (n : ℕ) (f : PayloadFields) → 0 < length (signingInput s n f)
 unfolding signingInput
 input-some s n f = omega (arith, length-input (payload s n f))
+
+-- nothing is found in a refused text
+pub none-found : noEntry .ok ≡ false
+unfolding noEntry
+none-found = refl
