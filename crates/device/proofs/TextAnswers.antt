@@ -24,7 +24,7 @@ use Rattle.primitives.specs.Answers.{written, answerWith, bufferWith}
 use Rattle.primitives.specs.declared.answer.Answer.{Answer}
 use Rattle.receipt.specs.declared.machine_code.Part.{Part}
 use Rattle.device.specs.Texts.{fieldsNumber, fieldsLength, hashNumber, hashBuffer, alphabetOf, encodeAnswer, encodeBuffer, decodeAnswer, decodeBuffer, writtenNumber, decodedLength, decodedNumber}
-use Rattle.device.proofs.Below as below
+use Rattle.primitives.proofs.Answers as answers
 use Rattle.primitives.proofs.Answers.{written-is, written-room}
 
 -- an answer in its two parts, beside the output
@@ -111,7 +111,7 @@ module _ (a : Alphabet) (xs out : List ℕ) where
       go false f =
           let r = leb-false (0 + length (encoding a xs)) (length out) f in
           let w = e ∙ behind-full out 0 (encoding a xs) r in
-          rw (below.written-full out (encoding a xs) (omega arith)) (q ∙ ap (writtenNumber (length xs)) w ∙ sym (cut-off r), w)
+          rw (answers.written-full out (encoding a xs) (omega arith)) (q ∙ ap (writtenNumber (length xs)) w ∙ sym (cut-off r), w)
 
 pub encode-is : (url : ℕ) (xs out : List ℕ) {a : Alphabet} {n end : ℕ} {b : List ℕ} → a ≡ alphabetOf url
     → (end ≡ behind out 0 (encoding a xs)) × (b ≡ placed out 0 (encoding a xs)) → n ≡ writtenNumber (length xs) end
