@@ -3,6 +3,7 @@ use primitives::Alphabet;
 use primitives::Decoded;
 use primitives::base64_decode;
 use primitives::base64_encode;
+use primitives::base64_length;
 use primitives::has_room;
 use primitives::put;
 use primitives::same;
@@ -161,7 +162,8 @@ pub(crate) fn put_signed_input(payload: &[u8], out: &mut [u8], at: usize) -> usi
     requires { ⌜ length (now payload) ≤ longestPayload ⌝ }
     ensures { λ r. let y : _ = signedInput (now (payload .entry)) in ⌜ (r ≡ behind (now (out .entry)) at y) × (now (out .exit) ≡ placed (now (out .entry)) at y) ⌝ }
 {
-    let total = 21 + (payload.len() * 4 + 2) / 3;
+    let element = base64_length(Alphabet::UrlSafe, payload);
+    let total = 21 + element;
     if !has_room(out.len(), at, total) {
         return at;
     }
@@ -175,7 +177,9 @@ pub(crate) fn put_form(payload: &[u8], signature: &[u8], out: &mut [u8], at: usi
     requires { ⌜ (length (now payload) ≤ longestPayload) × (length (now signature) ≤ 64) ⌝ }
     ensures { λ r. let y : _ = signedForm (parts (now (payload .entry)) (now (signature .entry))) in ⌜ (r ≡ behind (now (out .entry)) at y) × (now (out .exit) ≡ placed (now (out .entry)) at y) ⌝ }
 {
-    let total = 22 + (payload.len() * 4 + 2) / 3 + (signature.len() * 4 + 2) / 3;
+    let second = base64_length(Alphabet::UrlSafe, payload);
+    let third = base64_length(Alphabet::UrlSafe, signature);
+    let total = 22 + second + third;
     if !has_room(out.len(), at, total) {
         return at;
     }

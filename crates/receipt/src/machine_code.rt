@@ -11,6 +11,7 @@ use super::form::signature_good;
 use primitives::Alphabet;
 use primitives::Answer;
 use primitives::base64_encode;
+use primitives::base64_length;
 use primitives::put;
 ghost use mathlib.Core.Path.{_≡_};
 ghost use Prim.Native.Nat.{_≤_};
@@ -67,7 +68,8 @@ fn put_code(payload: &[u8], signature: &[u8], out: &mut [u8]) -> Answer
     ensures { λ r. let y : _ = codeText (parts (now (payload .entry)) (now (signature .entry))) in ⌜ (r ≡ written (now (out .entry)) y) × (now (out .exit) ≡ placed (now (out .entry)) 0 y) ⌝ }
 {
     let n = payload.len();
-    let length = n + 1 + (signature.len() + 2) / 3 * 4;
+    let last = base64_length(Alphabet::Standard, signature);
+    let length = n + 1 + last;
     if out.len() < length {
         return Answer {
             number: 23,
