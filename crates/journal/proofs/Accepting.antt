@@ -16,7 +16,7 @@ use Rattle.receipt.specs.declared.entry.Entry.{Entry}
 use Rattle.journal.specs.Head.{head, headLength, headSettings, headGood, countPlace, countPlaceIn}
 use Rattle.journal.specs.Step.{fresh}
 use Rattle.primitives.specs.Questions.{ask, ifZero}
-use Rattle.journal.specs.Checking.{headNumber, refused, accepted, takeOver, answerOf, steps}
+use Rattle.journal.specs.Checking.{headNumber, refused, accepted, takeOver, lastAnswer, steps}
 use Rattle.journal.proofs.Remaining.{checkFrom, steps-check}
 use Rattle.journal.specs.Receipts.{receiptsIn, sum}
 use Rattle.journal.specs.Valid.{Right, RightBehind, Valid, texts, lastOf, chainOf}
@@ -37,7 +37,7 @@ head-some s = omega arith
 module _ (s : Settings) (key : List ℕ) (n : ℕ) where
   -- from the fresh state on, as many steps as the journal has bytes check the entries that its count says
   pub fresh-check : (k : ℕ) (j : List ℕ) → countAt j (countPlace s) 4 ≡ k → headLength s ≤ length j
-      → answerOf (steps (keySchedule key) (length j) (fresh s n key) j) ≡ checkFrom k (fresh s n key) j
+      → lastAnswer (steps (keySchedule key) (length j) (fresh s n key) j) ≡ checkFrom k (fresh s n key) j
   unfolding fresh
   fresh-check k j e h =
       let m = head-some s in
@@ -105,7 +105,7 @@ fresh-bytes s n k key j r = r .bytes
 
 -- a good head, and then the entries that it says
 pub head-checks : (j key : List ℕ) (n : ℕ) → AllBytes j → headGood j ≡ true
-    → answerOf (steps (keySchedule key) (length j) (fresh (headSettings j) n key) j) ≡ checkFrom (countOf j) (fresh (headSettings j) n key) j
+    → lastAnswer (steps (keySchedule key) (length j) (fresh (headSettings j) n key) j) ≡ checkFrom (countOf j) (fresh (headSettings j) n key) j
 unfolding countOf
 head-checks j key n b h =
     let p = read-place-is j b h in

@@ -28,7 +28,7 @@ use Rattle.primitives.specs.Questions.{ask, ifZero}
 use Rattle.primitives.specs.Number.{countAt}
 use Rattle.journal.specs.Head.{headSettings, headGood, lengthAt, there, textAt, headLength, entryText}
 use Rattle.journal.proofs.Remaining.{step-end, step-entry, idle, passed-step, after-settings, after-below}
-use Rattle.journal.specs.Checking.{headNumber, found, equal, counterRight, contextNumber, textNumber, after, entryNumber, refused, accepted, takeOver, checked, stopped, textChecked, placeChecked, endChecked, oneStep, steps, answerOf, entryReady, entryChecked, stepChecked, full}
+use Rattle.journal.specs.Checking.{headNumber, found, equal, counterRight, contextNumber, textNumber, after, entryNumber, refused, accepted, takeOver, checked, stopped, textChecked, placeChecked, endChecked, oneStep, steps, lastAnswer, entryReady, entryChecked, stepChecked, full}
 use Rattle.journal.specs.declared.state.State.{State}
 use Rattle.journal.proofs.Equal.{equal-true, equal-refl}
 use Rattle.journal.specs.declared.state.TakenOver.{TakenOver}
@@ -279,12 +279,12 @@ module _ (k : List (List ℕ)) (st : State) (j : List ℕ) where
 
 -- ---- the journal
 
-pub answer-refused : (s : Step) {r : TakenOver} → (s .number ≡ 0 → ⊥) → r ≡ refused (s .number) (s .state .issued) → r ≡ answerOf s
-unfolding answerOf
+pub answer-refused : (s : Step) {r : TakenOver} → (s .number ≡ 0 → ⊥) → r ≡ refused (s .number) (s .state .issued) → r ≡ lastAnswer s
+unfolding lastAnswer
 answer-refused s h q = q ∙ sym (ifZero-no (s .number) _ _ h)
 
-pub answer-accepted : (s : Step) → s .number ≡ 0 → record { number = 0; index = 0; state = s .state } ≡ answerOf s
-unfolding answerOf accepted
+pub answer-accepted : (s : Step) → s .number ≡ 0 → record { number = 0; index = 0; state = s .state } ≡ lastAnswer s
+unfolding lastAnswer accepted
 answer-accepted s z = sym (ifZero-yes _ _ z)
 
 module _ (j key : List ℕ) (n : ℕ) where
@@ -297,16 +297,16 @@ module _ (j key : List ℕ) (n : ℕ) where
     unfolding takeOver headNumber ask ifZero
     over-head h = rw (w, h)
 
-    over-yes : headGood j ≡ true → takeOver j key n ≡ answerOf (steps (keySchedule key) (length j) (fresh (headSettings j) n key) j)
+    over-yes : headGood j ≡ true → takeOver j key n ≡ lastAnswer (steps (keySchedule key) (length j) (fresh (headSettings j) n key) j)
     unfolding takeOver headNumber ask ifZero
     over-yes h = rw (w, h)
 
 -- what is called, one after the other
 module _ (j key : List ℕ) (n : ℕ) (s : Settings) {st : State} (e : st ≡ fresh s n key) where
   pub over-read : {schedule : List (List ℕ)} {x : Step} {r : TakenOver} → widthGood n ≡ true → headGood j ≡ true → s ≡ headSettings j → schedule ≡ keySchedule key
-      → x ≡ steps schedule (length j) st j → r ≡ answerOf x → r ≡ takeOver j key n
+      → x ≡ steps schedule (length j) st j → r ≡ lastAnswer x → r ≡ takeOver j key n
   over-read w h es ek ex er =
-      er ∙ ap answerOf (ex ∙ (λ i. steps (ek i) (length j) ((e ∙ ap (λ (y : Settings). fresh y n key) es) i) j)) ∙ sym (over-yes j key n w h)
+      er ∙ ap lastAnswer (ex ∙ (λ i. steps (ek i) (length j) ((e ∙ ap (λ (y : Settings). fresh y n key) es) i) j)) ∙ sym (over-yes j key n w h)
 
   fresh-keeps : (fresh s n key .issued ≤ fresh s n key .last) × (fresh s n key .settings ≡ s)
   unfolding fresh

@@ -27,7 +27,7 @@ use Rattle.receipt.proofs.Entries.{admitted}
 use Rattle.journal.specs.Head.{head, headLength, entryText, headSettings, headGood, there, textAt}
 use Rattle.journal.specs.Step.{fresh, numberAbove, firstGood, next}
 use Rattle.primitives.specs.Questions.{ask, ifZero}
-use Rattle.journal.specs.Checking.{headNumber, found, counterRight, contextNumber, textNumber, after, entryNumber, refused, accepted, takeOver, answerOf, steps}
+use Rattle.journal.specs.Checking.{headNumber, found, counterRight, contextNumber, textNumber, after, entryNumber, refused, accepted, takeOver, lastAnswer, steps}
 use Rattle.journal.proofs.Remaining.{checkFrom, scheduleOf}
 use Rattle.journal.specs.Receipts.{receiptsIn, sum}
 use Rattle.journal.specs.Valid.{Counted, texts, lastOf, chainOf}
@@ -360,7 +360,7 @@ module _ (j key : List ℕ) (n : ℕ) (b : AllBytes j) where
   take-no = go (widthGood n) (headGood j) refl refl
     where
       go : (q₁ q₂ : Bool) → widthGood n ≡ q₁ → headGood j ≡ q₂
-          → RefusalOf (ifZero (ask q₁ 4 (ask q₂ 14 0)) (answerOf (steps (keySchedule key) (length j) (fresh (headSettings j) n key) j)) (refused (ask q₁ 4 (ask q₂ 14 0)) 0))
+          → RefusalOf (ifZero (ask q₁ 4 (ask q₂ 14 0)) (lastAnswer (steps (keySchedule key) (length j) (fresh (headSettings j) n key) j)) (refused (ask q₁ 4 (ask q₂ 14 0)) 0))
       go false q₂ e₁ e₂ h = no-width (λ w. true-is-not-false (sym e₁ ∙ w))
       go true false e₁ e₂ h = no-head e₁ (λ s k rest w. true-is-not-false (sym e₂ ∙ head-yes s k rest w))
       go true true e₁ e₂ h = subst RefusalOf (sym (head-checks j key n b e₂)) (entries-no e₁ e₂) h

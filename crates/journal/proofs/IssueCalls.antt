@@ -35,7 +35,7 @@ use Rattle.receipt.proofs.ExactEntry.{compact-signed}
 use Rattle.journal.specs.Head.{entryText}
 use Rattle.primitives.specs.Questions.{ask, ifZero}
 use Rattle.journal.specs.Step.{soundAlone, sound, newCounter, detailsNumber, fieldsOf, next}
-use Rattle.journal.specs.Issuing.{signatureSized, givenSignature, entryOf, textOf, entryFits, issueNumber, issued, written, issueBuffer}
+use Rattle.journal.specs.Issuing.{signatureSized, givenSignature, entryOf, textOf, entryFits, issueNumber, issued, withEntry, issueBuffer}
 use Rattle.journal.specs.Preparing.{preparedText, prepareNumber, prepareAnswer, prepareBuffer}
 use Rattle.journal.specs.declared.state.State.{State}
 use Rattle.journal.proofs.Places.{length-entry}
@@ -247,7 +247,7 @@ module _ (st : State) (d : Details) (sig b : List ℕ) (a : Asked st d sig (leng
         let n : issueNumber st d sig (length b) ≡ 13 = number-is ∙ ask-no 13 0 (lt-leb _ _ (s .full)) in
         let m : issueNumber st d sig (length b) ≡ 0 → ⊥ = λ o. omega (arith, n, o) in (
           (λ i. record { number = sym n i; state = sym (ifZero-no (issueNumber st d sig (length b)) (next st d (textOf st d sig)) st m) i }),
-          s .same ∙ sym (ifZero-no (issueNumber st d sig (length b)) (written st (textOf st d sig) b) b m),
+          s .same ∙ sym (ifZero-no (issueNumber st d sig (length b)) (withEntry st (textOf st d sig) b) b m),
         )
 
     module _ (z : r ≡ st .length → ⊥) where
@@ -272,11 +272,11 @@ module _ (st : State) (d : Details) (sig b : List ℕ) (a : Asked st d sig (leng
       pub append-done : {k : ℕ} {st₁ : State} {b₂ : List ℕ} → k ≡ countPlaceNow st → st₁ ≡ next st d (take (r - (st .length + 2)) (drop (st .length + 2) b₁))
           → b₂ ≡ overwrite b₁ k (bytesOf 4 (st .issued + 1))
           → (record { number = 0; state = st₁ } ≡ issued st d sig (length b)) × (b₂ ≡ issueBuffer st d sig b)
-      unfolding issued issueBuffer written
+      unfolding issued issueBuffer withEntry
       append-done p f g =
           let n : issueNumber st d sig (length b) ≡ 0 = number-is ∙ ask-yes 13 0 (le-leb _ _ (appended .room)) in (
             (λ i. record { number = sym n i; state = (f ∙ ap (next st d) text-is ∙ sym (ifZero-yes (next st d (textOf st d sig)) st n)) i }),
-            g ∙ (λ i. overwrite (appended .wrote i) (p i) (bytesOf 4 (st .issued + 1))) ∙ sym (ifZero-yes (written st (textOf st d sig) b) b n),
+            g ∙ (λ i. overwrite (appended .wrote i) (p i) (bytesOf 4 (st .issued + 1))) ∙ sym (ifZero-yes (withEntry st (textOf st d sig) b) b n),
           )
 
 -- ---- the questions of an Issue
@@ -293,7 +293,7 @@ module _ (st : State) (d : Details) (sig b : List ℕ) {k : ℕ} (e : k ≡ ask 
       e ∙ asked-then (ask (signatureSized sig) 12 0) ∙ go (sound st (length b)) (detailsNumber st d 0) (signatureSized sig) rest (λ z. h (e ∙ asked-then (ask (signatureSized sig) 12 0) ∙ z)) ∙ sym (asked-then (ask (signatureSized sig) 12 rest)) in
       let m : issueNumber st d sig (length b) ≡ 0 → ⊥ = λ z. h (n ∙ z) in (
         (λ i. record { number = n i; state = sym (ifZero-no (issueNumber st d sig (length b)) (next st d (textOf st d sig)) st m) i }),
-        sym (ifZero-no (issueNumber st d sig (length b)) (written st (textOf st d sig) b) b m),
+        sym (ifZero-no (issueNumber st d sig (length b)) (withEntry st (textOf st d sig) b) b m),
       )
     where
       go : (u : Bool) (m : ℕ) (v : Bool) (rest : ℕ) → (ask u 6 (ifZero m (ask v 12 0) m) ≡ 0 → ⊥) → ask u 6 (ifZero m (ask v 12 0) m) ≡ ask u 6 (ifZero m (ask v 12 rest) m)

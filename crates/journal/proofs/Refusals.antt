@@ -11,7 +11,7 @@ use Rattle.primitives.specs.Questions.{ifZero}
 use Rattle.journal.specs.Opening.{openNumber, opened, openBuffer}
 use Rattle.journal.specs.Issuing.{issueNumber, issued, issueBuffer}
 use Rattle.journal.specs.Preparing.{prepareNumber, prepareAnswer, prepareBuffer}
-use Rattle.journal.specs.Checking.{headNumber, refused, accepted, takeOver, answerOf, steps}
+use Rattle.journal.specs.Checking.{headNumber, refused, accepted, takeOver, lastAnswer, steps}
 use Rattle.journal.specs.Head.{headSettings}
 use Rattle.journal.specs.Demands.{RefusedChangesNothing}
 use Rattle.journal.specs.declared.state.State.{State}
@@ -50,15 +50,15 @@ zero-number : (st : State) → accepted st .number ≡ 0
 unfolding accepted
 zero-number st = refl
 
-answer-refused : (s : Step) → (answerOf s .number ≡ 0 → ⊥) → answerOf s .state ≡ unopened
-unfolding answerOf
+answer-refused : (s : Step) → (lastAnswer s .number ≡ 0 → ⊥) → lastAnswer s .state ≡ unopened
+unfolding lastAnswer
 answer-refused s = pick (s .number) (s .state .issued) (accepted (s .state)) (λ h. absurd (h (zero-number (s .state))))
 
 take-refused : (j key : List ℕ) (n : ℕ) → (takeOver j key n .number ≡ 0 → ⊥) → takeOver j key n .state ≡ unopened
 unfolding takeOver
 take-refused j key n =
     let s = steps (keySchedule key) (length j) (fresh (headSettings j) n key) j in
-    pick (headNumber j n) 0 (answerOf s) (answer-refused s)
+    pick (headNumber j n) 0 (lastAnswer s) (answer-refused s)
 
 pub refused-changes-nothing : RefusedChangesNothing
 refused-changes-nothing = record { opens = open-refused; issues = issue-refused; prepares = prepare-refused; takes = take-refused }

@@ -24,7 +24,7 @@ use Rattle.journal.specs.State.{unopened}
 use Rattle.journal.specs.Step.{fresh, fieldsOf, next}
 use Rattle.primitives.specs.Questions.{ifZero}
 use Rattle.journal.specs.Opening.{openNumber, opened, openBuffer}
-use Rattle.journal.specs.Issuing.{entryOf, textOf, issueNumber, issued, written, issueBuffer}
+use Rattle.journal.specs.Issuing.{entryOf, textOf, issueNumber, issued, withEntry, issueBuffer}
 use Rattle.journal.specs.Receipts.{receiptOf, receiptsIn, sum}
 use Rattle.journal.specs.Valid.{texts}
 use Rattle.journal.specs.Calls.{Call, TypedCall, TypedCalls, none, more, Register, opening, numberOf, call, calls, receiptOfCall, receiptsOf}
@@ -124,7 +124,7 @@ refused-same g c h =
     let text = textOf (g .state) (c .details) (c .signature) in
     let m = issueNumber (g .state) (c .details) (c .signature) (length (g .buf)) in
     let e₁ : ifZero m (next (g .state) (c .details) text) (g .state) ≡ g .state = ifZero-no m (next (g .state) (c .details) text) (g .state) h in
-    let e₂ : ifZero m (written (g .state) text (g .buf)) (g .buf) ≡ g .buf = ifZero-no m (written (g .state) text (g .buf)) (g .buf) h in
+    let e₂ : ifZero m (withEntry (g .state) text (g .buf)) (g .buf) ≡ g .buf = ifZero-no m (withEntry (g .state) text (g .buf)) (g .buf) h in
     λ i. record { state = e₁ i; buf = e₂ i }
 
 -- the entry of a call
@@ -140,7 +140,7 @@ module _ (g : Register) (c : Call) (z : numberOf g c ≡ 0) where
   unfolding call numberOf issued entryIn textOf entryOf fieldsOf
   call-state = ifZero-yes _ _ z
 
-  pub call-buf : call g c .buf ≡ written (g .state) (textIn (g .state) (entryIn g c)) (g .buf)
+  pub call-buf : call g c .buf ≡ withEntry (g .state) (textIn (g .state) (entryIn g c)) (g .buf)
   unfolding call numberOf issueBuffer entryIn textOf
   call-buf = ifZero-yes _ _ z
 
@@ -208,7 +208,7 @@ module _ (s : Settings) (n : ℕ) (key : List ℕ) (ts : TypedSettings s) (good 
       size-is = holds-behind .length ∙ ap (λ (k : ℕ). k + length (texts s n es)) (sym place-is)
 
       buf-is : call g c .buf ≡ overwrite (overwrite (g .buf) (g .state .length) (entryText text)) (countPlace s) (bytesOf 4 (length es + 1))
-      unfolding text written
+      unfolding text withEntry
       buf-is =
           let b = holds-behind in
           call-buf g c z ∙ (λ i. overwrite (overwrite (g .buf) (g .state .length) (entryText text)) (countPlace (b .settings i)) (bytesOf 4 (b .issued i + 1)))

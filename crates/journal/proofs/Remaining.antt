@@ -13,7 +13,7 @@ use Rattle.primitives.specs.Aes.{keySchedule}
 use Rattle.primitives.proofs.Rows.{both, ask-zero, ask-yes, ask-no, ifZero-yes, ifZero-no}
 use Rattle.journal.specs.Head.{countPlace, lengthAt, there, textAt}
 use Rattle.journal.specs.Step.{numberAbove, next}
-use Rattle.journal.specs.Checking.{found, contextNumber, after, entryNumber, stopped, checked, placeChecked, endChecked, full, oneStep, steps, refused, accepted, answerOf}
+use Rattle.journal.specs.Checking.{found, contextNumber, after, entryNumber, stopped, checked, placeChecked, endChecked, full, oneStep, steps, refused, accepted, lastAnswer}
 use Rattle.journal.specs.declared.state.State.{State}
 use Rattle.journal.specs.declared.state.TakenOver.{TakenOver}
 use Rattle.journal.specs.declared.checking.Checked.{Checked}
@@ -96,12 +96,12 @@ module _ (k : List (List ℕ)) (j : List ℕ) where
   unfolding steps
   passed-step n st z s = ifZero-yes _ _ z ∙ ap (λ (x : State). steps k n x j) s
 
-answer-zero : (st : State) → answerOf (record { number = 0; state = st }) ≡ accepted st
-unfolding answerOf
+answer-zero : (st : State) → lastAnswer (record { number = 0; state = st }) ≡ accepted st
+unfolding lastAnswer
 answer-zero st = ifZero-yes _ _ refl
 
-answer-no : (m : ℕ) (st : State) → (m ≡ 0 → ⊥) → answerOf (record { number = m; state = st }) ≡ refused m (st .issued)
-unfolding answerOf
+answer-no : (m : ℕ) (st : State) → (m ≡ 0 → ⊥) → lastAnswer (record { number = m; state = st }) ≡ refused m (st .issued)
+unfolding lastAnswer
 answer-no m st h = ifZero-no m _ _ h
 
 pub full-yes : (st : State) (j : List ℕ) → countAt j (countPlaceNow st) 4 ≡ st .issued + 0 → full st j ≡ true
@@ -134,16 +134,16 @@ after-count st text j m e = omega (arith, e)
 -- as many steps as bytes are left, and more, check the entries that the count leaves
 module _ (k : List (List ℕ)) (j : List ℕ) where
   abbrev Same : ℕ → State → ℕ → Type 0
-  Same f st m = answerOf (steps k f st j) ≡ checkFrom m st j
+  Same f st m = lastAnswer (steps k f st j) ≡ checkFrom m st j
 
   at-end : (f : ℕ) (st : State) → full st j ≡ true → Same (suc f) st zero
   unfolding checkFrom
   at-end f st e = go (leb (length j) (st .length)) refl
     where
-      go : (t : Bool) → leb (length j) (st .length) ≡ t → answerOf (steps k (suc f) st j) ≡ cond t (accepted st) (refused 21 (st .issued))
-      go true q = ap answerOf (idle k j (suc f) st (end-yes k st j e (leb-true _ _ q))) ∙ answer-zero st
+      go : (t : Bool) → leb (length j) (st .length) ≡ t → lastAnswer (steps k (suc f) st j) ≡ cond t (accepted st) (refused 21 (st .issued))
+      go true q = ap lastAnswer (idle k j (suc f) st (end-yes k st j e (leb-true _ _ q))) ∙ answer-zero st
       go false q =
-          ap answerOf (refused-step k j f st (λ z. omega (arith, z)) (end-no k st j e (leb-false _ _ q))) ∙ answer-no 21 st (λ z. omega (arith, z))
+          ap lastAnswer (refused-step k j f st (λ z. omega (arith, z)) (end-no k st j e (leb-false _ _ q))) ∙ answer-no 21 st (λ z. omega (arith, z))
 
   at-entry : (f m : ℕ) (st : State) → k ≡ scheduleOf st → full st j ≡ false
       → (entryNumber k st j ≡ 0 → Same f (after st (textAt j (st .length))) m) → Same (suc f) st (suc m)
@@ -156,10 +156,10 @@ module _ (k : List (List ℕ)) (j : List ℕ) where
       go : (n : ℕ) → entryNumber k st j ≡ n → Same (suc f) st (suc m)
       go zero z =
           let p = entry-passed k st j q z in
-          ap answerOf (passed-step k j f st (p .0) (p .1)) ∙ (rec z ∙ sym (ifZero-yes _ _ (sym same ∙ z)))
+          ap lastAnswer (passed-step k j f st (p .0) (p .1)) ∙ (rec z ∙ sym (ifZero-yes _ _ (sym same ∙ z)))
       go (suc n) z =
           let h : entryNumber k st j ≡ 0 → ⊥ = λ y. omega (arith, y, z) in
-          ap answerOf (refused-step k j f st h (entry-refused k st j q h)) ∙ (answer-no (entryNumber k st j) st h
+          ap lastAnswer (refused-step k j f st h (entry-refused k st j q h)) ∙ (answer-no (entryNumber k st j) st h
           ∙ (ap (λ (x : ℕ). refused x (st .issued)) same ∙ sym (ifZero-no (entryNumber (scheduleOf st) st j) _ _ (λ y. h (same ∙ y)))))
 
   pub steps-check : (f m : ℕ) (st : State) → k ≡ scheduleOf st → countAt j (countPlaceNow st) 4 ≡ st .issued + m

@@ -16,7 +16,7 @@ use Rattle.receipt.specs.declared.settings.Settings.{Settings}
 use Rattle.receipt.specs.declared.details.Details.{Details}
 use Rattle.journal.specs.Head.{headLength, countPlace, entryText}
 use Rattle.primitives.specs.Questions.{ifZero}
-use Rattle.journal.specs.Issuing.{textOf, issueNumber, written, issueBuffer}
+use Rattle.journal.specs.Issuing.{textOf, issueNumber, withEntry, issueBuffer}
 use Rattle.journal.specs.Demands.{TouchesNoOther}
 use Rattle.journal.specs.declared.state.State.{State}
 use Rattle.primitives.proofs.Rows.{ifZero-yes, ifZero-no}
@@ -41,8 +41,8 @@ place-head s = omega arith
 
 module _ (st : State) (d : Details) (sig buf : List ℕ) (i : ℕ) (c : countPlaceNow st ≤ i → i < countPlaceNow st + 4 → ⊥)
     (e : st .length ≤ i → i < st .length + length (entryText (textOf st d sig)) → ⊥) where
-  taken : issueNumber st d sig (length buf) ≡ 0 → getD (written st (textOf st d sig) buf) i 0 ≡ getD buf i 0
-  unfolding written
+  taken : issueNumber st d sig (length buf) ≡ 0 → getD (withEntry st (textOf st d sig) buf) i 0 ≡ getD buf i 0
+  unfolding withEntry
   taken z =
       let a = issue-zero st d sig (length buf) z in
       let t = entryText (textOf st d sig) in
@@ -59,9 +59,9 @@ module _ (st : State) (d : Details) (sig buf : List ℕ) (i : ℕ) (c : countPla
   unfolding issueBuffer
   same-byte = go (issueNumber st d sig (length buf)) refl
     where
-      go : (k : ℕ) → issueNumber st d sig (length buf) ≡ k → getD (ifZero (issueNumber st d sig (length buf)) (written st (textOf st d sig) buf) buf) i 0 ≡ getD buf i 0
-      go zero z = ap (λ (l : List ℕ). getD l i 0) (ifZero-yes (written st (textOf st d sig) buf) buf z) ∙ taken z
-      go (suc k) z = ap (λ (l : List ℕ). getD l i 0) (ifZero-no (issueNumber st d sig (length buf)) (written st (textOf st d sig) buf) buf (λ q. omega (arith, z, q)))
+      go : (k : ℕ) → issueNumber st d sig (length buf) ≡ k → getD (ifZero (issueNumber st d sig (length buf)) (withEntry st (textOf st d sig) buf) buf) i 0 ≡ getD buf i 0
+      go zero z = ap (λ (l : List ℕ). getD l i 0) (ifZero-yes (withEntry st (textOf st d sig) buf) buf z) ∙ taken z
+      go (suc k) z = ap (λ (l : List ℕ). getD l i 0) (ifZero-no (issueNumber st d sig (length buf)) (withEntry st (textOf st d sig) buf) buf (λ q. omega (arith, z, q)))
 
 pub touches-no-other : TouchesNoOther
 touches-no-other st d sig buf i c e = same-byte st d sig buf i c e

@@ -102,8 +102,8 @@ unfoldable pub accepted : State → TakenOver
 accepted st = record { number = 0; index = 0; state = st }
 
 -- the index of a refusal is that of its entry: so many receipts stand before it
-unfoldable pub answerOf : Step → TakenOver
-answerOf s = ifZero (s .number) (accepted (s .state)) (refused (s .number) (s .state .issued))
+unfoldable pub lastAnswer : Step → TakenOver
+lastAnswer s = ifZero (s .number) (accepted (s .state)) (refused (s .number) (s .state .issued))
 
 -- "N from 5 to 8? 4. Head whole and good by 1 to 3? 14 (both with index 0)."
 unfoldable pub headNumber : List ℕ → ℕ → ℕ
@@ -112,7 +112,7 @@ headNumber j n = ask (widthGood n) 4 (ask (headGood j) 14 0)
 -- an entry takes two bytes and more, so as many steps as the journal has bytes go over all of it
 unfoldable pub takeOver : List ℕ → List ℕ → ℕ → TakenOver
 takeOver j key n =
-    ifZero (headNumber j n) (answerOf (steps (keySchedule key) (length j) (fresh (headSettings j) n key) j)) (refused (headNumber j n) 0)
+    ifZero (headNumber j n) (lastAnswer (steps (keySchedule key) (length j) (fresh (headSettings j) n key) j)) (refused (headNumber j n) 0)
 
 -- ---- steps for other readers: State sound? 6. Then the questions of the step
 

@@ -52,8 +52,8 @@ issued st d sig room =
     record { number = issueNumber st d sig room; state = ifZero (issueNumber st d sig room) (next st d (textOf st d sig)) st }
 
 -- the entry behind the journal, and the count anew
-unfoldable pub written : State → List ℕ → List ℕ → List ℕ
-written st text buf = overwrite (overwrite buf (st .length) (entryText text)) (countPlaceNow st) (bytesOf 4 (st .issued + 1))
+unfoldable pub withEntry : State → List ℕ → List ℕ → List ℕ
+withEntry st text buf = overwrite (overwrite buf (st .length) (entryText text)) (countPlaceNow st) (bytesOf 4 (st .issued + 1))
 
 unfoldable pub issueBuffer : State → Details → List ℕ → List ℕ → List ℕ
-issueBuffer st d sig buf = ifZero (issueNumber st d sig (length buf)) (written st (textOf st d sig) buf) buf
+issueBuffer st d sig buf = ifZero (issueNumber st d sig (length buf)) (withEntry st (textOf st d sig) buf) buf

@@ -23,7 +23,7 @@ ghost use lib.ListN.{length};
 ghost use Rattle.primitives.specs.Bytes.{same};
 ghost use Rattle.receipt.specs.Settings.{settingsGood};
 ghost use Rattle.receipt.specs.Chain.{decryptedCounter};
-ghost use Rattle.journal.specs.Checking.{equal, counterRight, contextNumber, full, stopped, textChecked, placeChecked, endChecked, oneStep, steps, refused, answerOf, takeOver, entryReady, entryChecked, stepChecked};
+ghost use Rattle.journal.specs.Checking.{equal, counterRight, contextNumber, full, stopped, textChecked, placeChecked, endChecked, oneStep, steps, refused, lastAnswer, takeOver, entryReady, entryChecked, stepChecked};
 ghost use Rattle.journal.specs.State.{settingsNow, headLengthNow};
 
 // ---- one entry
@@ -228,8 +228,8 @@ fn refused(number: u32, index: u32) -> TakenOver
     }
 }
 
-fn answer_of(s: Step) -> TakenOver
-    ensures { λ r. ⌜ r ≡ answerOf s ⌝ }
+fn last_answer(s: Step) -> TakenOver
+    ensures { λ r. ⌜ r ≡ lastAnswer s ⌝ }
 {
     let st = s.state;
     if s.number != 0 {
@@ -258,7 +258,7 @@ pub fn take_over(j: &[u8], key: [u8; 32], n: usize) -> TakenOver
     }
     let schedule = receipt::counter_key(key);
     let st = fresh(settings, n, key);
-    answer_of(steps(&schedule, j.len(), st, j))
+    last_answer(steps(&schedule, j.len(), st, j))
 }
 
 // ---- steps for other readers

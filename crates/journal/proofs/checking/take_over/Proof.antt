@@ -3,7 +3,7 @@ use Rattle.journal.proofs.checking.take_over.Statement.{statement}
 use Rattle.journal.proofs.checking.take_over.Tie as tie
 use Rattle.journal.proofs.checking.take_over.Reads as reads
 use Rattle.journal.proofs.checking.take_over.Lts as lts
-use Rattle.journal.proofs.checking.answer_of.Reads as answer-of-reads
+use Rattle.journal.proofs.checking.last_answer.Reads as last-answer-reads
 use Rattle.journal.proofs.checking.refused.Reads as refused-reads
 use Rattle.journal.proofs.checking.steps.Reads as steps-reads
 use Rattle.journal.proofs.head.head_settings.Reads as head-settings-reads
@@ -80,11 +80,11 @@ fresh-requires c κs = not-yes _ _ (c .before .before .settings-good .ensures) (
 steps-requires : tie.Need-steps-requires
 steps-requires c κs = fresh-starts (c .before .before .before .before .before .before .before .before .before .before .before .args .j .now) (c .before .before .before .before .before .before .before .before .before .before .before .args .key) (c .before .before .before .before .before .before .before .before .before .before .before .args .n) _ (c .before .fresh .ensures) (not-yes _ _ (c .before .before .before .before .settings-good .ensures) (c .before .before .before .if3 .left)) (head-room (c .before .before .before))
 
-answer-of-requires : tie.Need-answer-of-requires
-answer-of-requires c κs = search needs
+last-answer-requires : tie.Need-last-answer-requires
+last-answer-requires c κs = search needs
 
 returns-4 : tie.Need-returns-4
-returns-4 c = over-read (c .before .before .before .before .before .before .before .before .before .before .before .before .before .args .j .now) (c .before .before .before .before .before .before .before .before .before .before .before .before .before .args .key) (c .before .before .before .before .before .before .before .before .before .before .before .before .before .args .n) _ (c .before .before .before .fresh .ensures) (not-yes _ _ (c .before .before .before .before .before .before .before .before .before .before .before .width-good .ensures) (c .before .before .before .before .before .before .before .before .before .before .if1 .left)) (good-read (c .before .before .before .before .before)) (c .before .before .before .before .before .before .before .head-settings .ensures) (c .before .before .before .before .counter-key .ensures) (c .before .steps .ensures) (c .answer-of .ensures)
+returns-4 c = over-read (c .before .before .before .before .before .before .before .before .before .before .before .before .before .args .j .now) (c .before .before .before .before .before .before .before .before .before .before .before .before .before .args .key) (c .before .before .before .before .before .before .before .before .before .before .before .before .before .args .n) _ (c .before .before .before .fresh .ensures) (not-yes _ _ (c .before .before .before .before .before .before .before .before .before .before .before .width-good .ensures) (c .before .before .before .before .before .before .before .before .before .before .if1 .left)) (good-read (c .before .before .before .before .before)) (c .before .before .before .before .before .before .before .head-settings .ensures) (c .before .before .before .before .counter-key .ensures) (c .before .steps .ensures) (c .last-answer .ensures)
 
 pub take-over-spec : {M : Type 1} → statement M
 take-over-spec =
@@ -103,5 +103,5 @@ take-over-spec =
     counter-key-requires
     fresh-requires
     steps-requires
-    answer-of-requires
+    last-answer-requires
     returns-4)
