@@ -67,10 +67,11 @@ fn entry_of(st: State, d: Details, signature: &[u8]) -> Entry
 
 // ---- issuing
 
-// The compact form with its length before it, behind the journal; the place behind it. Nothing where there is no room.
+// The compact form with its length before it, after the journal; the place after it. Nothing where there is no room.
 fn put_entry(st: State, e: Entry, buf: &mut [u8]) -> usize
     requires { ⌜ spellable (settingsNow st) (st .width) e ≡ true ⌝ }
-    ensures { λ r. ⌜ (r ≡ behind (now (buf .entry)) (st .length) (entryText (compact (settingsNow st) (st .width) e))) × (now (buf .exit) ≡ placed (now (buf .entry)) (st .length) (entryText (compact (settingsNow st) (st .width) e))) ⌝ }
+    ensures { λ r. let text : _ = entryText (compact (settingsNow st) (st .width) e) in
+        ⌜ (r ≡ behind (now (buf .entry)) (st .length) text) × (now (buf .exit) ≡ placed (now (buf .entry)) (st .length) text) ⌝ }
 {
     let at = st.length;
     let settings = settings_now(st);
@@ -86,10 +87,11 @@ fn put_entry(st: State, e: Entry, buf: &mut [u8]) -> usize
     end
 }
 
-// The receipt behind the journal, where the questions 6 to 12 have the answer yes: question 13.
+// The receipt after the journal, where the questions 6 to 12 have the answer yes: question 13.
 fn append(st: State, d: Details, signature: &[u8], buf: &mut [u8]) -> Issued
     requires { ⌜ (sound st (length (now buf)) ≡ true) × (detailsNumber st d 0 ≡ 0) × (signatureSized (now signature) ≡ true) ⌝ }
-    ensures { λ r. ⌜ (r ≡ issued st d (now (signature .entry)) (length (now (buf .entry)))) × (now (buf .exit) ≡ issueBuffer st d (now (signature .entry)) (now (buf .entry))) ⌝ }
+    ensures { λ r. let given : _ = now (signature .entry) in
+        ⌜ (r ≡ issued st d given (length (now (buf .entry)))) × (now (buf .exit) ≡ issueBuffer st d given (now (buf .entry))) ⌝ }
 {
     let place = count_place_now(st);
     let at = st.length;
@@ -126,7 +128,8 @@ fn issue_number(st: State, d: Details, signature: &[u8], room: usize) -> u32
 
 // Appends a receipt to the journal in the buffer and rewrites the count; a refused call changes nothing.
 pub fn issue(st: State, d: Details, signature: &[u8], buf: &mut [u8]) -> Issued
-    ensures { λ r. ⌜ (r ≡ issued st d (now (signature .entry)) (length (now (buf .entry)))) × (now (buf .exit) ≡ issueBuffer st d (now (signature .entry)) (now (buf .entry))) ⌝ }
+    ensures { λ r. let given : _ = now (signature .entry) in
+        ⌜ (r ≡ issued st d given (length (now (buf .entry)))) × (now (buf .exit) ≡ issueBuffer st d given (now (buf .entry))) ⌝ }
 {
     let number = issue_number(st, d, signature, buf.len());
     if 0 < number {

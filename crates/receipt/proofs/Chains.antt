@@ -22,7 +22,7 @@ use Rattle.primitives.proofs.Twos.{counterBytes-none, length-counterBytes, byte
 use Rattle.primitives.proofs.Xors.{bytes-xorFirst, length-xorFirst, xorFirst-back}
 use Rattle.receipt.specs.Decimal.{digits}
 use Rattle.receipt.specs.Settings.{nameText}
-use Rattle.receipt.specs.Chain.{chainValue, hashInput, iv, keyStream, encryptedCounter, NothingToEncrypt, decryptedCounter}
+use Rattle.receipt.specs.Chain.{chainValue, hashInput, iv, keyStream, encryptedCounter, NothingToEncrypt, decryptedCounter, DecryptionUndoesEncryption, OneHashInput}
 use Rattle.receipt.specs.declared.settings.Name.{Name}
 use Rattle.receipt.proofs.Missing.{filled, behind-counter, behind-xorFirst}
 use Rattle.receipt.proofs.Digits.{length-digits, width-short, digits-same}
@@ -144,3 +144,11 @@ module _ (schedule : List (List ℕ)) (id : Name) (number n : ℕ) where
 pub nothing-to-encrypt : NothingToEncrypt
 unfolding encryptedCounter
 nothing-to-encrypt schedule id number n counter e = ap (λ (b : List ℕ). xorFirst n b (keyStream schedule id number)) (counterBytes-none n counter e)
+
+-- ---- the statements
+
+pub decryption-undoes-encryption : DecryptionUndoesEncryption
+decryption-undoes-encryption schedule id number n counter e = decrypt-back schedule id number n counter e
+
+pub one-hash-input : OneHashInput
+one-hash-input id a b h k e = input-same id a b h k e

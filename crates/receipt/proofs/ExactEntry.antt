@@ -20,7 +20,7 @@ use Rattle.receipt.specs.PayloadReading.{readFields}
 use Rattle.receipt.specs.Form.{Parts, parts, partsGood, PartsOfBytes, signedInput, signedForm, signatureGood, payloadGood, secondDot, partsOfForm, header, firstElement, failureText}
 use Rattle.receipt.specs.Texts.{beginning}
 use Rattle.receipt.specs.Compact.{signatureText, compact, signingInput, longestCompact, signatureZero, preparable, spellable, signatureOf, spells, noEntry, entryOf, entryOfParts, readEntry, TypedEntry}
-use Rattle.receipt.specs.Exact.{Exact, EntryIsReadBack, OneSpelling, CompactIsShort, CompactIsLong, CompactIsBytes, CompactIsSigned, InputBeforeDot, FoundIsTyped}
+use Rattle.receipt.specs.Exact.{Exact, EntryIsReadBack, OneSpelling, CompactIsShort, CompactIsLong, CompactIsBytes, CompactIsSigned, InputBeforeDot, FoundIsTyped, PayloadIsShort}
 use Rattle.receipt.specs.declared.settings.Settings.{Settings}
 use Rattle.receipt.specs.declared.payload.PayloadFields.{PayloadFields}
 use Rattle.receipt.specs.declared.entry.Signature.{Signature}
@@ -34,7 +34,7 @@ use Rattle.receipt.proofs.Names.{zeros-are, zeros-good}
 use Rattle.receipt.proofs.Texts.{failure-long, failure-bytes, first-long}
 use Rattle.receipt.proofs.CodeTexts.{payload-mark, signature-whole}
 use Rattle.receipt.proofs.Forms.{form-back, form-only, form-short, form-good, form-bytes, form-dot, length-form}
-use Rattle.receipt.proofs.EntryCalls.{preparable-made, spellable-is, spellable-true, spells-is}
+use Rattle.receipt.proofs.EntryCalls.{preparable-made, spellable-is, spellable-true, spells-is, preparable-true}
 
 -- ---- the signature and its text
 
@@ -144,6 +144,9 @@ module _ (s : Settings) (n : ℕ) (e : Entry) where
 
 pub back : EntryIsReadBack
 back s n e ts bs te g = back-of s n e te ts g bs
+
+pub payload-is-short : PayloadIsShort
+payload-is-short s n f ts tf g = let p = preparable-true s n f g in payload-short s n f ts (p .sized) tf (p .fields)
 
 pub compact-short : CompactIsShort
 compact-short s n e ts te g = compact-short-of s n e te ts g

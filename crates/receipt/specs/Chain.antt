@@ -1,6 +1,6 @@
 -- The chain between receipts, and the encrypted counter.
-use Prim.Native.Nat.{ℕ}
-use mathlib.Core.Bool.{false}
+use Prim.Native.Nat.{ℕ, _<_}
+use mathlib.Core.Bool.{false, true}
 use mathlib.Core.List.{List, _++_}
 use mathlib.Core.Path.{_≡_}
 use lib.IntN.{ℤ}
@@ -42,3 +42,15 @@ NothingToEncrypt =
 -- the same, back
 unfoldable pub decryptedCounter : List (List ℕ) → Name → ℕ → ℕ → List ℕ → ℤ
 decryptedCounter schedule id number n bytes = counterValue n (xorFirst n bytes (keyStream schedule id number))
+
+-- ---- what holds of them
+
+-- what was encrypted is decrypted, for every width
+abbrev pub DecryptionUndoesEncryption : Type 0
+DecryptionUndoesEncryption =
+    (schedule : List (List ℕ)) (id : Name) (number n : ℕ) (counter : ℤ) → counterFits n counter ≡ true
+    → decryptedCounter schedule id number n (encryptedCounter schedule id number n counter) ≡ counter
+
+-- under one ID no two numbers have the same hash input for the IV
+abbrev pub OneHashInput : Type 0
+OneHashInput = (id : Name) (a b : ℕ) → a < 4294967296 → b < 4294967296 → hashInput id a ≡ hashInput id b → a ≡ b

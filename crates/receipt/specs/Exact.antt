@@ -8,12 +8,13 @@ use Rattle.primitives.specs.Bytes.{AllBytes}
 use Rattle.primitives.specs.Base64.{encoding}
 use Rattle.primitives.specs.declared.base64.Alphabet.the-variants.{UrlSafe}
 use Rattle.receipt.specs.Settings.{SettingsLengths, SettingsBytes}
-use Rattle.receipt.specs.Payload.{TypedFields}
+use Rattle.receipt.specs.Payload.{TypedFields, payload, longestPayload}
 use Rattle.receipt.specs.Form.{secondDot}
 use Rattle.receipt.specs.Texts.{dot}
-use Rattle.receipt.specs.Compact.{TypedEntry, signatureText, compact, signingInput, longestCompact, spellable, noEntry, readEntry}
+use Rattle.receipt.specs.Compact.{TypedEntry, signatureText, compact, signingInput, longestCompact, spellable, noEntry, readEntry, preparable}
 use Rattle.receipt.specs.declared.settings.Settings.{Settings}
 use Rattle.receipt.specs.declared.entry.Entry.{Entry}
+use Rattle.receipt.specs.declared.payload.PayloadFields.{PayloadFields}
 
 -- the text is the compact form of an entry that can be spelled
 pub record Spelled (s : Settings) (n : ℕ) (text : List ℕ) : Type 0 where
@@ -39,6 +40,10 @@ abbrev pub OneSpelling : Type 0
 OneSpelling =
     (s : Settings) (n : ℕ) (e f : Entry) → SettingsLengths s → SettingsBytes s → TypedEntry e → TypedEntry f → spellable s n e ≡ true → spellable s n f ≡ true
     → compact s n e ≡ compact s n f → e ≡ f
+
+-- "A payload is at most 195 bytes"
+abbrev pub PayloadIsShort : Type 0
+PayloadIsShort = (s : Settings) (n : ℕ) (f : PayloadFields) → SettingsLengths s → TypedFields f → preparable s n f ≡ true → length (payload s n f) ≤ longestPayload
 
 -- "a compact form at most 368"
 abbrev pub CompactIsShort : Type 0

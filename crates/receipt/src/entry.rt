@@ -96,7 +96,8 @@ fn signature_zero(g: Signature) -> bool
 // The compact form of a payload with its signature, at a place; the place behind it.
 fn put_signed(payload: &[u8], g: Signature, out: &mut [u8], at: usize) -> usize
     requires { ⌜ length (now payload) ≤ longestPayload ⌝ }
-    ensures { λ r. let y : _ = signedForm (parts (now (payload .entry)) (signatureText g)) in ⌜ (r ≡ behind (now (out .entry)) at y) × (now (out .exit) ≡ placed (now (out .entry)) at y) ⌝ }
+    ensures { λ r. let y : _ = signedForm (parts (now (payload .entry)) (signatureText g)) in
+        ⌜ (r ≡ behind (now (out .entry)) at y) × (now (out .exit) ≡ placed (now (out .entry)) at y) ⌝ }
 {
     let bytes = g.bytes;
     if g.failed {

@@ -84,7 +84,8 @@ pub(crate) fn signature_good(signature: &[u8]) -> bool
 
 // Writes the bytes of a text to the start of a buffer; how many. None where the text is refused or they have no room.
 pub(crate) fn decode(alphabet: Alphabet, text: &[u8], out: &mut [u8]) -> usize
-    ensures { λ r. ⌜ (r ≤ length (now (out .entry))) × (take r (now (out .exit)) ≡ short (length (now (out .entry))) (decoding alphabet (now (text .entry)))) ⌝ }
+    ensures { λ r. ⌜ (r ≤ length (now (out .entry)))
+        × (take r (now (out .exit)) ≡ short (length (now (out .entry))) (decoding alphabet (now (text .entry)))) ⌝ }
 {
     match base64_decode(alphabet, text, out, 0) {
         Decoded::Upto(n) => n,
@@ -127,7 +128,8 @@ fn second_dot(form: &[u8]) -> usize
 // The parts of a compact form, each at the start of a buffer.
 pub(crate) fn read_form(form: &[u8], payload: &mut [u8], signature: &mut [u8]) -> Reading
     requires { ⌜ (length (now payload) ≡ longestPayload) × (length (now signature) ≡ 64) ⌝ }
-    ensures { λ r. ⌜ (r .payload ≤ longestPayload) × (r .signature ≤ 64) × (partsRead r (now (payload .exit)) (now (signature .exit)) ≡ partsOfForm (now (form .entry))) ⌝ }
+    ensures { λ r. ⌜ (r .payload ≤ longestPayload) × (r .signature ≤ 64)
+        × (partsRead r (now (payload .exit)) (now (signature .exit)) ≡ partsOfForm (now (form .entry))) ⌝ }
 {
     let e = second_dot(form);
     if form.len() <= e {
@@ -160,7 +162,8 @@ fn put_element(out: &mut [u8], at: usize, s: &[u8]) -> usize
 // What is signed of a compact form: the elements of header and payload with the '.' between them, at a place; the place behind them.
 pub(crate) fn put_signed_input(payload: &[u8], out: &mut [u8], at: usize) -> usize
     requires { ⌜ length (now payload) ≤ longestPayload ⌝ }
-    ensures { λ r. let y : _ = signedInput (now (payload .entry)) in ⌜ (r ≡ behind (now (out .entry)) at y) × (now (out .exit) ≡ placed (now (out .entry)) at y) ⌝ }
+    ensures { λ r. let y : _ = signedInput (now (payload .entry)) in
+        ⌜ (r ≡ behind (now (out .entry)) at y) × (now (out .exit) ≡ placed (now (out .entry)) at y) ⌝ }
 {
     let element = base64_length(Alphabet::UrlSafe, payload);
     let total = 21 + element;
@@ -175,7 +178,8 @@ pub(crate) fn put_signed_input(payload: &[u8], out: &mut [u8], at: usize) -> usi
 // A compact form, at a place; the place behind it.
 pub(crate) fn put_form(payload: &[u8], signature: &[u8], out: &mut [u8], at: usize) -> usize
     requires { ⌜ (length (now payload) ≤ longestPayload) × (length (now signature) ≤ 64) ⌝ }
-    ensures { λ r. let y : _ = signedForm (parts (now (payload .entry)) (now (signature .entry))) in ⌜ (r ≡ behind (now (out .entry)) at y) × (now (out .exit) ≡ placed (now (out .entry)) at y) ⌝ }
+    ensures { λ r. let y : _ = signedForm (parts (now (payload .entry)) (now (signature .entry))) in
+        ⌜ (r ≡ behind (now (out .entry)) at y) × (now (out .exit) ≡ placed (now (out .entry)) at y) ⌝ }
 {
     let second = base64_length(Alphabet::UrlSafe, payload);
     let third = base64_length(Alphabet::UrlSafe, signature);

@@ -42,7 +42,8 @@ fn last_at(b: u8, s: &[u8]) -> usize
 // The parts of a code: the payload stands at its start, the signature at the start of a buffer.
 fn read_code(code: &[u8], signature: &mut [u8]) -> Reading
     requires { ⌜ length (now signature) ≡ 64 ⌝ }
-    ensures { λ r. ⌜ (r .payload ≤ length (now (code .entry))) × (r .signature ≤ 64) × (partsRead r (now (code .entry)) (now (signature .exit)) ≡ partsOfCode (now (code .entry))) ⌝ }
+    ensures { λ r. ⌜ (r .payload ≤ length (now (code .entry))) × (r .signature ≤ 64)
+        × (partsRead r (now (code .entry)) (now (signature .exit)) ≡ partsOfCode (now (code .entry))) ⌝ }
 {
     let n = last_at(b'_', code);
     if code.len() <= n {
@@ -65,7 +66,8 @@ fn read_code(code: &[u8], signature: &mut [u8]) -> Reading
 // A code, at the start of the output.
 fn put_code(payload: &[u8], signature: &[u8], out: &mut [u8]) -> Answer
     requires { ⌜ (length (now payload) ≤ longestPayload) × (length (now signature) ≤ 64) ⌝ }
-    ensures { λ r. let y : _ = codeText (parts (now (payload .entry)) (now (signature .entry))) in ⌜ (r ≡ written (now (out .entry)) y) × (now (out .exit) ≡ placed (now (out .entry)) 0 y) ⌝ }
+    ensures { λ r. let y : _ = codeText (parts (now (payload .entry)) (now (signature .entry))) in
+        ⌜ (r ≡ written (now (out .entry)) y) × (now (out .exit) ≡ placed (now (out .entry)) 0 y) ⌝ }
 {
     let n = payload.len();
     let last = base64_length(Alphabet::Standard, signature);

@@ -107,7 +107,8 @@ fn counter_content(n: usize, kind: Kind, counter: [u8; 8]) -> Content
 // The counter field and a '_', at a place; the place behind them.
 fn put_counter(out: &mut [u8], at: usize, n: usize, kind: Kind, counter: [u8; 8]) -> usize
     requires { ⌜ (n ≤ 8) × (at + length (counterField n kind counter) + 1 ≤ length (now out)) ⌝ }
-    ensures { λ r. let y : _ = counterField n kind counter in ⌜ (r ≡ at + length y + 1) × (now (out .exit) ≡ overwrite (now (out .entry)) at (y ++ (separator ∷ []))) ⌝ }
+    ensures { λ r. let y : _ = counterField n kind counter in
+        ⌜ (r ≡ at + length y + 1) × (now (out .exit) ≡ overwrite (now (out .entry)) at (y ++ (separator ∷ []))) ⌝ }
 {
     let content = counter_content(n, kind, counter);
     let bytes = content.bytes;
