@@ -1,4 +1,5 @@
-/* A till: opens a register, issues three receipts, prints their codes, and takes its journal over.
+/* A till: opens a register, issues three receipts, prints their codes, and takes its journal over. The second receipt is a sale, the
+ * third one takes 10,50 of it back: a cancellation has negative amounts.
  *
  *     cc -Iinclude examples/till.c target/staticlib/libdevice.a -o till
  */
@@ -10,7 +11,7 @@
 static uint8_t journal[4096];
 static uint8_t state[DITGRUX_STATE];
 
-/* Stands for the signature device: returns how many bytes it wrote, 64, or 0 where it has failed. A real one signs with ES256. */
+/* Stands in for the signature device: returns how many bytes it wrote, 64, or 0 if it has failed. A real one signs with ES256. */
 static size_t sign(const uint8_t *input, size_t length, int works, uint8_t signature[DITGRUX_SIGNATURE])
 {
     if (!works)
@@ -24,20 +25,34 @@ static size_t sign(const uint8_t *input, size_t length, int works, uint8_t signa
 static uint32_t sell(uint32_t number, uint32_t minute, int64_t standard, int64_t reduced, uint32_t kind, int device_works)
 {
     uint8_t input[DITGRUX_LONGEST_INPUT], signature[DITGRUX_SIGNATURE], code[DITGRUX_LONGEST_CODE];
-    size_t length, start = ditgrux_journal_length(state, sizeof state) + 2;
-    uint32_t refused = ditgrux_prepare(state, sizeof state, number, 2026, 11, 15, 8, minute, 0, standard, reduced, 0, 0, 0, kind, input,
-                                       sizeof input, &length);
+    size_t length, signed_bytes, start = ditgrux_journal_length(state, sizeof state) + 2;
+    struct ditgrux_details details;
+    uint32_t refused;
+
+    memset(&details, 0, sizeof details);
+    details.number = number;
+    details.year = 2026;
+    details.month = 11;
+    details.day = 15;
+    details.hour = 8;
+    details.minute = minute;
+    details.kind = kind;
+    details.standard = standard;
+    details.reduced_1 = reduced;
+
+    refused = ditgrux_prepare_details(state, sizeof state, &details, input, sizeof input, &length);
     if (refused)
         return refused;
-    size_t signed_bytes = sign(input, length, device_works, signature);
-    refused = ditgrux_issue(state, sizeof state, number, 2026, 11, 15, 8, minute, 0, standard, reduced, 0, 0, 0, kind, signature,
-                            signed_bytes, journal, sizeof journal);
+    signed_bytes = sign(input, length, device_works, signature);
+    refused = ditgrux_issue_details(state, sizeof state, &details, signature, signed_bytes, journal, sizeof journal);
     if (refused)
         return refused;
-    /* the compact form lies in the journal, behind the two bytes of its length */
-    ditgrux_code(journal + start, ditgrux_journal_length(state, sizeof state) - start, code, sizeof code, &length);
+    /* the compact form lies in the journal, after the two bytes of its length */
+    refused = ditgrux_code(journal + start, ditgrux_journal_length(state, sizeof state) - start, code, sizeof code, &length);
+    if (refused)
+        return refused;
     printf("%.*s\n", (int)length, (const char *)code);
-    return 0;
+    return DITGRUX_DONE;
 }
 
 int main(void)

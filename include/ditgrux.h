@@ -1,21 +1,50 @@
 /*
- * Ditgrux: the receipt journal of a cash register under the Austrian ordinance (RKSV).
+ * Ditgrux: the receipt journal of a cash register under the Austrian ordinance RKSV.
  *
- * The functions of libdevice.a. Each is proved, on every input, to return what is said here and to write nothing else. They
- * allocate nothing, keep nothing between calls, need nothing from outside but memcpy, and may be called from several threads on
- * different buffers.
+ * These are the functions of libdevice.a. Each of them is proved, for every input, to return what this header says and to write
+ * nothing else. They allocate nothing, keep nothing between calls, and need nothing from outside but memcpy. docs/QUESTIONS.md
+ * explains every number that they return; docs/EMBEDDING.md shows how to link, size and store.
  *
- * A slice is a pointer and a length in bytes. The pointer is not NULL and the bytes are there; with length 0 any pointer other
- * than NULL will do, as "" does. Slices that a function writes must not overlap its other slices.
+ * How a register works:
  *
- * A function returns 0, or the number of the first question that is answered by "no" (enum ditgrux_number). A refused call changes
- * no byte of any journal, text or output; a length or an index that it does not name is 0.
+ *     ditgrux_settings, once: checks CSP, register ID, serial, width and key, and packs them into 123 bytes
+ *     ditgrux_open, once: starts the journal and the state
+ *     for each receipt, the first of them a standard receipt with five zeros:
+ *         ditgrux_prepare_details: writes the text to be signed
+ *         the signature device signs that text with ES256 (64 bytes: r, then s)
+ *         ditgrux_issue_details: appends the receipt to the journal
+ *         ditgrux_code: writes the machine-readable code that is printed
+ *     ditgrux_take_over, whenever it is wanted: checks the whole journal and gives the state back
+ *
+ * CSP stands for certification service provider, which issued the certificate of the signature device. It is written as two
+ * letters A-Z and a digit, such as AT0. The serial is that of the certificate, in lowercase hexadecimal.
+ *
+ * Return values. A function returns DITGRUX_DONE (0), or the number of the first check that failed (enum ditgrux_number). The
+ * checks run in the order in which the function lists them. A refused call changes no byte of a journal, a text or an output. It
+ * sets every out parameter: lengths and indexes are 0 unless the function says otherwise. What happens to the state differs, so
+ * each function says it.
+ *
+ * Pointers. These rules are not checked; a call that breaks them is undefined, as with memcpy.
+ *   - No pointer is NULL, not even where its length is 0: pass any valid address. (The wrapper ditgrux_issue_details is the one
+ *     exception.)
+ *   - A pointer leads to at least as many bytes as the length beside it says.
+ *   - The out pointers `length`, `start` and `index` are not NULL and are aligned like any size_t or uint32_t. A NULL `index`
+ *     crashes.
+ *   - No buffer that a call writes overlaps another buffer or out parameter of that call. So do not pass the first 123 bytes of a
+ *     state as the settings while the same state is the output.
+ *
+ * Threads. The functions share no data. Calls on different buffers may run at the same time. Make one call at a time for a state
+ * and its journal.
  */
 #ifndef DITGRUX_H
 #define DITGRUX_H
 
 #include <stddef.h>
 #include <stdint.h>
+
+/* The version of this interface. The layout of the settings and of the state is version 1: a header with the same number reads
+ * the states that you have stored. The archive holds no symbol for it, so keep header and archive together. */
+#define DITGRUX_VERSION 1
 
 #ifdef __cplusplus
 extern "C" {
@@ -25,86 +54,155 @@ extern "C" {
 
 enum {
     DITGRUX_KEY = 32,             /* the AES-256 key of the turnover counter */
-    DITGRUX_SETTINGS = 123,       /* settings of a register, see below */
-    DITGRUX_STATE = 155,          /* state of a register, see below */
-    DITGRUX_SIGNATURE = 64,       /* a signature of the device */
+    DITGRUX_SETTINGS = 123,       /* the settings of a register, see below */
+    DITGRUX_STATE = 155,          /* the state of a register, see below */
+    DITGRUX_SIGNATURE = 64,       /* a signature of the device: r and s of ES256, 32 bytes each, not DER */
     DITGRUX_HASH = 32,            /* a SHA-256 value */
-    DITGRUX_LONGEST_NAME = 32,    /* a register ID or a serial */
-    DITGRUX_LONGEST_HEAD = 83,    /* the head of a journal: 19, ID and serial */
+    DITGRUX_LONGEST_NAME = 32,    /* a register ID, or a serial */
+    DITGRUX_LONGEST_HEAD = 83,    /* the head of a journal: 19 bytes, the ID and the serial */
     DITGRUX_LONGEST_PAYLOAD = 195,
-    DITGRUX_LONGEST_INPUT = 281,  /* what the device signs */
+    DITGRUX_LONGEST_INPUT = 281,  /* the text that the device signs */
     DITGRUX_LONGEST_COMPACT = 368,
-    DITGRUX_LONGEST_ENTRY = 370,  /* a compact form behind its two bytes of length */
+    DITGRUX_LONGEST_ENTRY = 370,  /* an entry of the journal: two bytes of length and a compact form */
     DITGRUX_LONGEST_CODE = 284
 };
 
 /* ---- kinds of receipt */
 
 enum ditgrux_kind {
-    DITGRUX_STANDARD = 0,
-    DITGRUX_CANCELLATION = 1,
-    DITGRUX_TRAINING = 2
+    DITGRUX_STANDARD = 0,         /* adds its amounts to the turnover counter and shows the counter, encrypted */
+    DITGRUX_CANCELLATION = 1,     /* adds its amounts, too: give them with a minus sign */
+    DITGRUX_TRAINING = 2          /* adds nothing */
 };
 
-/* ---- why a call is refused */
+/* ---- why a call is refused; docs/QUESTIONS.md has the usual causes */
 
 enum ditgrux_number {
-    DITGRUX_DONE = 0,
-    DITGRUX_BAD_CSP = 1,          /* two letters A-Z and one digit */
-    DITGRUX_BAD_ID = 2,           /* 1 to 32 bytes, each 33 to 126, never '_' */
-    DITGRUX_BAD_SERIAL = 3,       /* 1 to 32 of 0-9 a-f */
-    DITGRUX_BAD_WIDTH = 4,        /* 5 to 8, and a key of 32 bytes */
-    DITGRUX_HEAD_TOO_LONG = 5,    /* the head does not fit the journal's buffer */
-    DITGRUX_BAD_STATE = 6,        /* not 155 bytes, bad settings, or figures that contradict each other or the buffer */
-    DITGRUX_NUMBER_NOT_ABOVE = 7, /* the receipt's number is not above the last one, or the kind is none */
-    DITGRUX_BAD_DATE = 8,         /* years 2000 to 2099, the Gregorian calendar, 0:00:00 to 23:59:59 */
-    DITGRUX_BAD_AMOUNT = 9,       /* -9,999,999,999 to 9,999,999,999 cents */
-    DITGRUX_NO_START = 10,        /* the first receipt is a standard one with five zeros */
+    DITGRUX_DONE = 0,             /* not refused */
+    DITGRUX_BAD_CSP = 1,          /* CSP is not two letters A-Z and a digit; or the settings are not 123 bytes long */
+    DITGRUX_BAD_ID = 2,           /* register ID is not 1 to 32 bytes, each of 33 to 126 and none of them '_' */
+    DITGRUX_BAD_SERIAL = 3,       /* serial is not 1 to 32 characters of 0-9 a-f */
+    DITGRUX_BAD_WIDTH = 4,        /* width is not 5 to 8; ALSO: the key is not 32 bytes long */
+    DITGRUX_HEAD_TOO_LONG = 5,    /* the journal's buffer is too small for the head */
+    DITGRUX_BAD_STATE = 6,        /* state is not 155 bytes long, holds bad settings, or contradicts itself or the buffer's size */
+    DITGRUX_NUMBER_NOT_ABOVE = 7, /* receipt number is not above the last one (0 never is); ALSO: the kind is not 0, 1 or 2 */
+    DITGRUX_BAD_DATE = 8,         /* no date of the years 2000 to 2099, or no time from 0:00:00 to 23:59:59 */
+    DITGRUX_BAD_AMOUNT = 9,       /* an amount is not within -9,999,999,999 to 9,999,999,999 cents */
+    DITGRUX_NO_START = 10,        /* the first receipt is not a standard one with five zeros */
     DITGRUX_COUNTER_FULL = 11,    /* the turnover counter would not fit its width */
-    DITGRUX_BAD_SIGNATURE = 12,   /* 64 bytes, or none where the device has failed */
-    DITGRUX_NO_ROOM = 13,         /* the entry does not fit behind the journal, the text not into the output */
-    DITGRUX_BAD_HEAD = 14,        /* the head of the journal is cut or bad */
-    DITGRUX_ENTRY_CUT = 15,       /* not all bytes of the entry are there */
-    DITGRUX_ENTRY_MISSPELLED = 16,
-    DITGRUX_ENTRY_NUMBER = 17,    /* its number is not above the last one */
+    DITGRUX_BAD_SIGNATURE = 12,   /* signature is neither 64 bytes long nor empty */
+    DITGRUX_NO_ROOM = 13,         /* issue: no room for the entry in the journal's buffer; prepare: none for the text in the output */
+    DITGRUX_BAD_HEAD = 14,        /* the head of the journal is cut off, or its CSP, ID or serial is bad */
+    DITGRUX_ENTRY_CUT = 15,       /* the entry is cut off, or missing though the head counts it */
+    DITGRUX_ENTRY_MISSPELLED = 16, /* the entry is not a receipt of this register, spelled exactly as the ordinance has it */
+    DITGRUX_ENTRY_NUMBER = 17,    /* the entry's receipt number is not above that of the entry before */
     DITGRUX_ENTRY_NO_START = 18,  /* the first entry is not a standard receipt with five zeros */
-    DITGRUX_ENTRY_CHAIN = 19,     /* its chain field is not that of the entry before */
-    DITGRUX_ENTRY_COUNTER = 20,   /* the sum does not fit the width, or is not the decrypted counter */
-    DITGRUX_BYTES_LEFT = 21,      /* bytes behind the last entry; the index is the count */
-    DITGRUX_BAD_FORM = 22,        /* no compact form; no canonical BASE64 */
-    DITGRUX_OUTPUT_SHORT = 23,    /* the output is too short */
-    DITGRUX_BAD_CODE = 24         /* no machine-readable code, or one without an ID field */
+    DITGRUX_ENTRY_CHAIN = 19,     /* the entry's chain field does not match the entry before */
+    DITGRUX_ENTRY_COUNTER = 20,   /* the sum does not fit the width, or is not the counter that the entry holds encrypted */
+    DITGRUX_BYTES_LEFT = 21,      /* there are bytes after the last entry */
+    DITGRUX_BAD_FORM = 22,        /* not a compact form; unbase64: not canonical BASE64 */
+    DITGRUX_OUTPUT_SHORT = 23,    /* the output is too short; ALSO: the output for settings is not exactly 123 bytes, even if longer */
+    DITGRUX_BAD_CODE = 24         /* not a machine-readable code; fields: or one without a register ID */
 };
+
+/* ---- the journal, as bytes
+ *
+ * A journal is a head and entries. The head is four sections, each with a count of four bytes, big-endian. With a register ID of I
+ * bytes and a serial of S bytes:
+ *
+ *     at               bytes
+ *     0                    4  3, the length of the CSP
+ *     4                    3  CSP
+ *     7                    4  I, the length of the ID
+ *     11                   I  register ID
+ *     11 + I               4  S, the length of the serial
+ *     15 + I               S  serial
+ *     15 + I + S           4  the number of receipts
+ *     19 + I + S              the entries
+ *
+ * An entry is a length of two bytes, big-endian, and a compact form of that length. Issuing a receipt appends an entry and
+ * rewrites the number of receipts; nothing else in the journal ever changes.
+ *
+ * This is how to walk the entries of a journal that ditgrux_take_over has accepted or that the functions here have written. (In any
+ * other journal, compare each place with the number of bytes that there are before you read.)
+ *
+ *     static size_t number_at(const uint8_t *bytes, int count)
+ *     {
+ *         size_t number = 0;
+ *         while (count-- > 0)
+ *             number = number << 8 | *bytes++;
+ *         return number;
+ *     }
+ *
+ *     size_t at = 0, receipts, entry, section, length;
+ *     for (section = 0; section < 3; section++)               // CSP, ID, serial
+ *         at += 4 + number_at(journal + at, 4);
+ *     receipts = number_at(journal + at, 4);
+ *     at += 4;
+ *     for (entry = 0; entry < receipts; entry++) {
+ *         length = number_at(journal + at, 2);
+ *         use(journal + at + 2, length);                      // the compact form; ditgrux_code makes its code
+ *         at += 2 + length;
+ *     }
+ *                                                             // now `at` is the length of the journal
+ */
 
 /* ---- settings and state, as bytes
  *
  * Numbers are big-endian. The settings are the first 123 bytes of the state:
  *
- *     0    3  CSP
- *     3   32  register ID, zeros behind its end
- *    35    8  length of the ID
- *    43   32  serial, zeros behind its end
- *    75    8  length of the serial
- *    83    8  width of the turnover counter in bytes
- *    91   32  key
- *   123    8  turnover counter in cents, two's complement
- *   131    4  last receipt number
- *   135    4  receipts issued
- *   139    8  chain value for the next receipt
- *   147    8  length of the journal
+ *     at  bytes
+ *      0      3  CSP
+ *      3     32  register ID, then zeros
+ *     35      8  length of the ID
+ *     43     32  serial, then zeros
+ *     75      8  length of the serial
+ *     83      8  width of the turnover counter in bytes
+ *     91     32  key
+ *    123      8  turnover counter in cents, two's complement
+ *    131      4  last receipt number
+ *    135      4  number of receipts issued
+ *    139      8  chain value for the next receipt
+ *    147      8  length of the journal
  *
- * Every 155 bytes are the state that they say, and every state has one spelling: reading and writing undo each other. A state that
- * was kept in flash is not trusted: each call asks question 6 of what its bytes say. Bytes of another length are read as the
- * unopened state, which is all zero and gets 6; settings of another length are read as all zero and get 1. The state holds the key.
- * A state that was lost comes back from the journal, the key and the width by ditgrux_take_over: it gives the very same 155 bytes.
+ * Any 155 bytes decode to a state; each state has exactly one encoding. Keep the state in flash, and keep it secret: it holds the
+ * key. It is not trusted. Prepare and Issue check it first and return DITGRUX_BAD_STATE if it is inconsistent: bad settings, a
+ * counter that does not fit the width, more receipts than the last number, a journal shorter than its head or (Issue only) longer
+ * than its buffer. They cannot see that a state is old. With a state from before the last receipt Issue would write over that
+ * receipt, for it reads nothing of the journal.
+ *
+ * After DITGRUX_BAD_STATE the state's bytes are as they were before the call, in every function.
+ *
+ * The unopened state is 155 zeros. A refused ditgrux_open or ditgrux_take_over writes it, so do not pass the live state to these
+ * two: pass a second array, and copy it when the call has returned DITGRUX_DONE.
+ *
+ * A lost state comes back by ditgrux_take_over, byte for byte, from the journal, the key and the width. It needs exactly the bytes
+ * of the journal, and not its whole buffer. The length of the journal is a number of the state alone, so store it beside the
+ * journal as well. (If it is lost, too, the walk above finds it, as long as nothing in the journal is damaged.)
  */
 
-/* Writes the settings (123 bytes). Questions 1 to 4, then 23 where the output has another length. */
+/* ---- settings */
+
+/* Checks the settings of a register and writes them as 123 bytes.
+ *
+ *     csp, csp_length             two letters A-Z and a digit
+ *     id, id_length               the register ID
+ *     serial, serial_length       the serial of the certificate
+ *     width                       bytes of the turnover counter, 5 to 8
+ *     key, key_length             the AES-256 key, 32 bytes
+ *     settings, settings_length   output: exactly 123 bytes
+ *
+ * Returns DITGRUX_DONE, DITGRUX_BAD_CSP, DITGRUX_BAD_ID, DITGRUX_BAD_SERIAL, DITGRUX_BAD_WIDTH (the width, or the key is not 32
+ * bytes long), or DITGRUX_OUTPUT_SHORT (settings_length is not 123, be it less or more).
+ * Refused: `settings` is unchanged. */
 uint32_t ditgrux_settings(const uint8_t *csp, size_t csp_length, const uint8_t *id, size_t id_length, const uint8_t *serial,
                           size_t serial_length, size_t width, const uint8_t *key, size_t key_length, uint8_t *settings,
                           size_t settings_length);
 
-/* What a state says; 0 where it is not 155 bytes. */
+/* ---- what a state says
+ *
+ * The turnover counter in cents, the last receipt number, the number of receipts issued and the length of the journal. All four
+ * return 0 if the state is not 155 bytes long. They read one number and do not check the state. */
 int64_t ditgrux_counter(const uint8_t *state, size_t state_length);
 uint32_t ditgrux_last_number(const uint8_t *state, size_t state_length);
 uint32_t ditgrux_receipts(const uint8_t *state, size_t state_length);
@@ -112,52 +210,150 @@ size_t ditgrux_journal_length(const uint8_t *state, size_t state_length);
 
 /* ---- a register */
 
-/* Writes the head of a journal without receipts to the start of the journal's buffer, and the register's state (155 bytes).
- * 6 where the state has another length; questions 1 to 5. Refused by 1 to 5, the state is the unopened one, all zero. */
-uint32_t ditgrux_open(const uint8_t *settings, size_t settings_length, uint8_t *journal, size_t journal_length, uint8_t *state,
+/* Opens a register: writes the head of a journal without receipts to the start of the buffer, and the state that goes with it.
+ *
+ *     settings, settings_length   from ditgrux_settings, 123 bytes
+ *     journal, journal_size       the buffer of the journal, and its whole size
+ *     state, state_length         output: exactly 155 bytes
+ *
+ * Returns DITGRUX_DONE, DITGRUX_BAD_STATE (state_length is not 155), DITGRUX_BAD_CSP (also if settings_length is not 123),
+ * DITGRUX_BAD_ID, DITGRUX_BAD_SERIAL, DITGRUX_BAD_WIDTH, or DITGRUX_HEAD_TOO_LONG (journal_size is below 19 + ID + serial).
+ * Refused: `journal` is unchanged. With DITGRUX_BAD_STATE `state` is unchanged, too; with any other number it is 155 zeros. */
+uint32_t ditgrux_open(const uint8_t *settings, size_t settings_length, uint8_t *journal, size_t journal_size, uint8_t *state,
                       size_t state_length);
 
-/* Writes what the device signs, the compact form up to its second '.', to the start of the output, and its length.
- * Questions 6 to 11, then 13 for the output. The amounts are cents at the standard rate, reduced 1, reduced 2, zero and special. */
+/* Writes the text that the device signs: the compact form of the receipt up to its second '.', without it. You will want
+ * ditgrux_prepare_details below, which takes the thirteen details by name.
+ *
+ *     state, state_length         155 bytes; they are not changed
+ *     number                      receipt number, above the last one, up to 4,294,967,295
+ *     year .. second              date and time of the receipt; they may lie before those of the last one
+ *     standard, reduced_1, reduced_2, zero, special
+ *                                 the amounts in cents, by rate of VAT
+ *     kind                        enum ditgrux_kind
+ *     output, output_length       output; DITGRUX_LONGEST_INPUT bytes are always enough
+ *     length                      output: the length of the text
+ *
+ * The library adds the amounts as they are given. A cancellation must therefore carry negative amounts: positive ones are not
+ * refused, and would raise the turnover counter.
+ *
+ * Returns DITGRUX_DONE, DITGRUX_BAD_STATE, DITGRUX_NUMBER_NOT_ABOVE (also if the kind is unknown), DITGRUX_BAD_DATE,
+ * DITGRUX_BAD_AMOUNT, DITGRUX_NO_START, DITGRUX_COUNTER_FULL, or DITGRUX_NO_ROOM (output_length is too small).
+ * Refused: `output` is unchanged and *length is 0.
+ *
+ * Prepare is not given the journal's buffer. It can pass where Issue then returns DITGRUX_BAD_STATE, because the state's journal is
+ * longer than the buffer, or DITGRUX_NO_ROOM, because the entry does not fit. */
 uint32_t ditgrux_prepare(const uint8_t *state, size_t state_length, uint32_t number, uint32_t year, uint32_t month, uint32_t day,
                          uint32_t hour, uint32_t minute, uint32_t second, int64_t standard, int64_t reduced_1, int64_t reduced_2,
                          int64_t zero, int64_t special, uint32_t kind, uint8_t *output, size_t output_length, size_t *length);
 
-/* Appends the receipt to the journal in the buffer, rewrites the count of receipts there, and writes the new state. The compact
- * form lies in the buffer from 2 behind the journal's length before the call up to its length after the call.
- * Questions 6 to 13. Refused, the state is as it was. A signature of length 0 says that the device has failed. */
+/* Issues a receipt: appends its entry to the journal, rewrites the number of receipts there, and writes the new state. You will want
+ * ditgrux_issue_details below.
+ *
+ *     state, state_length         155 bytes, in and out
+ *     number .. kind              the same state and the same details as in ditgrux_prepare: otherwise the signature is over
+ *                                 another text
+ *     signature, signature_length the 64 bytes of the device; length 0 says that the device has failed
+ *     journal, journal_size       the buffer of the journal, and its whole size
+ *
+ * Issue does not verify the signature: any 64 bytes are taken.
+ *
+ * After the call the compact form lies in the journal from two bytes after the old length of the journal up to the new length.
+ *
+ * Returns DITGRUX_DONE, DITGRUX_BAD_STATE (also if the state's journal is longer than journal_size), DITGRUX_NUMBER_NOT_ABOVE (also
+ * if the kind is unknown), DITGRUX_BAD_DATE, DITGRUX_BAD_AMOUNT, DITGRUX_NO_START, DITGRUX_COUNTER_FULL, DITGRUX_BAD_SIGNATURE, or
+ * DITGRUX_NO_ROOM (the entry does not fit after the journal).
+ * Refused: `state` and `journal` are unchanged. */
 uint32_t ditgrux_issue(uint8_t *state, size_t state_length, uint32_t number, uint32_t year, uint32_t month, uint32_t day, uint32_t hour,
                        uint32_t minute, uint32_t second, int64_t standard, int64_t reduced_1, int64_t reduced_2, int64_t zero,
                        int64_t special, uint32_t kind, const uint8_t *signature, size_t signature_length, uint8_t *journal,
-                       size_t journal_length);
+                       size_t journal_size);
 
-/* Checks a whole journal and writes the state behind it (155 bytes). 6 where the state has another length; questions 4 and 14 to 21,
- * and the index of the entry that is refused, from 0; 0 where nothing is refused. Refused by those, the state is the unopened one,
- * all zero. */
+/* Checks a whole journal, entry by entry, and writes the state that it leads to. It does not verify signatures.
+ *
+ *     journal, journal_length     the journal, and its exact length (not the size of its buffer)
+ *     key, key_length             the AES-256 key, 32 bytes
+ *     width                       bytes of the turnover counter, 5 to 8
+ *     state, state_length         output: exactly 155 bytes
+ *     index                       output: the entry that is refused, counted from 0
+ *
+ * Returns DITGRUX_DONE, DITGRUX_BAD_STATE (state_length is not 155), DITGRUX_BAD_WIDTH (the width, or the key is not 32 bytes long),
+ * DITGRUX_BAD_HEAD, then for each entry DITGRUX_ENTRY_CUT, DITGRUX_ENTRY_MISSPELLED, DITGRUX_ENTRY_NUMBER, DITGRUX_ENTRY_NO_START,
+ * DITGRUX_ENTRY_CHAIN or DITGRUX_ENTRY_COUNTER, and at last DITGRUX_BYTES_LEFT.
+ * *index is the refused entry's with DITGRUX_ENTRY_.., the number of receipts with DITGRUX_BYTES_LEFT, and 0 with every other result.
+ * Refused: with DITGRUX_BAD_STATE `state` is unchanged; with any other number it is 155 zeros. The journal is only read. */
 uint32_t ditgrux_take_over(const uint8_t *journal, size_t journal_length, const uint8_t *key, size_t key_length, size_t width,
                            uint8_t *state, size_t state_length, uint32_t *index);
 
 /* ---- the machine-readable code */
 
-/* Writes the code of a compact form to the start of the output, and its length. Questions 22 and 23. */
+/* Writes the machine-readable code of a compact form. DITGRUX_LONGEST_CODE bytes of output are always enough. It asks for the frame
+ * of a compact form (three elements of BASE64-URL, a payload that begins with "_R1-", a signature or the text of a failed device)
+ * and not for the fields in it.
+ *
+ * Returns DITGRUX_DONE, DITGRUX_BAD_FORM, or DITGRUX_OUTPUT_SHORT. Refused: `output` is unchanged and *length is 0. */
 uint32_t ditgrux_code(const uint8_t *form, size_t form_length, uint8_t *output, size_t output_length, size_t *length);
 
-/* Writes the compact form of a code to the start of the output, and its length. Questions 24 and 23. */
+/* Writes the compact form of a machine-readable code. DITGRUX_LONGEST_COMPACT bytes of output are always enough.
+ *
+ * Returns DITGRUX_DONE, DITGRUX_BAD_CODE, or DITGRUX_OUTPUT_SHORT. Refused: `output` is unchanged and *length is 0. */
 uint32_t ditgrux_uncode(const uint8_t *code, size_t code_length, uint8_t *output, size_t output_length, size_t *length);
 
-/* Where in a code the register ID stands, and its length. Question 24; both 0 where refused. */
+/* Finds the register ID in a machine-readable code: where it starts, and its length.
+ *
+ * Returns DITGRUX_DONE, or DITGRUX_BAD_CODE (also if the code has no ID, or an empty one). Refused: *start and *length are 0. */
 uint32_t ditgrux_fields(const uint8_t *code, size_t code_length, size_t *start, size_t *length);
 
 /* ---- for tests */
 
-/* Writes the SHA-256 value to the first 32 bytes of the output. 23 where they are not there. */
+/* Writes the SHA-256 value of the data to the first 32 bytes of the output.
+ *
+ * Returns DITGRUX_DONE, or DITGRUX_OUTPUT_SHORT (output_length is below 32). Refused: `output` is unchanged. */
 uint32_t ditgrux_sha256(const uint8_t *data, size_t data_length, uint8_t *output, size_t output_length);
 
-/* BASE64 (url 0, padded) or BASE64-URL (any other url, not padded) to the start of the output, and its length. 23. */
+/* Writes the data as BASE64 with padding (url is 0) or as BASE64-URL without padding (any other url).
+ *
+ * Returns DITGRUX_DONE, or DITGRUX_OUTPUT_SHORT. Refused: `output` is unchanged and *length is 0. */
 uint32_t ditgrux_base64(uint32_t url, const uint8_t *data, size_t data_length, uint8_t *output, size_t output_length, size_t *length);
 
-/* And back: 22 where the text is not canonical, 23. */
+/* Writes the bytes that such a text stands for.
+ *
+ * Returns DITGRUX_DONE, DITGRUX_BAD_FORM (wrong padding, foreign letters, or unused bits that are not zero), or
+ * DITGRUX_OUTPUT_SHORT. Refused: `output` is unchanged and *length is 0. */
 uint32_t ditgrux_unbase64(uint32_t url, const uint8_t *text, size_t text_length, uint8_t *output, size_t output_length, size_t *length);
+
+/* ---- the details of a receipt by name
+ *
+ * What follows is plain C in this header and not in the archive: it is tested (tests/header.c) and not proved. Set the struct to
+ * zeros first, then set what the receipt has, and pass the same struct to both wrappers. */
+
+struct ditgrux_details {
+    uint32_t number;                                /* receipt number, above the last one */
+    uint32_t year, month, day, hour, minute, second;
+    uint32_t kind;                                  /* enum ditgrux_kind */
+    int64_t standard, reduced_1, reduced_2, zero, special; /* cents by rate of VAT; negative in a cancellation */
+};
+
+/* ditgrux_prepare with these details. Same numbers, same buffers. */
+static inline uint32_t ditgrux_prepare_details(const uint8_t *state, size_t state_length, const struct ditgrux_details *details,
+                                               uint8_t *output, size_t output_length, size_t *length)
+{
+    return ditgrux_prepare(state, state_length, details->number, details->year, details->month, details->day, details->hour,
+                           details->minute, details->second, details->standard, details->reduced_1, details->reduced_2, details->zero,
+                           details->special, details->kind, output, output_length, length);
+}
+
+/* ditgrux_issue with these details. Same numbers, same buffers. Where signature_length is 0 (the device has failed), `signature` is
+ * not used and may be NULL. */
+static inline uint32_t ditgrux_issue_details(uint8_t *state, size_t state_length, const struct ditgrux_details *details,
+                                             const uint8_t *signature, size_t signature_length, uint8_t *journal, size_t journal_size)
+{
+    const uint8_t none = 0;
+    return ditgrux_issue(state, state_length, details->number, details->year, details->month, details->day, details->hour,
+                         details->minute, details->second, details->standard, details->reduced_1, details->reduced_2, details->zero,
+                         details->special, details->kind, signature_length != 0 ? signature : &none, signature_length, journal,
+                         journal_size);
+}
 
 #ifdef __cplusplus
 }

@@ -1,0 +1,185 @@
+/* What include/ditgrux.h says beside the contracts: the wrappers pass every detail to its place, an empty signature may be NULL, the
+ * walk of the entries ends at the length of the journal, what is left after a refusal, and what to do when the buffer is full.
+ * Prints each line that fails; exit status 1 where one does. Compiles as C99 and as C++11. */
+#include "ditgrux.h"
+
+#include <stdio.h>
+#include <string.h>
+
+static int failures;
+
+#define CHECK(condition) ((condition) ? (void)0 : (void)(failures++, printf("header: line %d: %s\n", __LINE__, #condition)))
+
+static const uint8_t key[DITGRUX_KEY] = "a key of thirty-two plain bytes";
+static const uint8_t signature[DITGRUX_SIGNATURE] = "no signature of any device, only sixty-four bytes to be spelled";
+static uint8_t settings[DITGRUX_SETTINGS], journal[4096], twin[4096], state[DITGRUX_STATE], other[DITGRUX_STATE];
+
+static uint32_t make_settings(size_t key_length, size_t settings_length, uint8_t *out)
+{
+    return ditgrux_settings((const uint8_t *)"AT0", 3, (const uint8_t *)"TILL-1", 6, (const uint8_t *)"1a2b", 4, 8, key, key_length, out,
+                            settings_length);
+}
+
+static struct ditgrux_details details_of(uint32_t number, uint32_t kind, int64_t factor)
+{
+    struct ditgrux_details d;
+    d.number = number;
+    d.year = 2031;
+    d.month = 2;
+    d.day = 3;
+    d.hour = 4;
+    d.minute = 5;
+    d.second = 6;
+    d.kind = kind;
+    d.standard = 7 * factor;
+    d.reduced_1 = 8 * factor;
+    d.reduced_2 = 9 * factor;
+    d.zero = 10 * factor;
+    d.special = 11 * factor;
+    return d;
+}
+
+/* The loop of the header. */
+static size_t number_at(const uint8_t *bytes, int count)
+{
+    size_t number = 0;
+    while (count-- > 0)
+        number = number << 8 | *bytes++;
+    return number;
+}
+
+static size_t walk(const uint8_t *bytes, size_t *forms)
+{
+    uint8_t code[DITGRUX_LONGEST_CODE];
+    size_t at = 0, receipts, entry, section, length, written;
+    for (section = 0; section < 3; section++)
+        at += 4 + number_at(bytes + at, 4);
+    receipts = number_at(bytes + at, 4);
+    at += 4;
+    *forms = 0;
+    for (entry = 0; entry < receipts; entry++) {
+        length = number_at(bytes + at, 2);
+        *forms += ditgrux_code(bytes + at + 2, length, code, sizeof code, &written) == DITGRUX_DONE;
+        at += 2 + length;
+    }
+    return at;
+}
+
+static int is_all(uint8_t byte, const uint8_t *bytes, size_t length)
+{
+    while (length > 0)
+        if (bytes[--length] != byte)
+            return 0;
+    return 1;
+}
+
+/* Details by name and details by place: the same text, the same journal, the same state. */
+static void wrappers(void)
+{
+    static const char expected[] = "_R1-AT0_TILL-1_2_2031-02-03T04:05:06_0,07_0,08_0,09_0,10_0,11_";
+    const struct ditgrux_details start = details_of(1, DITGRUX_STANDARD, 0), sale = details_of(2, DITGRUX_STANDARD, 1),
+                                 back = details_of(3, DITGRUX_CANCELLATION, -1), training = details_of(4, DITGRUX_TRAINING, 1);
+    uint8_t text[DITGRUX_LONGEST_INPUT], same[DITGRUX_LONGEST_INPUT], code[DITGRUX_LONGEST_CODE];
+    size_t length, again, at, forms;
+
+    CHECK(ditgrux_issue_details(state, sizeof state, &start, signature, sizeof signature, journal, sizeof journal) == DITGRUX_DONE);
+    memcpy(other, state, sizeof state);
+    memcpy(twin, journal, sizeof journal);
+
+    CHECK(ditgrux_prepare_details(state, sizeof state, &sale, text, sizeof text, &length) == DITGRUX_DONE);
+    CHECK(ditgrux_prepare(state, sizeof state, 2, 2031, 2, 3, 4, 5, 6, 7, 8, 9, 10, 11, DITGRUX_STANDARD, same, sizeof same, &again) == 0);
+    CHECK(length == again && memcmp(text, same, length) == 0);
+
+    at = ditgrux_journal_length(state, sizeof state) + 2;
+    CHECK(ditgrux_issue_details(state, sizeof state, &sale, signature, sizeof signature, journal, sizeof journal) == DITGRUX_DONE);
+    CHECK(ditgrux_issue(other, sizeof other, 2, 2031, 2, 3, 4, 5, 6, 7, 8, 9, 10, 11, DITGRUX_STANDARD, signature, sizeof signature, twin,
+                        sizeof twin) == DITGRUX_DONE);
+    CHECK(memcmp(journal, twin, sizeof journal) == 0 && memcmp(state, other, sizeof state) == 0);
+    CHECK(memcmp(journal + at, text, length) == 0 && journal[at + length] == '.');
+    CHECK(ditgrux_code(journal + at, ditgrux_journal_length(state, sizeof state) - at, code, sizeof code, &length) == DITGRUX_DONE);
+    CHECK(memcmp(code, expected, sizeof expected - 1) == 0);
+    CHECK(ditgrux_counter(state, sizeof state) == 45);
+
+    /* a failed device: NULL and length 0, as any pointer and length 0 */
+    CHECK(ditgrux_issue_details(state, sizeof state, &back, NULL, 0, journal, sizeof journal) == DITGRUX_DONE);
+    CHECK(ditgrux_issue_details(other, sizeof other, &back, signature, 0, twin, sizeof twin) == DITGRUX_DONE);
+    CHECK(memcmp(journal, twin, sizeof journal) == 0 && memcmp(state, other, sizeof state) == 0);
+    CHECK(ditgrux_counter(state, sizeof state) == 0);
+    CHECK(ditgrux_issue_details(state, sizeof state, &training, signature, sizeof signature, journal, sizeof journal) == DITGRUX_DONE);
+    CHECK(ditgrux_counter(state, sizeof state) == 0);
+
+    CHECK(walk(journal, &forms) == ditgrux_journal_length(state, sizeof state) && forms == 4);
+}
+
+/* A cancellation with positive amounts is not refused and raises the counter. */
+static void positive_cancellation(void)
+{
+    const struct ditgrux_details wrong = details_of(5, DITGRUX_CANCELLATION, 1);
+    CHECK(ditgrux_issue_details(state, sizeof state, &wrong, signature, sizeof signature, journal, sizeof journal) == DITGRUX_DONE);
+    CHECK(ditgrux_counter(state, sizeof state) == 45);
+}
+
+/* The buffer is full: nothing changes, and the same call passes with a longer buffer. Prepare does not see it. */
+static void full(void)
+{
+    const struct ditgrux_details sale = details_of(6, DITGRUX_STANDARD, 1);
+    uint8_t text[DITGRUX_LONGEST_INPUT];
+    size_t length, used = ditgrux_journal_length(state, sizeof state);
+    memcpy(other, state, sizeof state);
+    memcpy(twin, journal, sizeof journal);
+    CHECK(ditgrux_prepare_details(state, sizeof state, &sale, text, sizeof text, &length) == DITGRUX_DONE);
+    CHECK(ditgrux_issue_details(state, sizeof state, &sale, signature, sizeof signature, journal, used + 100) == DITGRUX_NO_ROOM);
+    CHECK(ditgrux_issue_details(state, sizeof state, &sale, signature, sizeof signature, journal, used - 1) == DITGRUX_BAD_STATE);
+    CHECK(memcmp(journal, twin, sizeof journal) == 0 && memcmp(state, other, sizeof state) == 0);
+    CHECK(ditgrux_issue_details(state, sizeof state, &sale, signature, sizeof signature, journal, used + DITGRUX_LONGEST_ENTRY) == 0);
+    CHECK(memcmp(journal + used + 2, text, length) == 0);
+}
+
+/* The state comes back from exactly the bytes of the journal, and what a refusal leaves. */
+static void refusals(void)
+{
+    const struct ditgrux_details sale = details_of(7, DITGRUX_STANDARD, 1);
+    struct ditgrux_details unknown = sale;
+    uint8_t text[DITGRUX_LONGEST_INPUT], bytes[DITGRUX_STATE], out[DITGRUX_SETTINGS + 1];
+    size_t length = ditgrux_journal_length(state, sizeof state), wrote;
+    uint32_t index;
+
+    CHECK(ditgrux_take_over(journal, length, key, sizeof key, 8, other, sizeof other, &index) == DITGRUX_DONE && index == 0);
+    CHECK(memcmp(other, state, sizeof state) == 0);
+    CHECK(ditgrux_take_over(journal, sizeof journal, key, sizeof key, 8, other, sizeof other, &index) == DITGRUX_BYTES_LEFT);
+    CHECK(index == ditgrux_receipts(state, sizeof state) && is_all(0, other, sizeof other));
+    memset(bytes, 0xA5, sizeof bytes);
+    CHECK(ditgrux_take_over(journal, length, key, sizeof key - 1, 8, bytes, sizeof bytes, &index) == DITGRUX_BAD_WIDTH && index == 0);
+    CHECK(is_all(0, bytes, sizeof bytes));
+    memset(bytes, 0xA5, sizeof bytes);
+    CHECK(ditgrux_take_over(journal, length, key, sizeof key, 8, bytes, sizeof bytes - 1, &index) == DITGRUX_BAD_STATE && index == 0);
+    CHECK(is_all(0xA5, bytes, sizeof bytes));
+
+    CHECK(ditgrux_open(settings, sizeof settings, twin, 28, bytes, sizeof bytes) == DITGRUX_HEAD_TOO_LONG);
+    CHECK(is_all(0, bytes, sizeof bytes));
+    CHECK(ditgrux_open(settings, sizeof settings - 1, twin, sizeof twin, bytes, sizeof bytes) == DITGRUX_BAD_CSP);
+    memset(bytes, 0xA5, sizeof bytes);
+    CHECK(ditgrux_open(settings, sizeof settings, twin, sizeof twin, bytes, sizeof bytes - 1) == DITGRUX_BAD_STATE);
+    CHECK(is_all(0xA5, bytes, sizeof bytes));
+    CHECK(ditgrux_issue_details(bytes, sizeof bytes, &sale, NULL, 0, journal, sizeof journal) == DITGRUX_BAD_STATE);
+    CHECK(is_all(0xA5, bytes, sizeof bytes));
+
+    unknown.kind = 3;
+    CHECK(ditgrux_prepare_details(state, sizeof state, &unknown, text, sizeof text, &wrote) == DITGRUX_NUMBER_NOT_ABOVE && wrote == 0);
+    CHECK(ditgrux_prepare_details(state, sizeof state, &sale, text, 10, &wrote) == DITGRUX_NO_ROOM && wrote == 0);
+    CHECK(make_settings(sizeof key - 1, sizeof settings, out) == DITGRUX_BAD_WIDTH);
+    CHECK(make_settings(sizeof key, sizeof settings + 1, out) == DITGRUX_OUTPUT_SHORT);
+    CHECK(make_settings(sizeof key, sizeof settings - 1, out) == DITGRUX_OUTPUT_SHORT);
+}
+
+int main(void)
+{
+    CHECK(make_settings(sizeof key, sizeof settings, settings) == DITGRUX_DONE);
+    CHECK(ditgrux_open(settings, sizeof settings, journal, sizeof journal, state, sizeof state) == DITGRUX_DONE);
+    CHECK(ditgrux_journal_length(state, sizeof state) == 19 + 6 + 4);
+    wrappers();
+    positive_cancellation();
+    full();
+    refusals();
+    return failures ? 1 : 0;
+}
