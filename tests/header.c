@@ -1,5 +1,6 @@
 /* What include/ditgrux.h says beside the contracts: the wrappers pass every detail to its place, an empty signature may be NULL, the
- * walk of the entries ends at the length of the journal, what is left after a refusal, and what to do when the buffer is full.
+ * walk of the entries ends at the length of the journal, what is left after a refusal, what to do when the buffer is full, and where
+ * power fails.
  * Prints each line that fails; exit status 1 where one does. Compiles as C99 and as C++11. */
 #include "ditgrux.h"
 
@@ -148,6 +149,8 @@ static void refusals(void)
     CHECK(memcmp(other, state, sizeof state) == 0);
     CHECK(ditgrux_take_over(journal, sizeof journal, key, sizeof key, 8, other, sizeof other, &index) == DITGRUX_BYTES_LEFT);
     CHECK(index == ditgrux_receipts(state, sizeof state) && is_all(0, other, sizeof other));
+    CHECK(ditgrux_take_over(journal, length, signature, sizeof key, 8, other, sizeof other, &index) == DITGRUX_ENTRY_COUNTER && index == 0);
+    CHECK(ditgrux_take_over(journal, length, key, sizeof key, 7, other, sizeof other, &index) == DITGRUX_ENTRY_MISSPELLED && index == 0);
     memset(bytes, 0xA5, sizeof bytes);
     CHECK(ditgrux_take_over(journal, length, key, sizeof key - 1, 8, bytes, sizeof bytes, &index) == DITGRUX_BAD_WIDTH && index == 0);
     CHECK(is_all(0, bytes, sizeof bytes));
@@ -172,6 +175,33 @@ static void refusals(void)
     CHECK(make_settings(sizeof key, sizeof settings - 1, out) == DITGRUX_OUTPUT_SHORT);
 }
 
+/* Where power fails between the journal and the state: what take over says of each half, and what an old state does. */
+static void power_cut(void)
+{
+    const struct ditgrux_details sale = details_of(8, DITGRUX_STANDARD, 1), late = details_of(9, DITGRUX_STANDARD, 2);
+    uint8_t old[DITGRUX_STATE];
+    const size_t length = ditgrux_journal_length(state, sizeof state), count = 15 + 6 + 4;
+    size_t forms;
+    uint32_t index;
+
+    memcpy(old, state, sizeof state);
+    CHECK(ditgrux_issue_details(state, sizeof state, &sale, signature, sizeof signature, journal, sizeof journal) == DITGRUX_DONE);
+    /* the entry is stored, the count is not: the old journal */
+    memcpy(twin, journal, sizeof journal);
+    twin[count + 3]--;
+    CHECK(ditgrux_take_over(twin, length, key, sizeof key, 8, other, sizeof other, &index) == DITGRUX_DONE);
+    CHECK(memcmp(other, old, sizeof old) == 0);
+    /* the entry and the count are stored, the length is not: 15, and the walk finds the length */
+    CHECK(ditgrux_take_over(journal, length, key, sizeof key, 8, other, sizeof other, &index) == DITGRUX_ENTRY_CUT);
+    CHECK(index == ditgrux_receipts(old, sizeof old));
+    CHECK(walk(journal, &forms) == ditgrux_journal_length(state, sizeof state));
+    /* an old state is sound, and writes over the last receipt */
+    memcpy(twin, journal, sizeof journal);
+    CHECK(ditgrux_issue_details(old, sizeof old, &late, signature, sizeof signature, twin, sizeof twin) == DITGRUX_DONE);
+    CHECK(ditgrux_receipts(old, sizeof old) == ditgrux_receipts(state, sizeof state));
+    CHECK(memcmp(twin + length, journal + length, DITGRUX_LONGEST_INPUT) != 0);
+}
+
 int main(void)
 {
     CHECK(make_settings(sizeof key, sizeof settings, settings) == DITGRUX_DONE);
@@ -181,5 +211,6 @@ int main(void)
     positive_cancellation();
     full();
     refusals();
+    power_cut();
     return failures ? 1 : 0;
 }
