@@ -80,7 +80,7 @@ enum ditgrux_kind {
 enum ditgrux_number {
     DITGRUX_DONE = 0,             /* not refused */
     DITGRUX_BAD_CSP = 1,          /* CSP is not two letters A-Z and a digit; or the settings are not 123 bytes long */
-    DITGRUX_BAD_ID = 2,           /* register ID is not 1 to 32 bytes, each of 33 to 126 and none of them '_' */
+    DITGRUX_BAD_ID = 2,           /* register ID is not 1 to 32 bytes, each from 33 to 126 and none of them '_' */
     DITGRUX_BAD_SERIAL = 3,       /* serial is not 1 to 32 characters of 0-9 a-f */
     DITGRUX_BAD_WIDTH = 4,        /* width is not 5 to 8; ALSO: the key is not 32 bytes long */
     DITGRUX_HEAD_TOO_LONG = 5,    /* the journal's buffer is too small for the head */
@@ -168,8 +168,9 @@ enum ditgrux_number {
  * Any 155 bytes decode to a state; each state has exactly one encoding. Keep the state in flash, and keep it secret: it holds the
  * key. It is not trusted. Prepare and Issue check it first and return DITGRUX_BAD_STATE if it is inconsistent: bad settings, a
  * counter that does not fit the width, more receipts than the last number, a journal shorter than its head or (Issue only) longer
- * than its buffer. They cannot see that a state is old. With a state from before the last receipt Issue would write over that
- * receipt, for it reads nothing of the journal.
+ * than its buffer. They cannot see that a bit of the key, the counter or the chain value has changed, nor that a state is old: with
+ * a state from before the last receipt Issue writes over that receipt, for it reads nothing of the journal. Compare the state with
+ * what ditgrux_take_over gives when the device starts.
  *
  * After DITGRUX_BAD_STATE the state's bytes are as they were before the call, in every function.
  *

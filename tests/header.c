@@ -195,6 +195,9 @@ static void power_cut(void)
     CHECK(ditgrux_take_over(journal, length, key, sizeof key, 8, other, sizeof other, &index) == DITGRUX_ENTRY_CUT);
     CHECK(index == ditgrux_receipts(old, sizeof old));
     CHECK(walk(journal, &forms) == ditgrux_journal_length(state, sizeof state));
+    /* all but the state are stored: the new state */
+    CHECK(ditgrux_take_over(journal, ditgrux_journal_length(state, sizeof state), key, sizeof key, 8, other, sizeof other, &index) == 0);
+    CHECK(memcmp(other, state, sizeof state) == 0);
     /* an old state is sound, and writes over the last receipt */
     memcpy(twin, journal, sizeof journal);
     CHECK(ditgrux_issue_details(old, sizeof old, &late, signature, sizeof signature, twin, sizeof twin) == DITGRUX_DONE);
