@@ -107,8 +107,8 @@ static int open_register(void)
 {
     static const uint8_t csp[] = {'A', 'T', '0'}, id[] = {'T', 'I', 'L', 'L', '-', '1'}, serial[] = {'1', 'a', '2', 'b'};
     uint8_t settings[DITGRUX_SETTINGS];
-    uint32_t number = ditgrux_settings(csp, sizeof csp, id, sizeof id, serial, sizeof serial, WIDTH, counter_key, sizeof counter_key,
-                                       settings, sizeof settings);
+    uint32_t number = ditgrux_settings(csp, sizeof csp, id, sizeof id, serial, sizeof serial, WIDTH, counter_key,
+                                       sizeof counter_key, settings, sizeof settings);
     if (number)
         return refused("settings", number);
     number = ditgrux_open(settings, sizeof settings, journal, sizeof journal, state, sizeof state);
@@ -169,8 +169,8 @@ static int take_over(void)
 {
     uint8_t again[DITGRUX_STATE];
     uint32_t entry;
-    uint32_t number = ditgrux_take_over(journal, ditgrux_journal_length(state, sizeof state), counter_key, sizeof counter_key, WIDTH,
-                                        again, sizeof again, &entry);
+    uint32_t number = ditgrux_take_over(journal, ditgrux_journal_length(state, sizeof state), counter_key, sizeof counter_key,
+                                        WIDTH, again, sizeof again, &entry);
     if (number) {
         fprintf(stderr, "take over: refused %u at entry %u\n", (unsigned)number, (unsigned)entry);
         return 0;
