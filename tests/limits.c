@@ -1,6 +1,7 @@
-/* The longest receipt that there is: the header's sizes are those of its texts, exactly. And how many bytes of stack each call uses on
- * it: the call runs on a stack of its own that was filled with a pattern, and what is no longer the pattern was used. Prints a line
- * for each; exit status 1 where a size is another or a call goes past the limit. */
+/* The longest receipt that there is: the header's sizes are those of its texts, exactly. And how many bytes of stack each exported call
+ * uses on it, answered and refused: the call runs on a stack of its own that was filled with a pattern, and what is no longer the
+ * pattern was used. Prints a line for each; exit status 1 where a size or an answer is another or a call goes past the limit that the
+ * README names. */
 #include "ditgrux.h"
 
 #include <stdio.h>
@@ -8,7 +9,7 @@
 #include <string.h>
 #include <ucontext.h>
 
-enum { STACK = 1 << 18, LIMIT = 32 << 10, PATTERN = 0xA5, RECEIPTS = 20 };
+enum { STACK = 1 << 18, LIMIT = 3700, PATTERN = 0xA5, RECEIPTS = 20 };
 
 static uint8_t stack[STACK], journal[1 << 16], state[DITGRUX_STATE], again[DITGRUX_STATE], settings[DITGRUX_SETTINGS], output[512];
 static const uint8_t key[DITGRUX_KEY] = "a key of thirty-two plain bytes";
@@ -16,18 +17,19 @@ static const uint8_t signature[DITGRUX_SIGNATURE] = "no signature of any device,
 static const uint8_t name[DITGRUX_LONGEST_NAME + 1] = "0123456789abcdef0123456789abcdef";
 static ucontext_t home, away;
 static uint32_t number, answer, index_;
-static size_t length, start, form_start, form_length, code_length;
+static size_t length, start, form_start, form_length, code_length, room, cut;
+static uint8_t hash[DITGRUX_HASH], form[DITGRUX_LONGEST_COMPACT], text[1024];
 
 static void nothing(void) {}
 
 static void make_settings(void)
 {
-    answer = ditgrux_settings((const uint8_t *)"AT0", 3, name, 32, name, 32, 8, key, sizeof key, settings, sizeof settings);
+    answer = ditgrux_settings((const uint8_t *)"AT0", 3, name, 32, name, 32, 8, key, sizeof key, settings, sizeof settings - cut);
 }
 
 static void open_register(void)
 {
-    answer = ditgrux_open(settings, sizeof settings, journal, sizeof journal, state, sizeof state);
+    answer = ditgrux_open(settings, sizeof settings, journal, room, again, sizeof again);
 }
 
 static int64_t cents(void)
@@ -38,34 +40,57 @@ static int64_t cents(void)
 static void prepare(void)
 {
     answer = ditgrux_prepare(state, sizeof state, number, 2099, 12, 31, 23, 59, 59, cents(), cents(), cents(), cents(), cents(), DITGRUX_STANDARD,
-                             output, sizeof output, &length);
+                             output, sizeof output - cut, &length);
 }
 
 static void issue(void)
 {
     answer = ditgrux_issue(state, sizeof state, number, 2099, 12, 31, 23, 59, 59, cents(), cents(), cents(), cents(), cents(), DITGRUX_STANDARD,
-                           signature, sizeof signature, journal, sizeof journal);
+                           signature, sizeof signature, journal, room);
 }
 
 static void take_over(void)
 {
-    answer = ditgrux_take_over(journal, ditgrux_journal_length(state, sizeof state), key, sizeof key, 8, again, sizeof again, &index_);
+    answer = ditgrux_take_over(journal, ditgrux_journal_length(state, sizeof state) - cut, key, sizeof key, 8, again, sizeof again, &index_);
 }
 
 static void code(void)
 {
-    answer = ditgrux_code(journal + form_start, form_length, output, sizeof output, &code_length);
+    answer = ditgrux_code(journal + form_start, form_length - cut, text, room, &length);
 }
 
 static void uncode(void)
 {
-    static uint8_t form[DITGRUX_LONGEST_COMPACT];
-    answer = ditgrux_uncode(output, code_length, form, sizeof form, &length);
+    answer = ditgrux_uncode(output, code_length - cut, form, sizeof form, &length);
 }
 
 static void fields(void)
 {
-    answer = ditgrux_fields(output, code_length, &start, &length);
+    answer = ditgrux_fields(output, code_length - cut, &start, &length);
+}
+
+static void figures(void)
+{
+    ditgrux_counter(state, sizeof state);
+    ditgrux_last_number(state, sizeof state);
+    ditgrux_receipts(state, sizeof state);
+    ditgrux_journal_length(state, sizeof state);
+    answer = 0;
+}
+
+static void sha256(void)
+{
+    answer = ditgrux_sha256(journal, form_start, hash, sizeof hash - cut);
+}
+
+static void base64(void)
+{
+    answer = ditgrux_base64(0, journal, 300, text, room, &length);
+}
+
+static void unbase64(void)
+{
+    answer = ditgrux_unbase64(0, text, 400 - cut, output, sizeof output, &length);
 }
 
 /* Runs a call on the other stack; the bytes that it used, without those of an empty call. */
@@ -90,31 +115,85 @@ static int exactly(const char *title, size_t bytes, size_t size)
     return bytes != size;
 }
 
-static int measure(const char *title, void (*call)(void))
+/* A call that must give this number, 0 where it is not refused. */
+static int measure(const char *title, void (*call)(void), uint32_t expected)
 {
     size_t bytes = used(call) - used(nothing);
-    if (answer) {
-        printf("stack: %s was refused by %u\n", title, (unsigned)answer);
-        return 1;
-    }
-    printf("stack: %-10s %6zu bytes\n", title, bytes);
-    return bytes > LIMIT;
+    printf("stack: %-10s %6zu bytes, number %u\n", title, bytes, (unsigned)answer);
+    return (bytes > LIMIT) + (answer != expected);
 }
 
-int main(void)
+/* Take over of the journal with one byte changed at the place. */
+static int damaged(size_t at, uint32_t expected)
 {
-    int bad = measure("settings", make_settings) + measure("open", open_register);
+    int bad;
+    journal[at] ^= 1;
+    bad = measure("take over", take_over, expected);
+    journal[at] ^= 1;
+    return bad;
+}
+
+/* The longest register, and its longest receipts. */
+static int longest(void)
+{
+    int bad = measure("settings", make_settings, 0) + measure("open", open_register, 0);
+    memcpy(state, again, sizeof state);
     bad += exactly("head", ditgrux_journal_length(state, sizeof state), DITGRUX_LONGEST_HEAD);
     for (number = 1; number < RECEIPTS; number++)
         issue();
     number = UINT32_MAX;
-    bad += measure("prepare", prepare) + exactly("signing input", length, DITGRUX_LONGEST_INPUT);
+    bad += measure("prepare", prepare, 0) + exactly("signing input", length, DITGRUX_LONGEST_INPUT);
     form_start = ditgrux_journal_length(state, sizeof state) + 2;
-    bad += measure("issue", issue);
+    room = form_start;
+    bad += measure("issue", issue, DITGRUX_NO_ROOM);
+    room = sizeof journal;
+    bad += measure("issue", issue, 0);
     form_length = ditgrux_journal_length(state, sizeof state) - form_start;
     bad += exactly("compact form", form_length, DITGRUX_LONGEST_COMPACT) + exactly("entry", form_length + 2, DITGRUX_LONGEST_ENTRY);
-    bad += measure("take over", take_over) + measure("code", code) + exactly("code", code_length, DITGRUX_LONGEST_CODE);
-    bad += exactly("payload", code_length - 89, DITGRUX_LONGEST_PAYLOAD);
-    bad += measure("uncode", uncode) + measure("fields", fields) + exactly("name", length, DITGRUX_LONGEST_NAME);
+    return bad;
+}
+
+static int texts(void)
+{
+    int bad;
+    room = sizeof text;
+    bad = measure("code", code, 0) + exactly("code", length, DITGRUX_LONGEST_CODE);
+    code_length = length;
+    memcpy(output, text, code_length);
+    bad += exactly("payload", code_length - 89, DITGRUX_LONGEST_PAYLOAD) + measure("uncode", uncode, 0);
+    bad += measure("fields", fields, 0) + exactly("name", length, DITGRUX_LONGEST_NAME);
+    bad += measure("figures", figures, 0) + measure("sha256", sha256, 0);
+    cut = 1;
+    bad += measure("code", code, DITGRUX_BAD_FORM) + measure("uncode", uncode, DITGRUX_BAD_CODE) + measure("fields", fields, DITGRUX_BAD_CODE);
+    bad += measure("sha256", sha256, DITGRUX_OUTPUT_SHORT);
+    cut = 0;
+    bad += measure("base64", base64, 0) + measure("unbase64", unbase64, 0);
+    cut = 1;
+    bad += measure("unbase64", unbase64, DITGRUX_BAD_FORM);
+    cut = 0;
+    room = 100;
+    return bad + measure("code", code, DITGRUX_OUTPUT_SHORT) + measure("base64", base64, DITGRUX_OUTPUT_SHORT);
+}
+
+/* What is left of the refused calls on a whole journal: each stops at another question. */
+static int refusals(void)
+{
+    int bad = measure("take over", take_over, 0) + damaged(0, DITGRUX_BAD_HEAD) + damaged(form_start, DITGRUX_ENTRY_MISSPELLED);
+    cut = 1;
+    bad += measure("take over", take_over, DITGRUX_ENTRY_CUT) + measure("settings", make_settings, DITGRUX_OUTPUT_SHORT);
+    cut = sizeof output;
+    number = UINT32_MAX;
+    bad += measure("prepare", prepare, DITGRUX_NUMBER_NOT_ABOVE) + measure("issue", issue, DITGRUX_NUMBER_NOT_ABOVE);
+    cut = 0;
+    room = 10;
+    return bad + measure("open", open_register, DITGRUX_HEAD_TOO_LONG) + measure("issue", issue, DITGRUX_BAD_STATE);
+}
+
+int main(void)
+{
+    int bad;
+    room = sizeof journal;
+    bad = longest();
+    bad += refusals() + texts();
     return bad ? EXIT_FAILURE : EXIT_SUCCESS;
 }
