@@ -1,5 +1,6 @@
 // A register's day on the screen: it is opened, receipts are issued, the journal is taken over, and a broken one is refused.
 use journal::State;
+use primitives::Alphabet;
 use receipt::DateTime;
 use receipt::Details;
 use receipt::Kind;
@@ -37,6 +38,17 @@ fn show_code(buf: &[u8], a: usize, e: usize) {
     printing::text(b"\n");
 }
 
+// The chain value, and as the next receipt spells it.
+fn show_chain(chain: [u8; 8]) {
+    let mut spelled = [0u8; 12];
+    primitives::base64_encode(Alphabet::Standard, &chain, &mut spelled, 0);
+    printing::text(b" cents, chain value ");
+    printing::eight(&chain);
+    printing::text(b", spelled ");
+    printing::text(&spelled);
+    printing::text(b"\n");
+}
+
 // The state after a receipt.
 fn show_state(st: State) {
     let chain = st.chain;
@@ -44,9 +56,7 @@ fn show_state(st: State) {
     printing::number(st.last as u64);
     printing::text(b", counter ");
     printing::cents(st.counter);
-    printing::text(b" cents, chain value ");
-    printing::eight(&chain);
-    printing::text(b"\n");
+    show_chain(chain);
 }
 
 fn show_amount(z: i64) {
@@ -165,7 +175,7 @@ fn evening(st: State, buf: &mut [u8]) -> State {
     )
 }
 
-// One byte changed.
+// One letter changed into another one of BASE64-URL.
 fn flip(buf: &mut [u8], at: usize) {
     if at < buf.len() {
         buf[at] = buf[at] ^ 1;
@@ -187,9 +197,9 @@ fn main() {
     let second = noon(first, &mut buf);
     let st = evening(second, &mut buf);
     take_over(b"the journal is taken over\n", &buf, st.length, key);
-    flip(&mut buf, 400);
+    flip(&mut buf, 190);
     take_over(
-        b"one byte of it is changed, and it is taken over again\n",
+        b"one letter of the first receipt's signature is changed: the second receipt's chain field no longer matches\n",
         &buf,
         st.length,
         key,
