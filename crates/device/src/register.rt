@@ -149,11 +149,10 @@ pub extern "C" fn ditgrux_journal_length(state: &[u8]) -> usize
 #[no_mangle]
 pub extern "C" fn ditgrux_open(settings: &[u8], journal: &mut [u8], state: &mut [u8]) -> u32
     ensures { λ r.
-        let s : _ = now (settings .entry) in
         let g : _ = slicesWith (now (state .entry)) (now (journal .entry)) in
-        ⌜ (r ≡ openedNumber s g)
-        × (now (journal .exit) ≡ openedSlices s g .journal)
-        × (now (state .exit) ≡ openedSlices s g .state) ⌝ }
+        ⌜ (r ≡ openedNumber (now (settings .entry)) g)
+        × (now (journal .exit) ≡ openedSlices (now (settings .entry)) g .journal)
+        × (now (state .exit) ≡ openedSlices (now (settings .entry)) g .state) ⌝ }
 {
     if state.len() != STATE {
         return 6;
@@ -321,11 +320,10 @@ pub extern "C" fn ditgrux_issue(
     journal: &mut [u8],
 ) -> u32
     ensures { λ r.
-        let g : _ = slicesWith (now (state .entry)) (now (journal .entry)) in
         let c : _ = callWith number year month day hour minute second standard «reduced_1» «reduced_2» zero special kind (now (signature .entry)) in
-        ⌜ (r ≡ issuedNumber g c)
-        × (now (state .exit) ≡ issuedSlices g c .state)
-        × (now (journal .exit) ≡ issuedSlices g c .journal) ⌝ }
+        ⌜ (r ≡ issuedNumber (slicesWith (now (state .entry)) (now (journal .entry))) c)
+        × (now (state .exit) ≡ issuedSlices (slicesWith (now (state .entry)) (now (journal .entry))) c .state)
+        × (now (journal .exit) ≡ issuedSlices (slicesWith (now (state .entry)) (now (journal .entry))) c .journal) ⌝ }
 {
     let st = state_of(state);
     let d = details_of(
@@ -361,8 +359,9 @@ pub extern "C" fn ditgrux_take_over(
     index: &mut u32,
 ) -> u32
     ensures { λ r.
-        let a : _ = takeOverAnswer (now (journal .entry)) (now (key .entry)) width (length (now (state .entry))) in
-        ⌜ (r ≡ a .number) × (now (state .exit) ≡ kept (now (state .entry)) (a .state)) × (now (index .exit) ≡ a .index) ⌝ }
+        ⌜ (r ≡ takeOverAnswer (now (journal .entry)) (now (key .entry)) width (length (now (state .entry))) .number)
+        × (now (state .exit) ≡ kept (now (state .entry)) (takeOverAnswer (now (journal .entry)) (now (key .entry)) width (length (now (state .entry))) .state))
+        × (now (index .exit) ≡ takeOverAnswer (now (journal .entry)) (now (key .entry)) width (length (now (state .entry))) .index) ⌝ }
 {
     if state.len() != STATE {
         *index = 0;
