@@ -1,6 +1,6 @@
 pub mod AgreementInC
-pub mod Answers
 pub mod Below
+pub mod CallAnswers
 pub mod CallsFromC
 pub mod Reading
 pub mod Sizes

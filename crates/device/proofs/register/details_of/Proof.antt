@@ -1,5 +1,5 @@
 -- `register::details_of` meets its contract.
-use Rattle.device.proofs.Answers.{details-made}
+use Rattle.device.proofs.CallAnswers.{details-made}
 use borrow.Author.Needs.{needs}
 use Rattle.device.proofs.register.details_of.Statement.{statement}
 use Rattle.device.proofs.register.details_of.Tie as tie

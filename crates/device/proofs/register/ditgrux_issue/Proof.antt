@@ -1,6 +1,6 @@
 -- `register::ditgrux_issue` meets its contract.
 use Rattle.device.specs.Calls.{slicesWith, callWith}
-use Rattle.device.proofs.Answers.{details-plain, issue-is}
+use Rattle.device.proofs.CallAnswers.{details-plain, issue-is}
 use borrow.Author.Needs.{needs}
 use Rattle.device.proofs.register.ditgrux_issue.Statement.{statement}
 use Rattle.device.proofs.register.ditgrux_issue.Tie as tie

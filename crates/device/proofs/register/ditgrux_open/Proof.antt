@@ -1,6 +1,6 @@
 -- `register::ditgrux_open` meets its contract.
 use Rattle.device.specs.Calls.{slicesWith}
-use Rattle.device.proofs.Answers.{open-none, open-some}
+use Rattle.device.proofs.CallAnswers.{open-none, open-some}
 use borrow.Author.Needs.{needs}
 use Rattle.device.proofs.register.ditgrux_open.Statement.{statement}
 use Rattle.device.proofs.register.ditgrux_open.Tie as tie

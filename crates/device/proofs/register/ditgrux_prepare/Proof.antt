@@ -1,5 +1,5 @@
 -- `register::ditgrux_prepare` meets its contract.
-use Rattle.device.proofs.Answers.{details-plain, prepare-is}
+use Rattle.device.proofs.CallAnswers.{details-plain, prepare-is}
 use borrow.Author.Needs.{needs}
 use Rattle.device.proofs.register.ditgrux_prepare.Statement.{statement}
 use Rattle.device.proofs.register.ditgrux_prepare.Tie as tie

@@ -1,6 +1,6 @@
 -- `register::ditgrux_settings` meets its contract.
 use Rattle.device.proofs.Sizes.{from-typed}
-use Rattle.device.proofs.Answers.{settings-refused, settings-room, settings-done}
+use Rattle.device.proofs.CallAnswers.{settings-refused, settings-room, settings-done}
 use borrow.Author.Needs.{needs}
 use Rattle.device.proofs.register.ditgrux_settings.Statement.{statement}
 use Rattle.device.proofs.register.ditgrux_settings.Tie as tie

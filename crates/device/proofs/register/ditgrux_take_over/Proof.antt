@@ -1,5 +1,5 @@
 -- `register::ditgrux_take_over` meets its contract.
-use Rattle.device.proofs.Answers.{take-none, take-some}
+use Rattle.device.proofs.CallAnswers.{take-none, take-some}
 use borrow.Author.Needs.{needs}
 use Rattle.device.proofs.register.ditgrux_take_over.Statement.{statement}
 use Rattle.device.proofs.register.ditgrux_take_over.Tie as tie

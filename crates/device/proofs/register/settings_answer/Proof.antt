@@ -1,5 +1,5 @@
 -- `register::settings_answer` meets its contract.
-use Rattle.device.proofs.Answers.{answer-stops, answer-no-room, answer-yes}
+use Rattle.device.proofs.CallAnswers.{answer-stops, answer-no-room, answer-yes}
 use borrow.Author.Needs.{needs}
 use Rattle.device.proofs.register.settings_answer.Statement.{statement}
 use Rattle.device.proofs.register.settings_answer.Tie as tie
