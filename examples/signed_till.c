@@ -115,19 +115,37 @@ static int open_register(void)
     return number ? refused("open", number) : 1;
 }
 
+/* The details of a receipt of the day. */
+static struct ditgrux_details details_of(uint32_t number, const struct receipt *r)
+{
+    struct ditgrux_details details = {0};
+    details.number = number;
+    details.year = 2026;
+    details.month = 11;
+    details.day = 15;
+    details.hour = r->hour;
+    details.minute = r->minute;
+    details.kind = r->kind;
+    details.standard = r->cents[0];
+    details.reduced_1 = r->cents[1];
+    details.reduced_2 = r->cents[2];
+    details.zero = r->cents[3];
+    details.special = r->cents[4];
+    return details;
+}
+
 /* Signs one receipt and appends it to the journal. Returns 1, or 0 where a call is refused. */
 static int issue(EVP_PKEY *key, uint32_t number, const struct receipt *r)
 {
-    uint8_t text[DITGRUX_LONGEST_INPUT], signature[DITGRUX_SIGNATURE] = {0};
+    const struct ditgrux_details details = details_of(number, r);
+    uint8_t text[DITGRUX_LONGEST_INPUT], signature[DITGRUX_SIGNATURE];
     size_t length, signed_bytes = 0; /* 0 where the device has failed */
-    uint32_t answer = ditgrux_prepare(state, sizeof state, number, 2026, 11, 15, r->hour, r->minute, 0, r->cents[0], r->cents[1],
-                                      r->cents[2], r->cents[3], r->cents[4], r->kind, text, sizeof text, &length);
+    uint32_t answer = ditgrux_prepare_details(state, sizeof state, &details, text, sizeof text, &length);
     if (answer)
         return refused("prepare", answer);
     if (r->device_works)
         signed_bytes = sign(key, text, length, signature);
-    answer = ditgrux_issue(state, sizeof state, number, 2026, 11, 15, r->hour, r->minute, 0, r->cents[0], r->cents[1], r->cents[2],
-                           r->cents[3], r->cents[4], r->kind, signature, signed_bytes, journal, sizeof journal);
+    answer = ditgrux_issue_details(state, sizeof state, &details, signature, signed_bytes, journal, sizeof journal);
     return answer ? refused("issue", answer) : 1;
 }
 

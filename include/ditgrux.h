@@ -14,7 +14,8 @@
  *         the signature device signs that text with ES256 (64 bytes: r, then s)
  *         ditgrux_issue_details: appends the receipt to the journal
  *         ditgrux_code: writes the machine-readable code that is printed
- *     ditgrux_take_over, whenever it is wanted: checks the whole journal and gives the state back
+ *     ditgrux_take_over, after each start and whenever you like: checks the whole journal and gives the state back
+ *     ditgrux_read_details, to print a receipt again: gives its details and its signature back
  *
  * CSP stands for certification service provider, which issued the certificate of the signature device. It is written as two
  * letters A-Z and a digit, such as AT0. The serial is that of the certificate, in lowercase hexadecimal.
@@ -42,8 +43,8 @@
 #include <stddef.h>
 #include <stdint.h>
 
-/* The version of this interface. The layout of the settings and of the state is version 1: a header with the same number reads
- * the states that you have stored. The archive holds no symbol for it, so keep header and archive together. */
+/* The version of the layouts below: settings, state and details as bytes. It rises when one of them changes, so a header with the
+ * same number reads the states that you have stored. The archive has its own: see ditgrux_version. */
 #define DITGRUX_VERSION 1
 
 #ifdef __cplusplus
@@ -56,6 +57,7 @@ enum {
     DITGRUX_KEY = 32,             /* the AES-256 key of the turnover counter */
     DITGRUX_SETTINGS = 123,       /* the settings of a register, see below */
     DITGRUX_STATE = 155,          /* the state of a register, see below */
+    DITGRUX_DETAILS = 72,         /* the details of a receipt, see below */
     DITGRUX_SIGNATURE = 64,       /* a signature of the device: r and s of ES256, 32 bytes each, not DER */
     DITGRUX_HASH = 32,            /* a SHA-256 value */
     DITGRUX_LONGEST_NAME = 32,    /* a register ID, or a serial */
@@ -79,7 +81,7 @@ enum ditgrux_kind {
 
 enum ditgrux_number {
     DITGRUX_DONE = 0,             /* not refused */
-    DITGRUX_BAD_CSP = 1,          /* CSP is not two letters A-Z and a digit; or the settings are not 123 bytes long */
+    DITGRUX_BAD_CSP = 1,          /* CSP is not two letters A-Z and a digit; ALSO: the settings are not 123 bytes long */
     DITGRUX_BAD_ID = 2,           /* register ID is not 1 to 32 bytes, each from 33 to 126 and none of them '_' */
     DITGRUX_BAD_SERIAL = 3,       /* serial is not 1 to 32 characters of 0-9 a-f */
     DITGRUX_BAD_WIDTH = 4,        /* width is not 5 to 8; ALSO: the key is not 32 bytes long */
@@ -101,7 +103,7 @@ enum ditgrux_number {
     DITGRUX_ENTRY_COUNTER = 20,   /* the sum does not fit the width, or is not the counter that the entry holds encrypted */
     DITGRUX_BYTES_LEFT = 21,      /* there are bytes after the last entry */
     DITGRUX_BAD_FORM = 22,        /* not a compact form; unbase64: not canonical BASE64 */
-    DITGRUX_OUTPUT_SHORT = 23,    /* the output is too short; ALSO: the output for settings is not exactly 123 bytes, even if longer */
+    DITGRUX_OUTPUT_SHORT = 23,    /* the output is too short; ALSO: the output of settings or read is longer than it must be */
     DITGRUX_BAD_CODE = 24         /* not a machine-readable code; fields: or one without a register ID */
 };
 
@@ -141,7 +143,7 @@ enum ditgrux_number {
  *     at += 4;
  *     for (entry = 0; entry < receipts; entry++) {
  *         length = number_at(journal + at, 2);
- *         use(journal + at + 2, length);                      // the compact form; ditgrux_code makes its code
+ *         use(journal + at + 2, length);                      // the compact form: see ditgrux_read_details and ditgrux_code
  *         at += 2 + length;
  *     }
  *                                                             // now `at` is the length of the journal
@@ -181,6 +183,33 @@ enum ditgrux_number {
  * of the journal, and not its whole buffer. The length of the journal is a number of the state alone, so store it beside the
  * journal as well. (If it is lost, too, the walk above finds it, as long as nothing in the journal is damaged.)
  */
+
+/* ---- the details of a receipt, as bytes
+ *
+ * Numbers are big-endian:
+ *
+ *     at  bytes
+ *      0      4  receipt number
+ *      4      4  year
+ *      8      4  month
+ *     12      4  day
+ *     16      4  hour
+ *     20      4  minute
+ *     24      4  second
+ *     28      4  kind: 0, 1 or 2 (enum ditgrux_kind)
+ *     32      8  amount at the standard rate, in cents, two's complement
+ *     40      8  amount at reduced rate 1
+ *     48      8  amount at reduced rate 2
+ *     56      8  amount at rate zero
+ *     64      8  amount at the special rate
+ *
+ * Different details have different bytes.
+ */
+
+/* ---- version */
+
+/* Returns the DITGRUX_VERSION of the archive. If it is not the header's, do not go on: the two belong to different versions. */
+uint32_t ditgrux_version(void);
 
 /* ---- settings */
 
@@ -286,6 +315,27 @@ uint32_t ditgrux_issue(uint8_t *state, size_t state_length, uint32_t number, uin
 uint32_t ditgrux_take_over(const uint8_t *journal, size_t journal_length, const uint8_t *key, size_t key_length, size_t width,
                            uint8_t *state, size_t state_length, uint32_t *index);
 
+/* Reads a receipt back: gives the details and the signature of one compact form. You will want ditgrux_read_details below, which
+ * gives the details by name.
+ *
+ *     settings, settings_length   the settings of the register, 123 bytes; the first 123 bytes of its state are the same
+ *     form, form_length           the compact form, without the two bytes of its length in the journal
+ *     details, details_length     output: exactly 72 bytes
+ *     signature, signature_size   output: exactly 64 bytes
+ *     length                      output: the length of the signature: 64, or 0 if the device had failed; then `signature`, which
+ *                                 must still be 64 bytes long, is unchanged
+ *
+ * What it gives is what ditgrux_issue was given. It asks of the form what ditgrux_take_over asks of an entry by itself: that it is
+ * spelled exactly as a receipt of this register, with a counter of the settings' width. (A cancellation or a training receipt shows
+ * no counter and is read under any width.) It looks neither at the chain nor at the counter, does not use the key, and does not
+ * verify the signature.
+ *
+ * Returns DITGRUX_DONE, DITGRUX_BAD_CSP (also if settings_length is not 123), DITGRUX_BAD_ID, DITGRUX_BAD_SERIAL, DITGRUX_BAD_WIDTH,
+ * DITGRUX_ENTRY_MISSPELLED, or DITGRUX_OUTPUT_SHORT (details_length is not 72, or signature_size is not 64, be it less or more).
+ * Refused: `details` and `signature` are unchanged and *length is 0. */
+uint32_t ditgrux_read(const uint8_t *settings, size_t settings_length, const uint8_t *form, size_t form_length, uint8_t *details,
+                      size_t details_length, uint8_t *signature, size_t signature_size, size_t *length);
+
 /* ---- the machine-readable code */
 
 /* Writes the machine-readable code of a compact form. DITGRUX_LONGEST_CODE bytes of output are always enough. It asks for the frame
@@ -325,8 +375,9 @@ uint32_t ditgrux_unbase64(uint32_t url, const uint8_t *text, size_t text_length,
 
 /* ---- the details of a receipt by name
  *
- * What follows is plain C in this header and not in the archive: it is tested (tests/header.c) and not proved. Set the struct to
- * zeros first, then set what the receipt has, and pass the same struct to both wrappers. */
+ * What follows is plain C in this header and not in the archive: it is tested (tests/header.c) and not proved. To issue a receipt, set
+ * the struct to zeros first, then set what the receipt has, and pass the same struct to ditgrux_prepare_details and
+ * ditgrux_issue_details. */
 
 struct ditgrux_details {
     uint32_t number;                                /* receipt number, above the last one */
@@ -354,6 +405,51 @@ static inline uint32_t ditgrux_issue_details(uint8_t *state, size_t state_length
                          details->minute, details->second, details->standard, details->reduced_1, details->reduced_2, details->zero,
                          details->special, details->kind, signature_length != 0 ? signature : &none, signature_length, journal,
                          journal_size);
+}
+
+/* The number of four bytes, and the amount of eight, in the details as bytes. */
+static inline uint32_t ditgrux_number_in(const uint8_t *bytes)
+{
+    return (uint32_t)bytes[0] << 24 | (uint32_t)bytes[1] << 16 | (uint32_t)bytes[2] << 8 | (uint32_t)bytes[3];
+}
+
+static inline int64_t ditgrux_amount_in(const uint8_t *bytes)
+{
+    const uint64_t bits = (uint64_t)ditgrux_number_in(bytes) << 32 | ditgrux_number_in(bytes + 4);
+    return bits >> 63 ? -(int64_t)~bits - 1 : (int64_t)bits;
+}
+
+/* The details that 72 bytes spell. */
+static inline struct ditgrux_details ditgrux_details_in(const uint8_t *bytes)
+{
+    struct ditgrux_details details;
+    details.number = ditgrux_number_in(bytes);
+    details.year = ditgrux_number_in(bytes + 4);
+    details.month = ditgrux_number_in(bytes + 8);
+    details.day = ditgrux_number_in(bytes + 12);
+    details.hour = ditgrux_number_in(bytes + 16);
+    details.minute = ditgrux_number_in(bytes + 20);
+    details.second = ditgrux_number_in(bytes + 24);
+    details.kind = ditgrux_number_in(bytes + 28);
+    details.standard = ditgrux_amount_in(bytes + 32);
+    details.reduced_1 = ditgrux_amount_in(bytes + 40);
+    details.reduced_2 = ditgrux_amount_in(bytes + 48);
+    details.zero = ditgrux_amount_in(bytes + 56);
+    details.special = ditgrux_amount_in(bytes + 64);
+    return details;
+}
+
+/* ditgrux_read with the details by name. Same numbers. `signature` points to DITGRUX_SIGNATURE bytes. Refused: *details is unchanged,
+ * too. */
+static inline uint32_t ditgrux_read_details(const uint8_t *settings, size_t settings_length, const uint8_t *form, size_t form_length,
+                                            struct ditgrux_details *details, uint8_t *signature, size_t *length)
+{
+    uint8_t bytes[DITGRUX_DETAILS];
+    const uint32_t refused =
+        ditgrux_read(settings, settings_length, form, form_length, bytes, sizeof bytes, signature, DITGRUX_SIGNATURE, length);
+    if (refused == DITGRUX_DONE)
+        *details = ditgrux_details_in(bytes);
+    return refused;
 }
 
 #ifdef __cplusplus

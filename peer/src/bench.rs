@@ -46,12 +46,12 @@ struct Work {
     settings: [u8; SETTINGS],
     details: Vec<Details>,
     signatures: Vec<[u8; 64]>,
-    /// The journal of these receipts and the state behind it, both made by the peer.
+    /// The journal of these receipts and the state after it, both made by the peer.
     journal: Vec<u8>,
     state: [u8; STATE],
     /// Where in the journal each compact form stands.
     forms: Vec<std::ops::Range<usize>>,
-    /// The state behind the start receipt.
+    /// The state after the start receipt.
     started: [u8; STATE],
     /// A buffer with room for all receipts.
     buffer: Vec<u8>,
@@ -101,7 +101,7 @@ impl Work {
         self.journal.len()
     }
 
-    /// One Prepare for each receipt, all behind the start receipt; the bytes written.
+    /// One Prepare for each receipt, all after the start receipt; the bytes written.
     fn prepare(&mut self, side: &dyn Calls) -> usize {
         let mut output = [0; LONGEST_INPUT];
         let mut bytes = 0;
@@ -114,7 +114,7 @@ impl Work {
         bytes
     }
 
-    /// The state of an opened register: that behind the start receipt without its number and count.
+    /// The state of an opened register: that after the start receipt without its number and count.
     fn before_the_start(&self) -> [u8; STATE] {
         let mut state = self.started;
         state[131..139].fill(0);
@@ -172,7 +172,7 @@ fn same_answers(work: &mut Work) {
 }
 
 /// The time of one pass of each side, the ratio of both, and the bytes of a pass. A turn is as many passes as take 25
-/// milliseconds, both sides one behind the other; of twenty turns the best time and the median ratio count.
+/// milliseconds, both sides one after the other; of twenty turns the best time and the median ratio count.
 fn times(work: &mut Work, call: &str) -> ([Duration; 2], f64, usize) {
     let sides: [&dyn Calls; 2] = [&Library, &Peer];
     let mut best = [Duration::MAX; 2];

@@ -1,7 +1,9 @@
 //! The calls of the C interface as one trait, and the peer's answers to them.
 
-use crate::layout::{SETTINGS, STATE, settings_bytes, settings_of, state_bytes, state_of};
-use crate::receipt::Details;
+use crate::layout::{
+    DETAILS, SETTINGS, SIGNATURE, STATE, VERSION, details_bytes, settings_bytes, settings_of, state_bytes, state_of,
+};
+use crate::receipt::{Details, Receipt};
 use crate::register::State;
 use crate::settings::{Name, Settings, csp_good, id_good, serial_good, width_good};
 use crate::{base64, code, crypto, register};
@@ -30,6 +32,7 @@ pub struct Part {
 
 /// include/ditgrux.h, call by call: slices for pointers and lengths, results for pointers to a number.
 pub trait Calls {
+    fn version(&self) -> u32;
     fn settings(&self, csp: &[u8], id: &[u8], serial: &[u8], width: usize, key: &[u8], settings: &mut [u8]) -> u32;
     fn counter(&self, state: &[u8]) -> i64;
     fn last_number(&self, state: &[u8]) -> u32;
@@ -39,6 +42,7 @@ pub trait Calls {
     fn prepare(&self, state: &[u8], details: &Details, output: &mut [u8]) -> Written;
     fn issue(&self, state: &mut [u8], details: &Details, signature: &[u8], journal: &mut [u8]) -> u32;
     fn take_over(&self, journal: &[u8], key: &[u8], width: usize, state: &mut [u8]) -> TakenOver;
+    fn read(&self, settings: &[u8], form: &[u8], details: &mut [u8], signature: &mut [u8]) -> Written;
     fn code(&self, form: &[u8], output: &mut [u8]) -> Written;
     fn uncode(&self, code: &[u8], output: &mut [u8]) -> Written;
     fn fields(&self, code: &[u8]) -> Part;
@@ -63,7 +67,22 @@ fn put(bytes: &[u8], output: &mut [u8]) -> Result<usize, u32> {
     Ok(bytes.len())
 }
 
+/// A receipt to outputs of exactly 72 and 64 bytes: the length of its signature, or 23.
+fn put_receipt(receipt: &Receipt, details: &mut [u8], signature: &mut [u8]) -> Result<usize, u32> {
+    if details.len() != DETAILS || signature.len() != SIGNATURE {
+        return Err(23);
+    }
+    details.copy_from_slice(&details_bytes(&receipt.details()));
+    let Some(given) = receipt.signature else { return Ok(0) };
+    signature.copy_from_slice(&given);
+    Ok(given.len())
+}
+
 impl Calls for Peer {
+    fn version(&self) -> u32 {
+        VERSION
+    }
+
     fn settings(&self, csp: &[u8], id: &[u8], serial: &[u8], width: usize, key: &[u8], settings: &mut [u8]) -> u32 {
         if !csp_good(csp) {
             return 1;
@@ -146,6 +165,11 @@ impl Calls for Peer {
         };
         state.copy_from_slice(&state_bytes(&held));
         taken
+    }
+
+    fn read(&self, settings: &[u8], form: &[u8], details: &mut [u8], signature: &mut [u8]) -> Written {
+        let receipt = register::read(&settings_of(settings), form);
+        written(receipt.and_then(|receipt| put_receipt(&receipt, details, signature)))
     }
 
     fn code(&self, form: &[u8], output: &mut [u8]) -> Written {

@@ -1,5 +1,5 @@
 //! One call by the library and by the peer on the same bytes, and everything compared: the answer, and every buffer with
-//! a canary before and behind it.
+//! a canary before and after it.
 
 use std::fmt::Debug;
 
@@ -8,13 +8,15 @@ use crate::device::Library;
 use crate::receipt::Details;
 
 /// The calls in the order of the table, with the numbers that each can return.
-pub const CALLS: [(&str, &[u32]); 12] = [
+pub const CALLS: [(&str, &[u32]); 14] = [
+    ("version", &[0]),
     ("settings", &[0, 1, 2, 3, 4, 23]),
     ("figures", &[0]),
     ("open", &[0, 1, 2, 3, 4, 5, 6]),
     ("prepare", &[0, 6, 7, 8, 9, 10, 11, 13]),
     ("issue", &[0, 6, 7, 8, 9, 10, 11, 12, 13]),
     ("take_over", &[0, 4, 6, 14, 15, 16, 17, 18, 19, 20, 21]),
+    ("read", &[0, 1, 2, 3, 4, 16, 23]),
     ("code", &[0, 22, 23]),
     ("uncode", &[0, 23, 24]),
     ("fields", &[0, 24]),
@@ -130,6 +132,11 @@ impl Compare {
         Err(Difference { text })
     }
 
+    pub fn version(&mut self) -> Compared<()> {
+        self.run("version", &format_args!(""), [], None, |side, []| side.version(), |_| 0)?;
+        Ok(())
+    }
+
     /// Settings; `output` is what lies there before.
     pub fn settings(
         &mut self,
@@ -230,6 +237,29 @@ impl Compare {
         )?;
         state.copy_from_slice(after[2].get());
         Ok(taken)
+    }
+
+    /// Read; `details` and `signature` are what lies there before.
+    pub fn read(
+        &mut self,
+        settings: &[u8],
+        form: &[u8],
+        details: &mut [u8],
+        signature: &mut [u8],
+    ) -> Compared<Written> {
+        let (written, after) = self.run(
+            "read",
+            &format_args!(""),
+            [("settings", settings), ("form", form), ("details", details), ("signature", signature)],
+            None,
+            |side, [settings, form, details, signature]| {
+                side.read(settings.get(), form.get(), details.get_mut(), signature.get_mut())
+            },
+            |written| written.number,
+        )?;
+        details.copy_from_slice(after[2].get());
+        signature.copy_from_slice(after[3].get());
+        Ok(written)
     }
 
     pub fn code(&mut self, form: &[u8], output: &mut [u8]) -> Compared<Written> {

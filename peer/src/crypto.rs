@@ -36,7 +36,7 @@ unsafe extern "C" {
     fn AES_encrypt(input: *const c_uchar, output: *mut c_uchar, schedule: *const AesKey);
 }
 
-/// SHA-256 of the parts, one behind the other.
+/// SHA-256 of the parts, one after the other.
 pub fn sha256_of(parts: &[&[u8]]) -> [u8; 32] {
     let mut context = MaybeUninit::<Sha256Context>::uninit();
     let mut digest = [0; 32];

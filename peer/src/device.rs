@@ -9,6 +9,7 @@ const UNWRITTEN_LENGTH: usize = 0xa5a5_a5a5_a5a5_a5a5;
 
 #[rustfmt::skip]
 unsafe extern "C" {
+    safe fn ditgrux_version() -> u32;
     fn ditgrux_settings(csp: *const u8, csp_length: usize, id: *const u8, id_length: usize, serial: *const u8,
         serial_length: usize, width: usize, key: *const u8, key_length: usize, settings: *mut u8,
         settings_length: usize) -> u32;
@@ -26,6 +27,8 @@ unsafe extern "C" {
         signature: *const u8, signature_length: usize, journal: *mut u8, journal_length: usize) -> u32;
     fn ditgrux_take_over(journal: *const u8, journal_length: usize, key: *const u8, key_length: usize, width: usize,
         state: *mut u8, state_length: usize, index: *mut u32) -> u32;
+    fn ditgrux_read(settings: *const u8, settings_length: usize, form: *const u8, form_length: usize, details: *mut u8,
+        details_length: usize, signature: *mut u8, signature_size: usize, length: *mut usize) -> u32;
     fn ditgrux_code(form: *const u8, form_length: usize, output: *mut u8, output_length: usize,
         length: *mut usize) -> u32;
     fn ditgrux_uncode(code: *const u8, code_length: usize, output: *mut u8, output_length: usize,
@@ -44,6 +47,10 @@ pub struct Library;
 // SAFETY of every call below: each pointer is that of a slice with the length beside it, or of a local number; no slice
 // that is written overlaps another, as it is borrowed mutably; a slice of length 0 has a pointer that is not null.
 impl Calls for Library {
+    fn version(&self) -> u32 {
+        ditgrux_version()
+    }
+
     fn settings(&self, csp: &[u8], id: &[u8], serial: &[u8], width: usize, key: &[u8], settings: &mut [u8]) -> u32 {
         unsafe {
             ditgrux_settings(
@@ -161,6 +168,24 @@ impl Calls for Library {
             )
         };
         TakenOver { number, index }
+    }
+
+    fn read(&self, settings: &[u8], form: &[u8], details: &mut [u8], signature: &mut [u8]) -> Written {
+        let mut length = UNWRITTEN_LENGTH;
+        let number = unsafe {
+            ditgrux_read(
+                settings.as_ptr(),
+                settings.len(),
+                form.as_ptr(),
+                form.len(),
+                details.as_mut_ptr(),
+                details.len(),
+                signature.as_mut_ptr(),
+                signature.len(),
+                &mut length,
+            )
+        };
+        Written { number, length }
     }
 
     fn code(&self, form: &[u8], output: &mut [u8]) -> Written {

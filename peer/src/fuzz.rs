@@ -5,7 +5,7 @@ use std::sync::OnceLock;
 
 use crate::calls::{Calls, Peer};
 use crate::compare::{Compare, Compared};
-use crate::layout::{SETTINGS, STATE};
+use crate::layout::{DETAILS, SETTINGS, SIGNATURE, STATE};
 use crate::model::Journal;
 use crate::receipt::{Date, Details};
 
@@ -15,13 +15,14 @@ const WIDTH: usize = 5;
 /// Does one input.
 pub fn one_input(compare: &mut Compare, input: &[u8]) -> Compared<()> {
     let Some((choice, rest)) = input.split_first() else { return Ok(()) };
-    match choice % 6 {
+    match choice % 7 {
         0 => take_over(compare, rest),
         1 => edited_journal(compare, rest),
         2 => code(compare, rest),
         3 => uncode(compare, rest),
         4 => unbase64(compare, rest),
-        _ => issue(compare, rest),
+        5 => issue(compare, rest),
+        _ => read(compare, rest),
     }
 }
 
@@ -34,16 +35,16 @@ fn take_over(compare: &mut Compare, input: &[u8]) -> Compared<()> {
 }
 
 /// Edits of a valid journal: three bytes each (entry, part, length) and the new bytes of that part. Then the chain, or
-/// counters and chain, are made right behind the first edit, and the journal is taken over.
+/// counters and chain, are made right after the first edit, and the journal is taken over. Each entry is read, too.
 fn edited_journal(compare: &mut Compare, input: &[u8]) -> Compared<()> {
     let Some((repair, mut rest)) = input.split_first() else { return Ok(()) };
     let mut journal = valid_journal().clone();
     let entries = journal.entries.len();
     let mut first = entries;
-    while let [entry, part, length, behind @ ..] = rest {
+    while let [entry, part, length, after @ ..] = rest {
         let place = *entry as usize % entries;
-        let (text, behind) = behind.split_at(behind.len().min(*length as usize));
-        rest = behind;
+        let (text, after) = after.split_at(after.len().min(*length as usize));
+        rest = after;
         first = first.min(place);
         let entry = &mut journal.entries[place];
         match *part {
@@ -79,16 +80,29 @@ fn edited_journal(compare: &mut Compare, input: &[u8]) -> Compared<()> {
         }
     }
     compare.take_over(&journal.bytes(), &KEY, WIDTH, &mut [0xaa; STATE])?;
+    read_entries(compare, &journal)
+}
+
+fn read_entries(compare: &mut Compare, journal: &Journal) -> Compared<()> {
+    let settings = valid_settings();
+    for entry in &journal.entries {
+        compare.read(&settings, &entry.form(), &mut [0xaa; DETAILS], &mut [0xaa; SIGNATURE])?;
+    }
     Ok(())
+}
+
+fn valid_settings() -> [u8; SETTINGS] {
+    let mut settings = [0; SETTINGS];
+    assert_eq!(Peer.settings(b"AT0", b"K-1", b"2a", WIDTH, &KEY, &mut settings), 0);
+    settings
 }
 
 /// Four receipts: the start receipt, a sale with the device failed, a cancellation and training.
 fn valid_journal() -> &'static Journal {
     static JOURNAL: OnceLock<Journal> = OnceLock::new();
     JOURNAL.get_or_init(|| {
-        let (mut settings, mut buffer, mut state) = ([0; SETTINGS], [0; 2000], [0; STATE]);
-        assert_eq!(Peer.settings(b"AT0", b"K-1", b"2a", WIDTH, &KEY, &mut settings), 0);
-        assert_eq!(Peer.open(&settings, &mut buffer, &mut state), 0);
+        let (mut buffer, mut state) = ([0; 2000], [0; STATE]);
+        assert_eq!(Peer.open(&valid_settings(), &mut buffer, &mut state), 0);
         let date = Date { year: 2016, month: 2, day: 29, hour: 8, minute: 5, second: 0 };
         for (number, amounts, kind) in
             [(1, [0; 5], 0), (2, [1050, 0, -5, 78, 0], 0), (10, [-500, 0, 0, 0, 0], 1), (11, [5, 0, 0, 0, 0], 2)]
@@ -127,7 +141,7 @@ fn unbase64(compare: &mut Compare, input: &[u8]) -> Compared<()> {
     Ok(())
 }
 
-/// 155 bytes of state, the room behind the journal in two bytes, number, date, kind and amounts, and the signature.
+/// 155 bytes of state, the room after the journal in two bytes, number, date, kind and amounts, and the signature.
 fn issue(compare: &mut Compare, input: &[u8]) -> Compared<()> {
     let Some((state, rest)) = input.split_at_checked(STATE) else { return Ok(()) };
     let Some((figures, signature)) = rest.split_at_checked(2 + 4 + 2 + 5 + 1 + 40) else { return Ok(()) };
@@ -152,5 +166,14 @@ fn issue(compare: &mut Compare, input: &[u8]) -> Compared<()> {
     compare.prepare(&state, &details, &mut [0xaa; 281])?;
     let mut journal = vec![0xaa; number(0, 2) as usize % 1000];
     compare.issue(&mut state, &details, signature, &mut journal)?;
+    Ok(())
+}
+
+/// Three lengths in a byte each, of the details, the signature and the settings; then the settings and a compact form.
+fn read(compare: &mut Compare, input: &[u8]) -> Compared<()> {
+    let [details, signature, length, rest @ ..] = input else { return Ok(()) };
+    let (settings, form) = rest.split_at(rest.len().min(*length as usize));
+    compare.read(settings, form, &mut vec![0xaa; *details as usize], &mut vec![0xaa; *signature as usize])?;
+    compare.read(settings, form, &mut [0xaa; DETAILS], &mut [0xaa; SIGNATURE])?;
     Ok(())
 }

@@ -91,8 +91,8 @@ impl Journal {
     pub fn of(journal: &[u8]) -> Journal {
         let mut rest = journal;
         let mut take = |length: usize| {
-            let (taken, behind) = rest.split_at(length);
-            rest = behind;
+            let (taken, after) = rest.split_at(length);
+            rest = after;
             taken.to_vec()
         };
         let number = |bytes: Vec<u8>| bytes.iter().fold(0usize, |number, &byte| number << 8 | byte as usize);

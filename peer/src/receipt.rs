@@ -35,6 +35,15 @@ impl Kind {
             _ => None,
         }
     }
+
+    /// The number of the interface for this kind.
+    pub fn number(self) -> u32 {
+        match self {
+            Kind::Standard => 0,
+            Kind::Cancellation => 1,
+            Kind::Training => 2,
+        }
+    }
 }
 
 #[derive(Clone, Copy, Debug, Default, PartialEq, Eq)]
@@ -281,6 +290,15 @@ pub struct Receipt {
     /// The counter field's N bytes, of a standard receipt.
     pub encrypted: [u8; 8],
     pub chain: [u8; 8],
+    /// None where the device had failed.
+    pub signature: Option<[u8; 64]>,
+}
+
+impl Receipt {
+    /// The details as Issue was given them.
+    pub fn details(&self) -> Details {
+        Details { number: self.number, date: self.date, amounts: self.amounts, kind: self.kind.number() }
+    }
 }
 
 /// A number of 1 to 4,294,967,295 without leading zeros.
@@ -385,5 +403,7 @@ pub fn read_entry(settings: &Settings, form: &[u8]) -> Option<Receipt> {
     if fields.next().is_some() {
         return None;
     }
-    Some(Receipt { number, date, amounts, kind, encrypted, chain })
+    // the failure text has 34 bytes
+    let signature = parts.signature().try_into().ok();
+    Some(Receipt { number, date, amounts, kind, encrypted, chain, signature })
 }

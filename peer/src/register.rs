@@ -1,10 +1,10 @@
-//! A register: open, prepare, issue and take over. The questions stand in the paper's order; `Err` holds the number of
-//! the first one that is answered by "no".
+//! A register: open, prepare, issue, take over, and read. The questions stand in the order of the paper, those of read in
+//! that of the C header; `Err` holds the number of the first one that is answered by "no".
 
 use crate::crypto::Aes256;
 use crate::receipt::{
-    Details, FAILURE, Kind, LONGEST_INPUT, amount_good, chain_value, compact_form, counter_after, counter_fits,
-    counter_iv, decrypt_counter, digits, payload, read_entry, signing_input,
+    Details, FAILURE, Kind, LONGEST_INPUT, Receipt, amount_good, chain_value, compact_form, counter_after,
+    counter_fits, counter_iv, decrypt_counter, digits, payload, read_entry, signing_input,
 };
 use crate::settings::{Name, Number, Settings, csp_good, id_good, serial_good, width_good};
 
@@ -166,7 +166,7 @@ impl<'a> Reader<'a> {
     }
 }
 
-/// Checks a whole journal and returns the state behind it.
+/// Checks a whole journal and returns the state after it.
 pub fn take_over(journal: &[u8], key: &[u8; 32], width: u64) -> Result<State, Refused> {
     if !width_good(width) {
         return Err(Refused { number: 4, index: 0 });
@@ -211,4 +211,10 @@ pub fn take_over(journal: &[u8], key: &[u8; 32], width: u64) -> Result<State, Re
         return Err(Refused { number: 21, index: count });
     }
     Ok(State { settings, counter, last_number, receipts: count, chain, journal_length: journal.len() as u64 })
+}
+
+/// The receipt that one compact form spells under the settings of a register.
+pub fn read(settings: &Settings, form: &[u8]) -> Result<Receipt, Number> {
+    settings.good()?;
+    read_entry(settings, form).ok_or(16)
 }

@@ -2,12 +2,10 @@
 
 use crate::calls::{Calls, Peer};
 use crate::compare::{Compare, Compared, Difference, hex};
-use crate::layout::{SETTINGS, STATE, settings_bytes, state_bytes, state_of};
+use crate::layout::{DETAILS, SETTINGS, SIGNATURE, STATE, details_of, settings_bytes, state_bytes, state_of};
 use crate::model::{CHAIN, COUNTER, Entry, FIRST_AMOUNT, Journal, NUMBER, padded_text, url_text};
 use crate::random::Random;
-use crate::receipt::{
-    AMOUNT_LIMIT, Details, FAILURE, Kind, LONGEST_COMPACT, LONGEST_INPUT, chain_value, read_compact, read_entry,
-};
+use crate::receipt::{AMOUNT_LIMIT, Details, FAILURE, LONGEST_COMPACT, LONGEST_INPUT, chain_value};
 use crate::register::State;
 use crate::sample;
 use crate::settings::{Name, Settings};
@@ -15,6 +13,7 @@ use crate::settings::{Name, Settings};
 /// Does one round.
 pub fn round(compare: &mut Compare, seed: u64, number: u64) -> Compared<()> {
     let mut round = Round { random: Random::of(seed, number), compare };
+    round.compare.version()?;
     round.primitives()?;
     round.settings()?;
     round.opening()?;
@@ -46,18 +45,38 @@ pub fn round(compare: &mut Compare, seed: u64, number: u64) -> Compared<()> {
     for _ in 0..8 {
         round.free_codes()?;
     }
+    round.read_of_each_kind()?;
+    for _ in 0..24 {
+        round.read_in_any_way(&written)?;
+    }
+    round.student_errors(&written)?;
+    if round.random.once_in(16) {
+        round.read_with_every_change(&written)?;
+        round.read_under_every_change(&written)?;
+    }
     Ok(())
 }
 
-/// A journal that a list of calls wrote, and under what.
+/// What Issue was given: the details, and the signature, which is empty where the device had failed.
+type Given = (Details, Vec<u8>);
+
+/// A journal that a list of calls wrote, under what, and the receipts in it.
 struct Accepted {
     settings: Settings,
     journal: Vec<u8>,
+    receipts: Vec<Given>,
 }
 
 impl Accepted {
     fn width(&self) -> usize {
         self.settings.width as usize
+    }
+
+    /// The compact forms in the journal.
+    fn forms(&self) -> Vec<Vec<u8>> {
+        let places = entry_places(&self.journal, self.settings.head_length());
+        let ends = places.iter().skip(1).copied().chain([self.journal.len()]);
+        places.iter().zip(ends).map(|(&start, end)| self.journal[start + 2..end].to_vec()).collect()
     }
 }
 
@@ -251,23 +270,9 @@ impl Round<'_> {
         let opened = self.compare.open(&settings, &mut journal, &mut state)?;
         self.demand((number, opened) == (0, 0), "good settings are opened", &journal)?;
 
+        let mut receipts = Vec::new();
         for _ in 0..1 + self.random.below(14) {
-            let held = state_of(&state);
-            let mut details = sample::details(&self.random, &held);
-            for _ in 0..self.random.pick(&[0, 0, 0, 1, 1, 2]) {
-                sample::spoil_details(&self.random, &mut details, &held);
-            }
-            let signature = if self.random.once_in(8) {
-                sample::bad_signature(&self.random)
-            } else {
-                sample::signature(&self.random)
-            };
-            self.prepared(&state, &details)?;
-            if self.random.once_in(4) {
-                self.issued_into_room(&state, &details, &signature, &journal)?;
-            }
-            self.compare.issue(&mut state, &details, &signature, &mut journal)?;
-            self.compare.figures(&state)?;
+            receipts.extend(self.next_of_a_list(&mut state, &mut journal)?);
         }
 
         journal.truncate(state_of(&state).journal_length as usize);
@@ -275,9 +280,27 @@ impl Round<'_> {
         let answer = self.compare.take_over(&journal, &given.key, given.width as usize, &mut taken)?;
         self.demand(answer.number == 0, "the journal of a list is accepted", &journal)?;
         self.demand(taken == state, "the state taken over is the one of the list", &journal)?;
-        let accepted = Accepted { settings: given, journal };
+        let accepted = Accepted { settings: given, journal, receipts };
         self.written_again(&accepted)?;
         Ok(accepted)
+    }
+
+    /// One more receipt: what Issue was given, where it is not refused.
+    fn next_of_a_list(&mut self, state: &mut [u8], journal: &mut [u8]) -> Compared<Option<Given>> {
+        let held = state_of(state);
+        let mut details = sample::details(&self.random, &held);
+        for _ in 0..self.random.pick(&[0, 0, 0, 1, 1, 2]) {
+            sample::spoil_details(&self.random, &mut details, &held);
+        }
+        let signature =
+            if self.random.once_in(8) { sample::bad_signature(&self.random) } else { sample::signature(&self.random) };
+        self.prepared(state, &details)?;
+        if self.random.once_in(4) {
+            self.issued_into_room(state, &details, &signature, journal)?;
+        }
+        let number = self.compare.issue(state, &details, &signature, journal)?;
+        self.compare.figures(state)?;
+        Ok((number == 0).then_some((details, signature)))
     }
 
     /// What must hold of both sides together.
@@ -316,30 +339,32 @@ impl Round<'_> {
         Ok(())
     }
 
-    /// Writes an accepted journal again, entry by entry, as demand 3 says.
+    /// Writes an accepted journal again, entry by entry, as demand 3 says: a twin register issues what Read gives of each.
     fn written_again(&mut self, accepted: &Accepted) -> Compared<()> {
+        let settings = settings_bytes(&accepted.settings);
         let mut journal = self.garbage(accepted.journal.len());
         let mut state = [0; STATE];
-        self.compare.open(&settings_bytes(&accepted.settings), &mut journal, &mut state)?;
-        for entry in Journal::of(&accepted.journal).entries {
-            let form = entry.form();
-            let receipt = read_entry(&accepted.settings, &form).expect("accepted");
-            let parts = read_compact(&form).expect("accepted");
-            let signature = if parts.signature() == FAILURE { &[] } else { parts.signature() };
-            let details = Details {
-                number: receipt.number,
-                date: receipt.date,
-                amounts: receipt.amounts,
-                kind: match receipt.kind {
-                    Kind::Standard => 0,
-                    Kind::Cancellation => 1,
-                    Kind::Training => 2,
-                },
-            };
-            let number = self.compare.issue(&mut state, &details, signature, &mut journal)?;
+        self.compare.open(&settings, &mut journal, &mut state)?;
+        let forms = accepted.forms();
+        self.demand(forms.len() == accepted.receipts.len(), "a receipt has one entry", &accepted.journal)?;
+        for (form, given) in forms.iter().zip(&accepted.receipts) {
+            let (details, signature) = self.read_back(&settings, form, given)?;
+            let number = self.compare.issue(&mut state, &details, &signature, &mut journal)?;
             self.demand(number == 0, "a receipt of an accepted journal is issued", &accepted.journal)?;
         }
         self.demand(journal == accepted.journal, "the journal written again is the same", &accepted.journal)
+    }
+
+    /// What Read gives of a receipt, which must be what Issue was given.
+    fn read_back(&mut self, settings: &[u8], form: &[u8], given: &Given) -> Compared<Given> {
+        let mut details: [u8; DETAILS] = self.random.array();
+        let mut signature: [u8; SIGNATURE] = self.random.array();
+        let before = signature;
+        let read = self.compare.read(settings, form, &mut details, &mut signature)?;
+        let receipt = (details_of(&details), signature[..read.length].to_vec());
+        self.demand(read.number == 0 && receipt == *given, "a receipt is read as it was issued", form)?;
+        self.demand(read.length != 0 || signature == before, "a signature that is not there is not written", form)?;
+        Ok(receipt)
     }
 
     // ---- states made by hand
@@ -486,10 +511,10 @@ impl Round<'_> {
                 let place = self.random.below(head);
                 journal[place] = self.random.pick(b"_ \0a0A\x7f\xff");
             }
-            // bytes behind
+            // bytes after the last entry
             2 => {
-                let behind = self.random.pick(&[1, 2, 3, 4, 300]);
-                journal.extend(self.garbage(behind));
+                let after = self.random.pick(&[1, 2, 3, 4, 300]);
+                journal.extend(self.garbage(after));
             }
             // the length of an entry
             3 if journal.len() > head => {
@@ -541,8 +566,8 @@ impl Round<'_> {
         let settings = sample::settings(&self.random);
         let mut journal = vec![0; settings.head_length()];
         settings.write_head(self.random.pick(&[0, 1, 2, u32::MAX]), &mut journal);
-        let behind = self.random.pick(&[0, 1, 2, 3, 300]);
-        journal.extend(self.garbage(behind));
+        let after = self.random.pick(&[0, 1, 2, 3, 300]);
+        journal.extend(self.garbage(after));
         if self.random.once_in(3) {
             journal.truncate(self.random.below(journal.len() + 1));
         }
@@ -914,7 +939,7 @@ impl Round<'_> {
         let bytes = journal.bytes();
         self.take_over(accepted, &bytes)?;
 
-        // 19: a chain field over another text, the entries behind it right
+        // 19: a chain field over another text, the entries after it right
         let mut journal = good.clone();
         let place = self.random.below(3);
         let (payload, id) = (journal.entries[0].payload(), journal.id.clone());
@@ -934,7 +959,7 @@ impl Round<'_> {
         let bytes = journal.bytes();
         self.take_over(accepted, &bytes)?;
 
-        // 20: the counter before the receipt, or another one, the entries behind it right
+        // 20: the counter before the receipt, or another one, the entries after it right
         let mut journal = good.clone();
         let mut before = good.clone();
         before.entries[2].fields[FIRST_AMOUNT..FIRST_AMOUNT + 5].fill(b"0,00".to_vec());
@@ -949,7 +974,7 @@ impl Round<'_> {
         let bytes = journal.bytes();
         self.take_over(accepted, &bytes)?;
 
-        // 16: a thing of the second receipt respelled, all behind it right
+        // 16: a thing of the second receipt respelled, all after it right
         let mut journal = good;
         self.respell_field(&mut journal.entries[1]);
         journal.chain_right(2);
@@ -997,7 +1022,7 @@ impl Round<'_> {
     /// cancellation.
     fn sums_at_the_end(&mut self) -> Compared<()> {
         let settings = Settings { width: 5, ..sample::settings(&self.random) };
-        let accepted = Accepted { settings, journal: Vec::new() };
+        let accepted = Accepted { settings, journal: Vec::new(), receipts: Vec::new() };
         let mut journal = self.built(&accepted, 14);
         let sign = self.random.pick(&[1, -1]);
         let end = sample::width_end(5);
@@ -1051,7 +1076,7 @@ impl Round<'_> {
         self.compare.issue(&mut state, &details, &[], &mut journal)?;
         let held: State = state_of(&state);
         journal.truncate(held.journal_length as usize);
-        let accepted = Accepted { settings, journal };
+        let accepted = Accepted { settings, journal, receipts: Vec::new() };
         let mut taken = vec![0; STATE];
         let answer = self.compare.take_over(&accepted.journal, &settings.key, 6, &mut taken)?;
         self.demand(answer.number == 0 && taken == state, "a long journal is accepted", &accepted.journal)?;
@@ -1147,12 +1172,12 @@ impl Round<'_> {
             self.coded(&text)?;
             return self.uncoded(&text);
         }
-        let behind = self.random.pick(&[0, 1, 2, 5, 9, 190, 191, 192, 193, 1000]);
+        let after = self.random.pick(&[0, 1, 2, 5, 9, 190, 191, 192, 193, 1000]);
         let mut payload = self
             .random
             .pick(&[&b"_R1-"[..], b"_R1-", b"_R1-", b"_R1-", b"_R1_", b"_R2-", b"R1-A", b"_R1", b""])
             .to_vec();
-        for _ in 0..behind {
+        for _ in 0..after {
             payload.push(if self.random.once_in(2) { self.random.pick(b"__A0.") } else { self.random.byte() });
         }
         let signature = match self.random.below(8) {
@@ -1177,6 +1202,168 @@ impl Round<'_> {
         self.coded(&form)?;
         self.uncoded(&code)
     }
+
+    // ---- receipts read back
+
+    /// A receipt of each kind and width, issued and read.
+    fn read_of_each_kind(&mut self) -> Compared<()> {
+        for choice in 0..12 {
+            let (settings, form, given) = self.receipt_made_by_hand(5 + choice / 3, choice as u32 % 3)?;
+            self.read_back(&settings, &form, &given)?;
+        }
+        Ok(())
+    }
+
+    /// A receipt of this width and kind, issued from a state made by hand: the settings, the form and what was given.
+    fn receipt_made_by_hand(&mut self, width: u64, kind: u32) -> Compared<([u8; SETTINGS], Vec<u8>, Given)> {
+        let mut state = sample::sound_state(&self.random, 0);
+        let head = state.settings.head_length();
+        state.settings.width = width;
+        state.counter = 0;
+        state.last_number = state.last_number.clamp(1, u32::MAX - 1);
+        state.receipts = 1;
+        state.journal_length = head as u64;
+        let details = Details { kind, ..sample::details(&self.random, &state) };
+        let signature = sample::signature(&self.random);
+        let mut bytes = state_bytes(&state);
+        let mut journal = self.garbage(head + 2 + LONGEST_COMPACT);
+        let number = self.compare.issue(&mut bytes, &details, &signature, &mut journal)?;
+        self.demand(number == 0, "a sound state issues good details", &journal)?;
+        let form = journal[head + 2..state_of(&bytes).journal_length as usize].to_vec();
+        Ok((settings_bytes(&state.settings), form, (details, signature)))
+    }
+
+    /// A form of the journal, or another text, under the right settings or others, into outputs of some lengths.
+    fn read_in_any_way(&mut self, accepted: &Accepted) -> Compared<()> {
+        let mut form = self.form_of(accepted);
+        if self.random.once_in(2) {
+            form = self.other_form(&form);
+        }
+        let mut settings = settings_bytes(&accepted.settings).to_vec();
+        if self.random.once_in(2) {
+            settings = self.other_settings(&accepted.settings);
+        }
+        let (mut details, mut signature) = (self.garbage(DETAILS), self.garbage(SIGNATURE));
+        if self.random.once_in(2) {
+            details.resize(self.random.pick(&[71, 72, 72, 73, 0, 64, 144]), 0x5a);
+            signature.resize(self.random.pick(&[63, 64, 64, 65, 0, 34, 72, 128]), 0x5a);
+        }
+        self.compare.read(&settings, &form, &mut details, &mut signature)?;
+        Ok(())
+    }
+
+    /// One of the journal's forms; where it has none, one made of parts.
+    fn form_of(&self, accepted: &Accepted) -> Vec<u8> {
+        let mut forms = accepted.forms();
+        if forms.is_empty() {
+            forms.push(self.built(accepted, 1).entries[0].form());
+        }
+        forms.swap_remove(self.random.below(forms.len()))
+    }
+
+    /// A well spelled form damaged, respelled or saying something else, or another text.
+    fn other_form(&self, form: &[u8]) -> Vec<u8> {
+        let mut other = form.to_vec();
+        let place = self.random.below(form.len());
+        match self.random.below(10) {
+            0 => other[place] = self.random.byte(),
+            1 => other.truncate(place),
+            2 => other.extend(self.garbage(1 + place % 4)),
+            // with its length in the journal
+            3 => other = [&(form.len() as u16).to_be_bytes()[..], form].concat(),
+            4 => other = self.garbage(place),
+            5 => other.clear(),
+            6 => self.damage_bytes(&mut other),
+            _ => other = self.other_entry(form),
+        }
+        other
+    }
+
+    /// A well spelled form with one of its parts changed.
+    fn other_entry(&self, form: &[u8]) -> Vec<u8> {
+        let mut entry = Entry::of(form);
+        match self.random.below(4) {
+            0 => self.respell_compact(&mut entry),
+            1 => self.say_otherwise(&mut entry),
+            _ => self.respell_field(&mut entry),
+        }
+        entry.form()
+    }
+
+    /// Settings of another register, of the same one with another key, damaged ones, or ones of another length.
+    fn other_settings(&self, settings: &Settings) -> Vec<u8> {
+        let mut other = *settings;
+        match self.random.below(10) {
+            0 => other.width = 5 + (settings.width - 4 + self.random.below(3) as u64) % 4,
+            1 => self.other_letter(&mut other.id, *b"AB"),
+            2 => self.other_letter(&mut other.serial, *b"01"),
+            3 => other.id = self.other_end(settings.id()),
+            4 => other.serial = self.other_end(settings.serial()),
+            5 => other.csp = sample::csp(&self.random),
+            6 => other.key = sample::key(&self.random),
+            7 => sample::spoil_settings(&self.random, &mut other),
+            8 => return self.other_length(&settings_bytes(settings)),
+            // the whole state in place of its first 123 bytes
+            _ => return state_bytes(&State { settings: *settings, ..State::default() }).to_vec(),
+        }
+        settings_bytes(&other).to_vec()
+    }
+
+    /// Another letter at one place of a name.
+    fn other_letter(&self, name: &mut Name, [letter, instead]: [u8; 2]) {
+        let byte = &mut name.bytes[self.random.below(name.length as usize)];
+        *byte = if *byte == letter { instead } else { letter };
+    }
+
+    /// A name with a letter less, or one more.
+    fn other_end(&self, name: &[u8]) -> Name {
+        let mut other = name.to_vec();
+        other.push(b'0');
+        if other.len() > 32 || self.random.once_in(2) {
+            other.truncate(name.len() - 1);
+        }
+        Name::of(&other)
+    }
+
+    /// The errors that the paper names in the spelling of a receipt: taken over, and read.
+    fn student_errors(&mut self, accepted: &Accepted) -> Compared<()> {
+        let settings = settings_bytes(&accepted.settings);
+        for error in 0..5 {
+            let mut journal = self.built(accepted, 2);
+            let good = journal.entries[1].form();
+            misspell(&mut journal.entries[1], error);
+            let (bytes, form) = (journal.bytes(), journal.entries[1].form());
+            self.take_over(accepted, &bytes)?;
+            let read = self.compare.read(&settings, &form, &mut [0x5a; DETAILS], &mut [0xa5; SIGNATURE])?;
+            // six bytes of counter have no padding to leave out
+            self.demand(read.number == 16 || form == good, "a student error is refused", &form)?;
+        }
+        Ok(())
+    }
+
+    /// A form of the journal cut at every place, and with a bit changed in every byte.
+    fn read_with_every_change(&mut self, accepted: &Accepted) -> Compared<()> {
+        let settings = settings_bytes(&accepted.settings);
+        let form = self.form_of(accepted);
+        for place in 0..form.len() {
+            let mut other = form.clone();
+            other[place] ^= 1 << self.random.below(8);
+            self.compare.read(&settings, &other, &mut [0x5a; DETAILS], &mut [0xa5; SIGNATURE])?;
+            self.compare.read(&settings, &form[..place], &mut [0x5a; DETAILS], &mut [0xa5; SIGNATURE])?;
+        }
+        Ok(())
+    }
+
+    /// A form of the journal under settings with any one bit changed.
+    fn read_under_every_change(&mut self, accepted: &Accepted) -> Compared<()> {
+        let form = self.form_of(accepted);
+        for bit in 0..8 * SETTINGS {
+            let mut settings = settings_bytes(&accepted.settings);
+            settings[bit / 8] ^= 1 << (bit % 8);
+            self.compare.read(&settings, &form, &mut [0x5a; DETAILS], &mut [0xa5; SIGNATURE])?;
+        }
+        Ok(())
+    }
 }
 
 /// Where the entries of a valid journal start.
@@ -1188,6 +1375,22 @@ fn entry_places(journal: &[u8], head: usize) -> Vec<usize> {
         place += 2 + u16::from_be_bytes([journal[place], journal[place + 1]]) as usize;
     }
     places
+}
+
+/// Makes one of the five student errors in the spelling of a receipt.
+fn misspell(entry: &mut Entry, error: usize) {
+    match error {
+        0 => entry.fields[3][10] = b'D',
+        1 => entry.signature = b"safety device failure".to_vec(),
+        2 => entry.fields[COUNTER].retain(|&byte| byte != b'='),
+        3 => entry.fields[CHAIN].retain(|&byte| byte != b'='),
+        // the last letter of a signature has four unused bits
+        _ => {
+            let mut form = entry.form();
+            *form.last_mut().expect("letters") += 1;
+            entry.raw = Some(form);
+        }
+    }
 }
 
 /// An amount as the paper spells it.

@@ -73,7 +73,7 @@ pub fn no_serial_byte(random: &Random) -> u8 {
     random.pick(b"/:@AFG`g _\0\x7f\xb0\xff")
 }
 
-/// Makes one name bad: a foreign byte, a wrong length, or a byte behind the end.
+/// Makes one name bad: a foreign byte, a wrong length, or a byte after the end.
 fn spoil_name(random: &Random, name: &mut Name, foreign: u8) {
     let length = name.length as usize;
     match random.below(6) {
@@ -118,7 +118,7 @@ pub fn width_end(width: u64) -> i64 {
     i64::MAX >> (64 - 8 * width)
 }
 
-/// A sound state that mostly no list reaches; its journal length is at most `longest` behind the head.
+/// A sound state that mostly no list reaches; its journal length is at most `longest` bytes after the head.
 pub fn sound_state(random: &Random, longest: usize) -> State {
     let settings = settings(random);
     let end = width_end(settings.width);
@@ -146,8 +146,8 @@ pub fn sound_state(random: &Random, longest: usize) -> State {
         2 => last_number.min(1),
         _ => random.between(0, last_number as i64) as u32,
     };
-    let behind = random.pick(&[0, 1, random.below(longest + 1)]);
-    let journal_length = (settings.head_length() + behind) as u64;
+    let after = random.pick(&[0, 1, random.below(longest + 1)]);
+    let journal_length = (settings.head_length() + after) as u64;
     State { settings, counter, last_number, receipts, chain: random.array(), journal_length }
 }
 

@@ -37,11 +37,11 @@ impl Name {
         name
     }
 
-    /// The bytes up to the end; None where the length is over 32 or a byte behind the end isn't zero.
+    /// The bytes up to the end; None where the length is over 32 or a byte after the end isn't zero.
     pub fn text(&self) -> Option<&[u8]> {
         let length = usize::try_from(self.length).ok()?;
-        let (text, behind) = self.bytes.split_at_checked(length)?;
-        behind.iter().all(|&byte| byte == 0).then_some(text)
+        let (text, after) = self.bytes.split_at_checked(length)?;
+        after.iter().all(|&byte| byte == 0).then_some(text)
     }
 }
 
@@ -92,11 +92,11 @@ impl Settings {
     pub fn write_head(&self, receipts: u32, head: &mut [u8]) {
         let mut rest = head;
         for section in [&self.csp[..], self.id(), self.serial()] {
-            let (count, behind) = rest.split_at_mut(4);
-            let (bytes, behind) = behind.split_at_mut(section.len());
+            let (count, after) = rest.split_at_mut(4);
+            let (bytes, after) = after.split_at_mut(section.len());
             count.copy_from_slice(&(section.len() as u32).to_be_bytes());
             bytes.copy_from_slice(section);
-            rest = behind;
+            rest = after;
         }
         rest.copy_from_slice(&receipts.to_be_bytes());
     }

@@ -63,3 +63,43 @@ fn takeover() {
 fn paper() {
     vectors::paper(&Library);
 }
+
+#[test]
+fn version() {
+    vectors::version(&Library);
+}
+
+#[test]
+fn read_by_hand() {
+    vectors::read_by_hand(&Library);
+}
+
+#[test]
+fn receipts_read() {
+    vectors::receipts_read(&Library);
+}
+
+#[test]
+fn read_settings_refused() {
+    vectors::read_settings_refused(&Library);
+}
+
+#[test]
+fn read_fields_refused() {
+    vectors::read_fields_refused(&Library);
+}
+
+#[test]
+fn read_forms_refused() {
+    vectors::read_forms_refused(&Library);
+}
+
+#[test]
+fn read_registers_refused() {
+    vectors::read_registers_refused(&Library);
+}
+
+#[test]
+fn read_outputs_refused() {
+    vectors::read_outputs_refused(&Library);
+}

@@ -5,7 +5,7 @@ mod vectors;
 use peer::base64;
 use peer::calls::Peer;
 use peer::crypto::Aes256;
-use peer::layout::{STATE, state_bytes, state_of};
+use peer::layout::{DETAILS, STATE, details_bytes, details_of, state_bytes, state_of};
 use peer::receipt::{
     Kind, counter_fits, counter_iv, decrypt_counter, encrypt_counter, push_amount, read_amount, read_date, read_entry,
     read_number,
@@ -13,7 +13,7 @@ use peer::receipt::{
 use peer::register::State;
 use peer::settings::{Name, Settings};
 use peer::text::Text;
-use vectors::{amounts_of, date_of, kind_of, rows, unhex};
+use vectors::{amounts_of, cancellation, date_of, kind_of, rows, unhex};
 
 #[test]
 fn sha256() {
@@ -73,6 +73,46 @@ fn takeover() {
 #[test]
 fn paper() {
     vectors::paper(&Peer);
+}
+
+#[test]
+fn version() {
+    vectors::version(&Peer);
+}
+
+#[test]
+fn read_by_hand() {
+    vectors::read_by_hand(&Peer);
+}
+
+#[test]
+fn receipts_read() {
+    vectors::receipts_read(&Peer);
+}
+
+#[test]
+fn read_settings_refused() {
+    vectors::read_settings_refused(&Peer);
+}
+
+#[test]
+fn read_fields_refused() {
+    vectors::read_fields_refused(&Peer);
+}
+
+#[test]
+fn read_forms_refused() {
+    vectors::read_forms_refused(&Peer);
+}
+
+#[test]
+fn read_registers_refused() {
+    vectors::read_registers_refused(&Peer);
+}
+
+#[test]
+fn read_outputs_refused() {
+    vectors::read_outputs_refused(&Peer);
 }
 
 fn block(text: &str) -> [u8; 16] {
@@ -258,4 +298,16 @@ fn states_as_bytes() {
         assert_eq!(state_of(&vec![0xff; length]), State::default());
     }
     assert_eq!(state_bytes(&State::default()), [0; STATE]);
+}
+
+/// Different details have different bytes, and the worked example has those of the header.
+#[test]
+fn details_as_bytes() {
+    let (details, example) = cancellation();
+    assert_eq!(details_bytes(&details).to_vec(), example);
+    let mut bytes = [0u8; DETAILS];
+    for place in 0..DETAILS {
+        bytes[place] = 0xff ^ place as u8;
+        assert_eq!(details_bytes(&details_of(&bytes)), bytes);
+    }
 }

@@ -1,33 +1,25 @@
 -- Demand 3 of the C library: what the journal proves of its registers holds of the bytes of a C program, both ways.
-use Prim.Native.Nat.{ℕ, zero, suc, _+_, _^_, _≤_, _<_}
+use Prim.Native.Nat.{ℕ, zero, _+_, _<_}
 use mathlib.Core.Path.{_≡_, refl, sym, ap, _∙_, subst}
 use mathlib.Core.Bool.{Bool, true, false}
 use mathlib.Core.List.{List, [], _∷_, _++_, append-assoc, map}
-use native.Mathlib.Numerals.{add-one}
 use native.Mathlib.Omega.{arith}
-use borrow.Author.Tests.{eqb-true, eqb-false, lt-ltb}
+use borrow.Author.Tests.{eqb-true, eqb-false}
 use lib.Dec.{eqb}
-use lib.IntN.{ℤ, pos, negsuc}
-use lib.ListN.{length, take, drop, replicate, getD}
+use lib.IntN.{ℤ}
+use lib.ListN.{length, take, replicate}
 use Rattle.primitives.specs.Bytes.{AllBytes}
-use Rattle.primitives.specs.Counter.{widthGood, fitsIn}
+use Rattle.primitives.specs.Counter.{widthGood}
 use Rattle.primitives.specs.Questions.{ask}
 use Rattle.primitives.proofs.Rows.{both, ask-yes, ifZero-yes}
-use Rattle.primitives.proofs.Twos.{fits-64}
 use Rattle.receipt.specs.Settings.{settingsGood, TypedSettings}
-use Rattle.receipt.specs.Amount.{withinLimit}
-use Rattle.receipt.specs.Details.{amountsGood}
 use Rattle.receipt.specs.Compact.{spellable, TypedEntry}
 use Rattle.receipt.specs.declared.settings.Settings.{Settings}
 use Rattle.receipt.specs.declared.settings.Letters.the-variants.{Id, Serial}
-use Rattle.receipt.specs.declared.datetime.DateTime.{DateTime}
 use Rattle.receipt.specs.declared.details.Kind.{Kind}
-use Rattle.receipt.specs.declared.details.Kind.the-variants.{Standard, Cancellation, Training}
 use Rattle.receipt.specs.declared.entry.Entry.{Entry}
 use Rattle.receipt.proofs.Names.{name-of, settings-yes}
 use Rattle.receipt.proofs.Entries.{settings-all, admitted}
-use Rattle.receipt.proofs.Cents.{within-most}
-use Rattle.receipt.proofs.Joined.{ok-here}
 use Rattle.journal.specs.State.{TypedRegister, TypedState}
 use Rattle.journal.specs.Opening.{openNumber, opened}
 use Rattle.journal.specs.Checking.{accepted, takeOver}
@@ -41,12 +33,14 @@ use Rattle.journal.specs.declared.state.TakenOver.{TakenOver}
 use Rattle.journal.proofs.AcceptedIsWritten.{call-typed, accepted-is-written}
 use Rattle.journal.proofs.WrittenIsAccepted.{accepted-is-valid, written-is-accepted}
 use Rattle.device.specs.Layout.{settingsBytes, stateBytes, arrayOf, settingsOf, widthOf, keyOf, stateOf}
-use Rattle.device.specs.Calls.{settingsFrom, widthWith, settingsAnswer, settingsBuffer, Slices, openedNumber, openedSlices, dateOf, detailsWith, ofKind, detailsOf, IssueCall, callIn, takeOverAnswer}
+use Rattle.device.specs.Details.{dateOf, detailsWith, ofKind, detailsOf, kindNumber}
+use Rattle.device.specs.Calls.{settingsFrom, widthWith, settingsAnswer, settingsBuffer, Slices, openedNumber, openedSlices, IssueCall, callIn, takeOverAnswer}
 use Rattle.device.specs.Demand as demand
-use Rattle.device.specs.Demand.{TypedIssueCall, TypedIssueCalls, issuedAll, issuedNumbers, issuedReceipts, journalIn, AcceptedIsValidInC, registerIn, WrittenInC, WrittenIsAcceptedInC, settingsAgain, kindNumber, issueCallOf, AgainInC, AcceptedIsWrittenInC, WritingAndCheckingAgreeInC}
+use Rattle.device.specs.Demand.{TypedIssueCall, TypedIssueCalls, issuedAll, issuedNumbers, issuedReceipts, journalIn, AcceptedIsValidInC, registerIn, WrittenInC, WrittenIsAcceptedInC, settingsAgain, issueCallOf, AgainInC, AcceptedIsWrittenInC, WritingAndCheckingAgreeInC}
 use Rattle.device.proofs.Below.{date-words, opened-number, journal-is, accepted-is, call-details, entries-none, entries-more}
 use Rattle.device.proofs.Sizes.{array-whole, width-whole, key-long, good-register, open-answer, kept-all, take-six, take-answer}
 use Rattle.device.proofs.Spelling.{settings-are-read, state-is-read}
+use Rattle.device.proofs.DetailLaws.{amount-fits, five, kind-same, kind-word}
 use Rattle.device.proofs.CallsFromC.{calls-typed, slicesOf, open-accepted, opened-same, Same, same-calls, opened-typed}
 
 -- ---- what is accepted
@@ -117,40 +111,6 @@ written-is-accepted-in-c b g a l z cs tcs =
     )
 
 -- ---- the call of an entry
-
-within-fits : (z : ℤ) → withinLimit z ≡ true → fitsIn 8 z ≡ true
-within-fits (pos m) h = fits-64 (pos m) ∙ lt-ltb m (2 ^ 63) (omega (arith, within-most (pos m) h))
-within-fits (negsuc m) h = fits-64 (negsuc m) ∙ lt-ltb m (2 ^ 63) (omega (arith, within-most (negsuc m) h))
-
-good-from : (zs : List ℤ) (i : ℕ) → amountsGood zs ≡ true → i ≤ length zs → amountsGood (drop i zs) ≡ true
-good-from zs zero h l = h
-good-from zs (suc i) h l =
-    let r : amountsGood (drop (i + 1) zs) ≡ true = both (withinLimit (getD zs i (pos 0))) (amountsGood (drop (i + 1) zs)) (sym (ok-here zs i (omega arith)) ∙ good-from zs i h (omega arith)) .1 in
-    rw add-one at r
-
-amount-fits : (zs : List ℤ) (i : ℕ) → amountsGood zs ≡ true → i < length zs → fitsIn 8 (getD zs i (pos 0)) ≡ true
-amount-fits zs i h l =
-    within-fits (getD zs i (pos 0)) (both (withinLimit (getD zs i (pos 0))) (amountsGood (drop (i + 1) zs)) (sym (ok-here zs i l) ∙ good-from zs i h (omega arith)) .0)
-
-five : (zs : List ℤ) → length zs ≡ 5 → getD zs 0 (pos 0) ∷ getD zs 1 (pos 0) ∷ getD zs 2 (pos 0) ∷ getD zs 3 (pos 0) ∷ getD zs 4 (pos 0) ∷ [] ≡ zs
-five [] l = absurd (omega arith)
-five (a ∷ []) l = absurd (omega arith)
-five (a ∷ b ∷ []) l = absurd (omega arith)
-five (a ∷ b ∷ c ∷ []) l = absurd (omega arith)
-five (a ∷ b ∷ c ∷ d ∷ []) l = absurd (omega arith)
-five (a ∷ b ∷ c ∷ d ∷ e ∷ []) l = refl
-five (a ∷ b ∷ c ∷ d ∷ e ∷ f ∷ zs) l = absurd (omega arith)
-
-kind-same : (number : ℕ) (date : DateTime) (amounts : List ℤ) (k : Kind) → ofKind number date amounts (kindNumber k) ≡ detailsWith number date amounts k
-unfolding ofKind
-kind-same number date amounts Standard = refl
-kind-same number date amounts Cancellation = refl
-kind-same number date amounts Training = refl
-
-kind-word : (k : Kind) → kindNumber k < 4294967296
-kind-word Standard = omega arith
-kind-word Cancellation = omega arith
-kind-word Training = omega arith
 
 call-same : (e : Entry) → length (e .fields .details .amounts) ≡ 5 → callIn (issueCallOf e) ≡ callOf e
 unfolding callIn issueCallOf detailsOf dateOf detailsWith

@@ -2,7 +2,7 @@
 -- crate that unfolds a definition of a lower one.
 use Prim.Native.Nat.{ℕ, _<_}
 use mathlib.Core.Path.{_≡_, refl}
-use mathlib.Core.Bool.{true}
+use mathlib.Core.Bool.{true, cond}
 use mathlib.Core.List.{List, [], _∷_}
 use native.Mathlib.Omega.{arith}
 use borrow.Author.Tests.{leb-true}
@@ -14,10 +14,11 @@ use Rattle.primitives.proofs.Rows.{both}
 use Rattle.receipt.specs.DateTime.{daysIn, dayGood, timeGood, dateGood}
 use Rattle.receipt.specs.declared.settings.Settings.{Settings}
 use Rattle.receipt.specs.declared.datetime.DateTime.{DateTime}
+use Rattle.receipt.specs.declared.details.Details.{Details}
 use Rattle.receipt.specs.declared.entry.Entry.{Entry}
 use Rattle.receipt.proofs.Dates.{days-few}
 use Rattle.journal.specs.Opening.{openNumber, opened, openBuffer}
-use Rattle.journal.specs.Issuing.{issued, issueBuffer}
+use Rattle.journal.specs.Issuing.{issueNumber, issued, issueBuffer}
 use Rattle.journal.specs.Checking.{accepted}
 use Rattle.journal.specs.Calls.{Call, Register, journalOf, opening, numberOf, numbersOf, receiptOfCall, receiptsOf, call, calls, callOf, callsOf}
 use Rattle.journal.specs.declared.state.State.{State}
@@ -112,11 +113,19 @@ module _ (g : Register) where
   unfolding receiptsOf
   receipts-none = refl
 
+pub issued-number : (st : State) (d : Details) (sig : List ℕ) (room : ℕ) → issued st d sig room .number ≡ issueNumber st d sig room
+unfolding issued
+issued-number st d sig room = refl
+
 -- ---- journal: the calls of entries
 
 pub call-details : (e : Entry) → callOf e .details ≡ e .fields .details
 unfolding callOf
 call-details e = refl
+
+pub call-signature : (e : Entry) → callOf e .signature ≡ cond (e .signature .failed) [] (e .signature .bytes)
+unfolding callOf
+call-signature e = refl
 
 pub entries-none : callsOf [] ≡ []
 unfolding callsOf

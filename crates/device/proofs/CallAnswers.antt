@@ -33,7 +33,8 @@ use Rattle.journal.specs.declared.state.TakenOver.{TakenOver}
 use Rattle.journal.proofs.Refusals.{refused-changes-nothing}
 use Rattle.device.specs.Layout.{settingsBytes, arrayOf, settingsOf, widthOf, keyOf, stateOf, kept}
 use Rattle.device.specs.Laws.{RefusedIssueKeepsSlices}
-use Rattle.device.specs.Calls.{widthWith, settingsAnswer, settingsBuffer, Slices, openAnswer, openedNumber, openedSlices, dateOf, ofKind, detailsOf, IssueCall, callIn, issueAnswer, issuedNumber, issuedSlices, takeOverAnswer}
+use Rattle.device.specs.Details.{dateOf, ofKind, detailsOf}
+use Rattle.device.specs.Calls.{widthWith, settingsAnswer, settingsBuffer, Slices, openAnswer, openedNumber, openedSlices, IssueCall, callIn, issueAnswer, issuedNumber, issuedSlices, takeOverAnswer}
 use Rattle.device.proofs.Sizes.{array-whole, width-whole, key-long, kept-not, open-six, open-answer, take-six, take-answer}
 use Rattle.device.proofs.Reading.{over-all}
 use Rattle.device.proofs.Spelling.{kept-as-it-was}

@@ -30,7 +30,8 @@ use Rattle.journal.proofs.CallLists.{Bounds}
 use Rattle.primitives.proofs.Counts.{part-length}
 use Rattle.journal.proofs.Registers.{run-bounds, refused-same, entriesOf, open-zero, Holds, holds-behind, accepted-length, holds-calls, opening-holds, opening-length}
 use Rattle.device.specs.Layout.{stateBytes, nameAt, settingsAt, keyAt, settingsOf, widthOf, keyOf, stateOf}
-use Rattle.device.specs.Calls.{noDetails, dateOf, detailsWith, ofKind, detailsOf, Slices, openedNumber, openedSlices, IssueCall, callIn, issueAnswer, issuedNumber, issuedSlices}
+use Rattle.device.specs.Details.{noDetails, dateOf, detailsWith, ofKind, detailsOf}
+use Rattle.device.specs.Calls.{Slices, openedNumber, openedSlices, IssueCall, callIn, issueAnswer, issuedNumber, issuedSlices}
 use Rattle.device.specs.Demand as demand
 use Rattle.device.specs.Demand.{TypedIssueCall, TypedIssueCalls, issuedAll, issuedNumbers, issuedReceipts, registerIn}
 use Rattle.device.proofs.Below.{opened-number, opening-is, number-is, call-is, calls-none, calls-more, numbers-none, numbers-more, receipts-none, receipts-more}
@@ -55,7 +56,7 @@ kind-small number date amounts kind h l = go (eqb kind 0) (eqb kind 1) (eqb kind
     go false false true = (h, l)
     go false false false = (omega arith, refl)
 
-call-typed : (c : IssueCall) → TypedIssueCall c → TypedCall (callIn c)
+pub call-typed : (c : IssueCall) → TypedIssueCall c → TypedCall (callIn c)
 unfolding callIn detailsOf
 call-typed c t =
     let date = dateOf (c .year) (c .month) (c .day) (c .hour) (c .minute) (c .second) in
@@ -79,7 +80,7 @@ module _ (b : List ℕ) where
       go false e q = absurd (omega (arith, q, no-settings-get-one (widthOf b) room))
 
   module _ (a : AllBytes b) (l : length b ≡ 123) where
-    settings-typed : TypedSettings (settingsOf b)
+    pub settings-typed : TypedSettings (settingsOf b)
     unfolding settingsOf settingsAt nameAt
     settings-typed =
         rw (eq-eqb (length b) 123 l) (record {

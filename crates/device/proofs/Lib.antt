@@ -2,6 +2,10 @@ pub mod AgreementInC
 pub mod Below
 pub mod CallAnswers
 pub mod CallsFromC
+pub mod DetailLaws
+pub mod Pieces
+pub mod ReadBackCalls
+pub mod ReadBackLaws
 pub mod Reading
 pub mod Sizes
 pub mod Spelling

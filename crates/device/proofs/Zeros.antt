@@ -14,7 +14,7 @@ use Rattle.journal.specs.Step.{soundAlone, sound, numberAbove, detailsNumber}
 use Rattle.journal.specs.Issuing.{issueNumber}
 use Rattle.journal.specs.Preparing.{prepareNumber}
 use Rattle.device.specs.Layout.{settingsBytes, figuresBytes, stateBytes}
-use Rattle.device.specs.Calls.{noDetails}
+use Rattle.device.specs.Details.{noDetails}
 use Rattle.device.specs.Laws.{UnopenedIsZero, NoSettingsGetOne, UnopenedGetsSix, NoKindGetsSeven}
 
 pub unopened-is-zero : UnopenedIsZero

@@ -1,17 +1,13 @@
 -- What the calls of a register answer and leave, from the bytes that they are given.
 use Prim.Native.Nat.{ℕ}
 use mathlib.Core.Bool.{cond}
-use mathlib.Core.List.{List, [], _∷_}
+use mathlib.Core.List.{List}
 use lib.Dec.{eqb}
-use lib.IntN.{ℤ, pos}
-use lib.ListN.{length, replicate}
+use lib.IntN.{ℤ}
+use lib.ListN.{length}
 use Rattle.primitives.specs.Questions.{ask, ifZero}
 use Rattle.receipt.specs.Settings.{nameOf, settingsNumber}
 use Rattle.receipt.specs.declared.settings.Settings.{Settings}
-use Rattle.receipt.specs.declared.datetime.DateTime.{DateTime}
-use Rattle.receipt.specs.declared.details.Kind.{Kind}
-use Rattle.receipt.specs.declared.details.Kind.the-variants.{Standard, Cancellation, Training}
-use Rattle.receipt.specs.declared.details.Details.{Details}
 use Rattle.journal.specs.State.{unopened}
 use Rattle.journal.specs.Opening.{opened, openBuffer}
 use Rattle.journal.specs.Issuing.{issued, issueBuffer}
@@ -21,6 +17,7 @@ use Rattle.journal.specs.declared.state.Opened.{Opened}
 use Rattle.journal.specs.declared.state.Issued.{Issued}
 use Rattle.journal.specs.declared.state.TakenOver.{TakenOver}
 use Rattle.device.specs.Layout.{settingsBytes, arrayOf, settingsOf, widthOf, keyOf, stateOf, kept}
+use Rattle.device.specs.Details.{detailsOf}
 
 -- ---- settings
 
@@ -66,36 +63,6 @@ openedSlices settings g =
       state = kept (g .state) (openAnswer settings (length (g .journal)) (length (g .state)) .state);
       journal = cond (eqb (length (g .state)) 155) (openBuffer (settingsOf settings) (widthOf settings) (g .journal)) (g .journal);
     }
-
--- ---- the details of a receipt
-
--- all zero: a number that question 7 always refuses
-unfoldable pub noDetails : Details
-noDetails =
-    record {
-      number = 0;
-      date = record { year = 0; month = 0; day = 0; hour = 0; minute = 0; second = 0 };
-      amounts = replicate 5 (pos 0);
-      kind = Standard;
-    }
-
-unfoldable pub dateOf : ℕ → ℕ → ℕ → ℕ → ℕ → ℕ → DateTime
-dateOf year month day hour minute second =
-    record { year = year; month = month; day = day; hour = hour; minute = minute; second = second }
-
-unfoldable pub detailsWith : ℕ → DateTime → List ℤ → Kind → Details
-detailsWith number date amounts kind = record { number = number; date = date; amounts = amounts; kind = kind }
-
--- kinds 0, 1 and 2; nothing of a receipt with another kind
-unfoldable pub ofKind : ℕ → DateTime → List ℤ → ℕ → Details
-ofKind number date amounts kind =
-    cond (eqb kind 0) (detailsWith number date amounts Standard)
-    (cond (eqb kind 1) (detailsWith number date amounts Cancellation)
-    (cond (eqb kind 2) (detailsWith number date amounts Training) noDetails))
-
-unfoldable pub detailsOf : ℕ → ℕ → ℕ → ℕ → ℕ → ℕ → ℕ → ℤ → ℤ → ℤ → ℤ → ℤ → ℕ → Details
-detailsOf number year month day hour minute second a b c d e kind =
-    ofKind number (dateOf year month day hour minute second) (a ∷ b ∷ c ∷ d ∷ e ∷ []) kind
 
 -- ---- issue
 

@@ -10,14 +10,13 @@ use Rattle.primitives.specs.Counter.{fitsIn}
 use Rattle.primitives.specs.Questions.{ifZero}
 use Rattle.receipt.specs.Settings.{nameText}
 use Rattle.receipt.specs.declared.settings.Settings.{Settings}
-use Rattle.receipt.specs.declared.details.Kind.{Kind}
-use Rattle.receipt.specs.declared.details.Kind.the-variants.{Standard, Cancellation, Training}
 use Rattle.receipt.specs.declared.details.Details.{Details}
 use Rattle.receipt.specs.declared.entry.Entry.{Entry}
 use Rattle.journal.specs.Receipts.{Receipt, receiptsIn, sum}
 use Rattle.journal.specs.Valid.{Valid}
 use Rattle.journal.specs.Calls.{Register, opening, numbersOf, receiptOfCall, callOf}
 use Rattle.device.specs.Layout.{settingsOf, widthOf, keyOf, stateOf, kept}
+use Rattle.device.specs.Details.{kindNumber}
 use Rattle.device.specs.Calls.{settingsFrom, widthWith, settingsAnswer, settingsBuffer, Slices, openedNumber, openedSlices, IssueCall, callWith, callIn, issuedNumber, issuedSlices, takeOverAnswer}
 
 -- ---- lists of calls of ditgrux_issue
@@ -103,11 +102,6 @@ WrittenIsAcceptedInC =
 -- CSP, ID and serial of a head, as ditgrux_settings makes settings of them
 abbrev pub settingsAgain : Settings → Settings
 settingsAgain s = settingsFrom (s .csp) (nameText (s .id)) (nameText (s .serial))
-
-abbrev pub kindNumber : Kind → ℕ
-kindNumber Standard = 0
-kindNumber Cancellation = 1
-kindNumber Training = 2
 
 -- the call with these details
 abbrev pub callWithDetails : Details → List ℕ → IssueCall

@@ -1,9 +1,12 @@
--- What holds of the bytes of settings and states. Proved in proofs/.
-use Prim.Native.Nat.{ℕ}
+-- What holds of settings, states and details as bytes. Proved in proofs/.
+use Prim.Native.Nat.{ℕ, _<_}
 use mathlib.Core.Path.{_≡_}
+use mathlib.Core.Bool.{true}
 use mathlib.Core.List.{List}
-use lib.ListN.{length, replicate}
+use lib.IntN.{pos}
+use lib.ListN.{length, replicate, getD}
 use Rattle.primitives.specs.Bytes.{AllBytes}
+use Rattle.primitives.specs.Counter.{fitsIn}
 use Rattle.receipt.specs.declared.settings.Settings.{Settings}
 use Rattle.receipt.specs.declared.details.Details.{Details}
 use Rattle.journal.specs.State.{unopened, TypedRegister, TypedState}
@@ -13,7 +16,8 @@ use Rattle.journal.specs.Step.{detailsNumber}
 use Rattle.journal.specs.Issuing.{issueNumber}
 use Rattle.journal.specs.declared.state.State.{State}
 use Rattle.device.specs.Layout.{settingsBytes, stateBytes, settingsOf, widthOf, keyOf, stateOf}
-use Rattle.device.specs.Calls.{settingsFrom, widthWith, settingsAnswer, settingsBuffer, noDetails, Slices, IssueCall, issuedNumber, issuedSlices}
+use Rattle.device.specs.Details.{noDetails, detailsBytes, detailsIn}
+use Rattle.device.specs.Calls.{settingsFrom, widthWith, settingsAnswer, settingsBuffer, Slices, IssueCall, issuedNumber, issuedSlices}
 
 -- ---- reading and writing undo each other
 
@@ -58,3 +62,21 @@ NoKindGetsSeven = (st : State) (rest : ℕ) → detailsNumber st noDetails rest 
 
 abbrev pub RefusedIssueKeepsSlices : Type 0
 RefusedIssueKeepsSlices = (g : Slices) → AllBytes (g .state) → (c : IssueCall) → (issuedNumber g c ≡ 0 → ⊥) → issuedSlices g c ≡ g
+
+-- ---- the details of a receipt as 72 bytes
+
+-- what the code's types say of details
+pub record TypedDetails (d : Details) : Type 0 where
+  pub number : d .number < 4294967296
+  pub year : d .date .year < 4294967296
+  pub month : d .date .month < 4294967296
+  pub day : d .date .day < 4294967296
+  pub hour : d .date .hour < 4294967296
+  pub minute : d .date .minute < 4294967296
+  pub second : d .date .second < 4294967296
+  pub five : length (d .amounts) ≡ 5
+  pub amounts : (i : ℕ) → i < 5 → fitsIn 8 (getD (d .amounts) i (pos 0)) ≡ true
+
+-- they are read from their bytes: different details have different bytes
+abbrev pub DetailsAreRead : Type 0
+DetailsAreRead = (d : Details) → TypedDetails d → (length (detailsBytes d) ≡ 72) × (detailsIn (detailsBytes d) ≡ d)

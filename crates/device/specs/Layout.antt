@@ -1,5 +1,5 @@
 -- Settings and the state of a register as bytes. Numbers are big-endian, the counter is in two's complement.
--- Total on purpose: every 155 bytes are a state, and every state has its 155 bytes. The settings are the first 123 of them.
+-- Any 155 bytes decode to a state, and each state has exactly one encoding. The settings are its first 123 bytes.
 use Prim.Native.Nat.{ℕ, _+_}
 use mathlib.Core.Bool.{cond}
 use mathlib.Core.List.{List, _++_}
@@ -11,6 +11,10 @@ use Rattle.receipt.specs.declared.settings.Name.{Name}
 use Rattle.receipt.specs.declared.settings.Settings.{Settings}
 use Rattle.journal.specs.State.{unopened}
 use Rattle.journal.specs.declared.state.State.{State}
+
+-- the version of these layouts and of the details as bytes: it rises when one of them changes
+abbrev pub version : ℕ
+version = 1
 
 -- ---- writing
 

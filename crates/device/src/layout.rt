@@ -10,7 +10,15 @@ ghost use lib.ListN.{length, take, drop};
 ghost use Rattle.primitives.specs.Place.{overwrite};
 ghost use Rattle.primitives.specs.Number.{bytesOf, countAt};
 ghost use Rattle.primitives.specs.Counter.{counterBytes, counterValue};
-ghost use Rattle.device.specs.Layout.{nameBytes, settingsBytes, stateBytes, nameAt, settingsAt, widthAt, keyAt, stateAt, settingsOf, widthOf, keyOf, stateOf, kept};
+ghost use Rattle.device.specs.Layout.{version, nameBytes, settingsBytes, stateBytes, nameAt, settingsAt, widthAt, keyAt, stateAt, settingsOf, widthOf, keyOf, stateOf, kept};
+
+// The version of the layouts.
+#[no_mangle]
+pub extern "C" fn ditgrux_version() -> u32
+    ensures { λ r. ⌜ r ≡ version ⌝ }
+{
+    1
+}
 
 // The bytes of settings, and those of a state.
 pub(crate) const SETTINGS: usize = 123;

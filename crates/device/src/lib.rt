@@ -1,8 +1,12 @@
 // The receipt journal of a cash register for callers in other languages: a state is 155 bytes that the caller keeps.
+mod details;
 mod layout;
+mod read_back;
 mod register;
 mod text;
 
+pub use layout::ditgrux_version;
+pub use read_back::ditgrux_read;
 pub use register::ditgrux_counter;
 pub use register::ditgrux_issue;
 pub use register::ditgrux_journal_length;

@@ -1,4 +1,5 @@
 // The calls of a register.
+use super::details::details_of;
 use super::layout::SETTINGS;
 use super::layout::STATE;
 use super::layout::array3_at;
@@ -9,15 +10,13 @@ use super::layout::put_settings;
 use super::layout::settings_of;
 use super::layout::state_of;
 use super::layout::width_of;
-use receipt::DateTime;
-use receipt::Details;
-use receipt::Kind;
 use receipt::Settings;
 ghost use mathlib.Core.Path.{_≡_};
 ghost use lib.ListN.{length};
 ghost use Rattle.journal.specs.Preparing.{prepareAnswer, prepareBuffer};
 ghost use Rattle.device.specs.Layout.{arrayOf, stateOf, kept};
-ghost use Rattle.device.specs.Calls.{settingsFrom, widthWith, settingsAnswer, settingsBuffer, slicesWith, openedNumber, openedSlices, noDetails, detailsWith, ofKind, dateOf, detailsOf, callWith, issuedNumber, issuedSlices, takeOverAnswer};
+ghost use Rattle.device.specs.Details.{detailsOf};
+ghost use Rattle.device.specs.Calls.{settingsFrom, widthWith, settingsAnswer, settingsBuffer, slicesWith, openedNumber, openedSlices, callWith, issuedNumber, issuedSlices, takeOverAnswer};
 
 // ---- settings
 
@@ -164,88 +163,6 @@ pub extern "C" fn ditgrux_open(settings: &[u8], journal: &mut [u8], state: &mut 
     let st = opened.state;
     keep(st, state);
     opened.number
-}
-
-// ---- the details of a receipt
-
-fn no_details() -> Details
-    ensures { λ r. ⌜ r ≡ noDetails ⌝ }
-{
-    Details {
-        number: 0,
-        date: DateTime {
-            year: 0,
-            month: 0,
-            day: 0,
-            hour: 0,
-            minute: 0,
-            second: 0,
-        },
-        amounts: [0i64; 5],
-        kind: Kind::Standard,
-    }
-}
-
-fn details_with(number: u32, date: DateTime, amounts: [i64; 5], kind: Kind) -> Details
-    ensures { λ r. ⌜ r ≡ detailsWith number date amounts kind ⌝ }
-{
-    Details {
-        number,
-        date,
-        amounts,
-        kind,
-    }
-}
-
-// Kinds 0, 1 and 2; details that are all zero where the kind is another.
-fn of_kind(number: u32, date: DateTime, amounts: [i64; 5], kind: u32) -> Details
-    ensures { λ r. ⌜ r ≡ ofKind number date amounts kind ⌝ }
-{
-    if kind == 0 {
-        return details_with(number, date, amounts, Kind::Standard);
-    }
-    if kind == 1 {
-        return details_with(number, date, amounts, Kind::Cancellation);
-    }
-    if kind == 2 {
-        return details_with(number, date, amounts, Kind::Training);
-    }
-    no_details()
-}
-
-fn date_of(year: u32, month: u32, day: u32, hour: u32, minute: u32, second: u32) -> DateTime
-    ensures { λ r. ⌜ r ≡ dateOf year month day hour minute second ⌝ }
-{
-    DateTime {
-        year,
-        month,
-        day,
-        hour,
-        minute,
-        second,
-    }
-}
-
-fn details_of(
-    number: u32,
-    year: u32,
-    month: u32,
-    day: u32,
-    hour: u32,
-    minute: u32,
-    second: u32,
-    a: i64,
-    b: i64,
-    c: i64,
-    d: i64,
-    e: i64,
-    kind: u32,
-) -> Details
-    ensures { λ r. ⌜ r ≡ detailsOf number year month day hour minute second a b c d e kind ⌝ }
-{
-    let date = date_of(year, month, day, hour, minute, second);
-    let amounts = [a, b, c, d, e];
-    of_kind(number, date, amounts, kind)
 }
 
 // ---- prepare

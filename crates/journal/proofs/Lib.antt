@@ -1,6 +1,7 @@
 pub mod AcceptedIsWritten
 pub mod Accepting
 pub mod Agreement
+pub mod Appended
 pub mod CallLists
 pub mod Check
 pub mod CheckCalls

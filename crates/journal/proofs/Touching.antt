@@ -35,7 +35,7 @@ outside xs at ys i room h = go (leb at i) refl
         behind true q = getD-behind xs at ys i (leb-true (at + length ys) i q) room
         behind false q = absurd (h (leb-true at i e) (leb-false (at + length ys) i q))
 
-place-head : (s : Settings) → countPlace s + 4 ≡ headLength s
+pub place-head : (s : Settings) → countPlace s + 4 ≡ headLength s
 unfolding countPlace headLength
 place-head s = omega arith
 

@@ -2,7 +2,7 @@
 use Prim.Native.Nat.{ℕ, _+_, _≤_, _<_}
 use mathlib.Core.Path.{_≡_}
 use mathlib.Core.List.{List, _∷_, _++_}
-use lib.ListN.{length, take, replicate, getD}
+use lib.ListN.{length, take, drop, replicate, getD}
 use Rattle.primitives.specs.Bytes.{AllBytes}
 use Rattle.primitives.specs.Place.{overwrite}
 use Rattle.primitives.specs.Number.{bytesOf}
@@ -105,6 +105,13 @@ abbrev pub TouchesNoOther : Type 0
 TouchesNoOther =
     (st : State) (d : Details) (sig buf : List ℕ) (i : ℕ) → (countPlaceNow st ≤ i → i < countPlaceNow st + 4 → ⊥)
     → (st .length ≤ i → i < st .length + length (entryText (textOf st d sig)) → ⊥) → getD (issueBuffer st d sig buf) i 0 ≡ getD buf i 0
+
+-- not refused, it leaves the compact form from two bytes after the old length of the journal up to the new length
+abbrev pub FormIsAppended : Type 0
+FormIsAppended =
+    (st : State) (d : Details) (sig buf : List ℕ) → issueNumber st d sig (length buf) ≡ 0
+    → (issued st d sig (length buf) .state .length ≡ st .length + 2 + length (textOf st d sig))
+    × (take (length (textOf st d sig)) (drop (st .length + 2) (issueBuffer st d sig buf)) ≡ textOf st d sig)
 
 -- ---- refused calls
 

@@ -1,8 +1,8 @@
 //! The published vectors, asked of either side through the interface.
 
-use peer::calls::Calls;
+use peer::calls::{Calls, Written};
 use peer::crypto::Aes256;
-use peer::layout::{SETTINGS, STATE, state_bytes, state_of};
+use peer::layout::{DETAILS, SETTINGS, SIGNATURE, STATE, details_bytes, settings_bytes, state_bytes, state_of};
 use peer::receipt::{Date, Details, counter_iv};
 use peer::register::State;
 use peer::settings::{Name, Settings};
@@ -353,4 +353,230 @@ pub fn paper(side: &dyn Calls) {
     assert_eq!(encoded(side, 0, b"STO"), b"U1RP");
     assert_eq!(encoded(side, 1, b"{\"alg\":\"ES256\"}"), b"eyJhbGciOiJFUzI1NiJ9");
     assert_eq!(encoded(side, 0, &unhex("0e781f8698212aef")), b"DngfhpghKu8=");
+}
+
+/// The version that the header has.
+pub fn version(side: &dyn Calls) {
+    let path = format!("{}/../include/ditgrux.h", env!("CARGO_MANIFEST_DIR"));
+    let header = std::fs::read_to_string(&path).unwrap_or_else(|error| panic!("{path}: {error}"));
+    let number = header.lines().find_map(|line| line.strip_prefix("#define DITGRUX_VERSION ")).expect("a version");
+    assert_eq!(side.version().to_string(), number);
+}
+
+// ---- receipts read back
+
+/// The register of the receipts that are spelled here by hand.
+fn by_hand() -> Settings {
+    Settings { csp: *b"AT0", id: Name::of(b"K-1"), serial: Name::of(b"2a"), width: 5, key: [9; 32] }
+}
+
+/// A cancellation, and its details as bytes: number, year, month, day, hour, minute, second, kind, and the five amounts.
+const CANCELLATION: &str =
+    "_R1-AT0_K-1_12_2016-02-29T08:05:00_-10,50_0,00_-0,05_99999999,99_-99999999,99_U1RP_2a_AAAAAAAAAAA=";
+const CANCELLATION_BYTES: &str = concat!(
+    "0000000c 000007e0 00000002 0000001d 00000008 00000005 00000000 00000001 ",
+    "fffffffffffffbe6 0000000000000000 fffffffffffffffb 00000002540be3ff fffffffdabf41c01",
+);
+
+/// A sale with a counter field of five bytes.
+const SALE: &str = "_R1-AT0_K-1_7_2016-02-29T08:05:00_10,50_0,00_0,00_0,78_-0,05_AAAAAAA=_2a_AAAAAAAAAAA=";
+
+/// The details of the cancellation, by name and as the 72 bytes of the header.
+pub fn cancellation() -> (Details, Vec<u8>) {
+    let amounts = [-1050, 0, -5, 9_999_999_999, -9_999_999_999];
+    (Details { number: 12, date: GOOD_DATE, amounts, kind: 1 }, unhex(&CANCELLATION_BYTES.replace(' ', "")))
+}
+
+fn form(side: &dyn Calls, payload: &str, signature: &[u8]) -> Vec<u8> {
+    [&b"eyJhbGciOiJFUzI1NiJ9"[..], &encoded(side, 1, payload.as_bytes()), &encoded(side, 1, signature)].join(&b'.')
+}
+
+/// The answer of Read, and both outputs, which are full of aa before.
+fn read_into(
+    side: &dyn Calls,
+    settings: &[u8],
+    form: &[u8],
+    [details, signature]: [usize; 2],
+) -> (Written, Vec<u8>, Vec<u8>) {
+    let (mut details, mut signature) = (vec![0xaa; details], vec![0xaa; signature]);
+    let written = side.read(settings, form, &mut details, &mut signature);
+    (written, details, signature)
+}
+
+/// Read gives these details and this signature, which is empty where the device had failed.
+fn assert_read(side: &dyn Calls, settings: &Settings, form: &[u8], details: &Details, signature: &[u8]) {
+    let (written, bytes, given) = read_into(side, &settings_bytes(settings), form, [DETAILS, SIGNATURE]);
+    let mut expected = [0xaa; SIGNATURE];
+    expected[..signature.len()].copy_from_slice(signature);
+    let form = String::from_utf8_lossy(form);
+    assert_eq!(written, Written { number: 0, length: signature.len() }, "{form}");
+    assert_eq!(bytes, details_bytes(details), "{form}");
+    assert_eq!(given, expected, "{form}");
+}
+
+/// Read is refused with this number and changes neither output.
+fn assert_not_read(side: &dyn Calls, settings: &[u8], form: &[u8], lengths: [usize; 2], number: u32) {
+    let (written, details, signature) = read_into(side, settings, form, lengths);
+    let form = String::from_utf8_lossy(form);
+    assert_eq!(written, Written { number, length: 0 }, "{form} {lengths:?}");
+    assert!(details.iter().chain(&signature).all(|&byte| byte == 0xaa), "{form} {lengths:?}: an output is changed");
+}
+
+/// Receipts spelled by hand: negative amounts, a failed device, each kind.
+pub fn read_by_hand(side: &dyn Calls) {
+    let signature: [u8; SIGNATURE] = std::array::from_fn(|i| 0xc0 ^ i as u8);
+    let (details, bytes) = cancellation();
+    let signed = form(side, CANCELLATION, &signature);
+    assert_read(side, &by_hand(), &signed, &details, &signature);
+    assert_eq!(read_into(side, &settings_bytes(&by_hand()), &signed, [DETAILS, SIGNATURE]).1, bytes);
+    let failed = form(side, CANCELLATION, b"Sicherheitseinrichtung ausgefallen");
+    assert_read(side, &by_hand(), &failed, &details, &[]);
+
+    let sale = Details { number: 7, date: GOOD_DATE, amounts: [1050, 0, 0, 78, -5], kind: 0 };
+    for (field, kind) in [("AAAAAAA=", 0), ("/////8A=", 0), ("U1RP", 1), ("VFJB", 2)] {
+        let spelled = SALE.replacen("AAAAAAA=", field, 1);
+        assert_read(side, &by_hand(), &form(side, &spelled, &signature), &Details { kind, ..sale }, &signature);
+    }
+    // the number may be as large as it can, and key and chain value are not asked
+    let last = SALE.replace("_7_", "_4294967295_").replace("2a_AAAAAAAAAAA=", "2a_DngfhpghKu8=");
+    let other = Settings { key: [0; 32], ..by_hand() };
+    assert_read(side, &other, &form(side, &last, &[0; 64]), &Details { number: u32::MAX, ..sale }, &[0; 64]);
+}
+
+/// Each receipt of the three journals.
+pub fn receipts_read(side: &dyn Calls) {
+    let journals = rows("tests/data/journals.tsv", 3);
+    for row in rows("tests/data/receipts.tsv", 13) {
+        let journal = journals.iter().find(|journal| journal[0] == row[0]).expect("a journal");
+        let settings = Settings {
+            csp: journal[1].as_bytes().try_into().expect("a CSP"),
+            id: Name::of(journal[2].as_bytes()),
+            serial: Name::of(journal[3].as_bytes()),
+            width: journal[4].parse().expect("a width"),
+            key: unhex(&journal[5]).try_into().expect("a key"),
+        };
+        let details = Details {
+            number: row[1].parse().expect("a number"),
+            date: date_of(&row[2]),
+            amounts: amounts_of(&row[3]),
+            kind: kind_of(&row[4]),
+        };
+        assert_read(side, &settings, row[8].as_bytes(), &details, &unhex(&row[5]));
+    }
+}
+
+/// 1 to 4, which are asked before the form and the lengths of the outputs.
+pub fn read_settings_refused(side: &dyn Calls) {
+    let (good, form) = (by_hand(), form(side, SALE, &[1; 64]));
+    let bytes = settings_bytes(&good);
+    let with = |settings: Settings| settings_bytes(&settings).to_vec();
+    for (settings, number) in [
+        (Vec::new(), 1),
+        (bytes[..122].to_vec(), 1),
+        ([&bytes[..], &[0]].concat(), 1),
+        ([&bytes[..], &[0; 32]].concat(), 1),
+        (vec![0; SETTINGS], 1),
+        (with(Settings { csp: *b"at0", ..good }), 1),
+        (with(Settings { csp: *b"at0", id: Name::of(b""), ..good }), 1),
+        (with(Settings { id: Name::of(b"K_1"), ..good }), 2),
+        (with(Settings { id: Name { length: 2, ..good.id }, ..good }), 2),
+        (with(Settings { id: Name { length: 33, ..good.id }, ..good }), 2),
+        (with(Settings { id: Name::of(b""), serial: Name::of(b""), ..good }), 2),
+        (with(Settings { serial: Name::of(b"2A"), ..good }), 3),
+        (with(Settings { serial: Name::of(b""), width: 4, ..good }), 3),
+        (with(Settings { width: 4, ..good }), 4),
+        (with(Settings { width: 9, ..good }), 4),
+    ] {
+        assert_not_read(side, &settings, &form, [DETAILS, SIGNATURE], number);
+        assert_not_read(side, &settings, b"", [DETAILS, SIGNATURE], number);
+        assert_not_read(side, &settings, &form, [0, 0], number);
+    }
+}
+
+/// 16 where a field is spelled otherwise, whatever the lengths of the outputs.
+pub fn read_fields_refused(side: &dyn Calls) {
+    let settings = settings_bytes(&by_hand());
+    for (field, other) in [
+        ("_R1-", "_R2-"),
+        ("_R1-", "R1-"),
+        ("AT0", "AT1"),
+        ("K-1", "K-2"),
+        ("K-1", "K-10"),
+        ("_7_", "_0_"),
+        ("_7_", "_07_"),
+        ("_7_", "_4294967296_"),
+        ("T08", "D08"),
+        ("02-29", "02-30"),
+        ("2016", "2100"),
+        ("08:05", "24:05"),
+        ("_10,50", "_010,50"),
+        ("_10,50", "_10.50"),
+        ("_10,50", "_-0,00"),
+        ("_10,50", "_100000000,00"),
+        ("_-0,05", "_--0,05"),
+        // six bytes, five with stray bits, five without padding, "STN"
+        ("_AAAAAAA=", "_AAAAAAAA"),
+        ("_AAAAAAA=", "_AAAAAAB="),
+        ("_AAAAAAA=", "_AAAAAAA"),
+        ("_AAAAAAA=", "_U1RO"),
+        ("_2a_", "_2b_"),
+        ("_2a_", "_2a_2a_"),
+        // seven bytes and nine
+        ("2a_AAAAAAAAAAA=", "2a_AAAAAAAAAA=="),
+        ("2a_AAAAAAAAAAA=", "2a_AAAAAAAAAAAA"),
+        ("2a_AAAAAAAAAAA=", "2a_AAAAAAAAAAA=_"),
+    ] {
+        assert!(SALE.contains(field), "{field}");
+        let form = form(side, &SALE.replacen(field, other, 1), &[1; 64]);
+        assert_not_read(side, &settings, &form, [DETAILS, SIGNATURE], 16);
+        assert_not_read(side, &settings, &form, [DETAILS - 1, SIGNATURE + 1], 16);
+    }
+}
+
+/// 16 where the frame of the form is another.
+pub fn read_forms_refused(side: &dyn Calls) {
+    let (settings, sale) = (settings_bytes(&by_hand()), form(side, SALE, &[1; 64]));
+    let sale = &sale[..];
+    for other in [
+        Vec::new(),
+        [&(sale.len() as u16).to_be_bytes(), sale].concat(),
+        [sale, b"."].concat(),
+        [sale, b"\n"].concat(),
+        sale[..sale.len() - 1].to_vec(),
+        sale[1..].to_vec(),
+        SALE.as_bytes().to_vec(),
+        form(side, SALE, &[1; 63]),
+        form(side, SALE, &[1; 65]),
+        form(side, SALE, b""),
+        form(side, SALE, b"safety device failure"),
+        form(side, SALE, b"Sicherheitseinrichtung ausgefallen."),
+    ] {
+        assert_not_read(side, &settings, &other, [DETAILS, SIGNATURE], 16);
+    }
+}
+
+/// 16 under the settings of another register.
+pub fn read_registers_refused(side: &dyn Calls) {
+    let (good, sale) = (by_hand(), form(side, SALE, &[1; 64]));
+    for other in [
+        Settings { csp: *b"AT1", ..good },
+        Settings { id: Name::of(b"K-2"), ..good },
+        Settings { id: Name::of(b"K-"), ..good },
+        Settings { serial: Name::of(b"2b"), ..good },
+        Settings { width: 6, ..good },
+        Settings { width: 8, ..good },
+    ] {
+        assert_not_read(side, &settings_bytes(&other), &sale, [DETAILS, SIGNATURE], 16);
+    }
+}
+
+/// 23 where an output is shorter or longer than it must be, also the signature's where there is none.
+pub fn read_outputs_refused(side: &dyn Calls) {
+    let settings = settings_bytes(&by_hand());
+    let signed = form(side, SALE, &[1; 64]);
+    let failed = form(side, SALE, b"Sicherheitseinrichtung ausgefallen");
+    for lengths in [[71, 64], [73, 64], [0, 64], [72, 63], [72, 65], [72, 0], [72, 34], [71, 65], [64, 72], [0, 0]] {
+        assert_not_read(side, &settings, &signed, lengths, 23);
+        assert_not_read(side, &settings, &failed, lengths, 23);
+    }
 }

@@ -1,8 +1,8 @@
--- `register::details_of` meets its contract.
+-- `details::details_of` meets its contract.
 use Rattle.device.proofs.CallAnswers.{details-made}
 use borrow.Author.Needs.{needs}
-use Rattle.device.proofs.register.details_of.Statement.{statement}
-use Rattle.device.proofs.register.details_of.Tie as tie
+use Rattle.device.proofs.details.details_of.Statement.{statement}
+use Rattle.device.proofs.details.details_of.Tie as tie
 
 date-of-requires : tie.Need-date-of-requires
 date-of-requires c κs = search needs

@@ -1,9 +1,9 @@
--- `register::of_kind` meets its contract.
+-- `details::of_kind` meets its contract.
 use borrow.Author.Tests.{eq-eqb, ne-eqb}
-use Rattle.device.specs.Calls.{ofKind}
+use Rattle.device.specs.Details.{ofKind}
 use borrow.Author.Needs.{needs}
-use Rattle.device.proofs.register.of_kind.Statement.{statement}
-use Rattle.device.proofs.register.of_kind.Tie as tie
+use Rattle.device.proofs.details.of_kind.Statement.{statement}
+use Rattle.device.proofs.details.of_kind.Tie as tie
 
 details-with-requires : tie.Need-details-with-requires
 details-with-requires c κs = search needs

@@ -1,0 +1,301 @@
+-- A receipt is read back exactly, and what ditgrux_issue was given is what ditgrux_read gives.
+use Prim.Native.Nat.{ℕ, zero, suc, _+_, _-_, _^_, _<_}
+use mathlib.Core.Path.{_≡_, refl, sym, ap, _∙_, subst}
+use mathlib.Core.Bool.{Bool, true, false, cond}
+use mathlib.Core.List.{List, [], _∷_}
+use native.Mathlib.Omega.{arith}
+use borrow.Author.Tests.{eq-eqb, eqb-true, lt-ltb}
+use lib.Dec.{eqb}
+use lib.IntN.{ℤ, pos}
+use lib.ListN.{length, take, drop, getD, getD-replicate}
+use lib.Seq.{take-at}
+use Rattle.primitives.specs.Bytes.{AllBytes}
+use Rattle.primitives.specs.Counter.{widthGood, fitsIn}
+use Rattle.primitives.specs.Place.{overwrite}
+use Rattle.primitives.proofs.ByteLists.{bytes-take, bytes-drop, bytes-replicate}
+use Rattle.primitives.proofs.Counts.{part-length}
+use Rattle.primitives.proofs.Rows.{ifZero-yes, ifZero-no}
+use Rattle.primitives.proofs.Twos.{fits-64}
+use Rattle.receipt.specs.Settings.{settingsGood, TypedSettings}
+use Rattle.receipt.specs.Compact.{compact, spellable, TypedEntry}
+use Rattle.receipt.specs.Exact.{Spelled}
+use Rattle.receipt.specs.declared.settings.Settings.{Settings}
+use Rattle.receipt.specs.declared.datetime.DateTime.{DateTime}
+use Rattle.receipt.specs.declared.details.Kind.{Kind}
+use Rattle.receipt.specs.declared.details.Kind.the-variants.{Standard, Cancellation, Training}
+use Rattle.receipt.specs.declared.details.Details.{Details}
+use Rattle.receipt.specs.declared.entry.Entry.{Entry}
+use Rattle.receipt.specs.declared.entry.Found.{Found}
+use Rattle.receipt.proofs.ExactEntry.{exact, compact-bytes}
+use Rattle.journal.specs.State.{unopened, TypedRegister}
+use Rattle.journal.specs.Issuing.{entryOf, textOf, issueNumber, issued, issueBuffer}
+use Rattle.journal.specs.Calls.{Call, callOf}
+use Rattle.journal.specs.declared.state.State.{State}
+use Rattle.journal.proofs.CallLists.{Eight, issue-zero}
+use Rattle.journal.proofs.Appended.{form-is-appended, state-typed, call-back, text-is, entry-spelled}
+use Rattle.device.specs.Layout.{settingsBytes, figuresBytes, stateBytes, nameAt, settingsAt, keyAt, stateAt, settingsOf, widthOf, stateOf, kept}
+use Rattle.device.specs.Details.{noDetails, dateOf, detailsWith, ofKind, detailsOf, detailsBytes}
+use Rattle.device.specs.Laws.{TypedDetails}
+use Rattle.device.specs.Calls.{Slices, IssueCall, callIn, issueAnswer, issuedNumber, issuedSlices}
+use Rattle.device.specs.Demand.{TypedIssueCall}
+use Rattle.device.specs.ReadBack.{foundIn, answered, readBack}
+use Rattle.device.specs.ReadBackLaws.{readAs, Readable, ReadIsExact, RefusedReadChangesNothing, appended, IssuedIsRead}
+use Rattle.device.proofs.Below.{issued-number}
+use Rattle.device.proofs.Sizes.{good-register, kept-all}
+use Rattle.device.proofs.Writers.{length-settings}
+use Rattle.device.proofs.Spelling.{settings-are-read, state-is-read, bytes-are-kept}
+use Rattle.device.proofs.Zeros.{unopened-gets-six}
+use Rattle.device.proofs.CallsFromC.{settings-typed, call-typed}
+use Rattle.device.proofs.DetailLaws.{details-are-read}
+use Rattle.device.proofs.ReadBackCalls.{Asked, number-zero, zero-number}
+
+-- ---- exactly
+
+-- settings of any length are typed
+none-typed : TypedSettings (unopened .settings)
+unfolding unopened
+none-typed =
+    record {
+      lengths = record { csp = refl; id = refl; serial = refl };
+      bytes = record { csp = bytes-replicate 3 (omega arith); id = bytes-replicate 32 (omega arith); serial = bytes-replicate 32 (omega arith) };
+    }
+
+any-typed : (b : List ℕ) → AllBytes b → TypedSettings (settingsOf b)
+unfolding settingsOf
+any-typed b a = go (eqb (length b) 123) refl
+  where
+    go : (t : Bool) → eqb (length b) 123 ≡ t → TypedSettings (cond t (settingsAt b) (unopened .settings))
+    go true e = subst (λ (t : Bool). TypedSettings (cond t (settingsAt b) (unopened .settings))) e (settings-typed b a (eqb-true (length b) 123 e))
+    go false e = none-typed
+
+-- where nothing is refused, what was found is in the outputs
+module _ (settings form details signature : List ℕ) where
+  pub read-whole : Asked (settingsOf settings) (widthOf settings) (foundIn settings form .ok) (length details) (length signature)
+      → readBack settings form details signature ≡ readAs (callOf (foundIn settings form .entry)) signature
+  unfolding readBack answered
+  read-whole a =
+      let c = callOf (foundIn settings form .entry) in
+      let z = zero-number (settingsOf settings) (widthOf settings) (foundIn settings form .ok) (length details) (length signature) a in
+      λ i. record {
+        number = z i;
+        details = ifZero-yes (detailsBytes (c .details)) details z i;
+        signature = ifZero-yes (overwrite signature 0 (c .signature)) signature z i;
+        length = ifZero-yes (length (c .signature)) 0 z i;
+      }
+
+  module _ (sb : AllBytes settings) (fb : AllBytes form) where
+    t : TypedSettings (settingsOf settings)
+    t = any-typed settings sb
+
+    read-spelled : readBack settings form details signature .number ≡ 0 → Readable settings form details signature
+    unfolding readBack answered foundIn
+    read-spelled z =
+        let a = number-zero (settingsOf settings) (widthOf settings) (foundIn settings form .ok) (length details) (length signature) z in
+        record {
+          good = a .settings;
+          width = a .width;
+          spelled = exact (settingsOf settings) (widthOf settings) form (t .lengths) (t .bytes) fb .0 (a .found);
+          detailsLength = a .detailsLength;
+          signatureLength = a .signatureLength;
+        }
+
+    spelled-read : (w : Readable settings form details signature) → readBack settings form details signature ≡ readAs (callOf (w .spelled .entry)) signature
+    unfolding foundIn
+    spelled-read w =
+        let f : foundIn settings form ≡ record { ok = true; entry = w .spelled .entry } =
+        exact (settingsOf settings) (widthOf settings) form (t .lengths) (t .bytes) fb .1 (w .spelled) in
+        let a : Asked (settingsOf settings) (widthOf settings) (foundIn settings form .ok) (length details) (length signature) =
+        record {
+          settings = w .good;
+          width = w .width;
+          found = ap (λ (x : Found). x .ok) f;
+          detailsLength = w .detailsLength;
+          signatureLength = w .signatureLength;
+        } in
+        read-whole a ∙ ap (λ (x : Found). readAs (callOf (x .entry)) signature) f
+
+pub read-is-exact : ReadIsExact
+read-is-exact settings form details signature sb fb =
+    (read-spelled settings form details signature sb fb, spelled-read settings form details signature sb fb)
+
+pub refused-read-changes-nothing : RefusedReadChangesNothing
+unfolding readBack answered
+refused-read-changes-nothing settings form details signature h =
+    let c = callOf (foundIn settings form .entry) in
+    (ifZero-no _ (detailsBytes (c .details)) details h, ifZero-no _ (overwrite signature 0 (c .signature)) signature h, ifZero-no _ (length (c .signature)) 0 h)
+
+-- ---- what was issued
+
+-- a state that was not refused is 155 bytes long
+state-long : (b : List ℕ) (d : Details) (sig : List ℕ) (room : ℕ) → issueNumber (stateOf b) d sig room ≡ 0 → length b ≡ 155
+unfolding stateOf
+state-long b d sig room z = go (eqb (length b) 155) refl z
+  where
+    go : (t : Bool) → eqb (length b) 155 ≡ t → issueNumber (cond t (stateAt b) unopened) d sig room ≡ 0 → length b ≡ 155
+    go true e q = eqb-true (length b) 155 e
+    go false e q = absurd (omega (arith, q, unopened-gets-six d sig room .0))
+
+module _ (b : List ℕ) (a : AllBytes b) (l : length b ≡ 155) where
+  state-settings : TypedSettings (stateOf b .settings)
+  unfolding stateOf stateAt settingsAt nameAt
+  state-settings =
+      rw (eq-eqb (length b) 155 l) (record {
+        lengths = record { csp = part-length b a 0 3 (omega arith); id = part-length b a 3 32 (omega arith); serial = part-length b a 43 32 (omega arith) };
+        bytes = record { csp = bytes-take 3 (bytes-drop 0 a); id = bytes-take 32 (bytes-drop 3 a); serial = bytes-take 32 (bytes-drop 43 a) };
+      })
+
+  state-key : Eight (stateOf b .chain) × (length (stateOf b .key) ≡ 32) × AllBytes (stateOf b .key)
+  unfolding stateOf stateAt keyAt
+  state-key =
+      rw (eq-eqb (length b) 155 l)
+      (record { long = part-length b a 139 8 (omega arith); bytes = bytes-take 8 (bytes-drop 139 a) }, part-length b a 91 32 (omega arith), bytes-take 32 (bytes-drop 91 a))
+
+  -- its first 123 bytes are its settings
+  first-settings : take 123 b ≡ settingsBytes (stateOf b .settings) (stateOf b .width) (stateOf b .key)
+  unfolding stateBytes
+  first-settings =
+      let st = stateOf b in
+      ap (take 123) (sym (bytes-are-kept b a l))
+      ∙ take-at (settingsBytes (st .settings) (st .width) (st .key)) (figuresBytes st) 123
+      (length-settings (st .settings) (state-settings .lengths) (st .width) (st .key) (state-key .1))
+
+-- ---- the details of a call are typed, whatever its kind
+
+none-detailed : TypedDetails noDetails
+unfolding noDetails
+none-detailed =
+    record {
+      number = omega arith;
+      year = omega arith;
+      month = omega arith;
+      day = omega arith;
+      hour = omega arith;
+      minute = omega arith;
+      second = omega arith;
+      five = refl;
+      amounts = λ i h. ap (fitsIn 8) (getD-replicate 5 i (pos 0) (pos 0) h) ∙ fits-64 (pos 0) ∙ lt-ltb 0 (2 ^ 63) (omega arith);
+    }
+
+amounts-fit : (c : IssueCall) → TypedIssueCall c → (i : ℕ) → i < 5
+    → fitsIn 8 (getD (c .standard ∷ c .reduced1 ∷ c .reduced2 ∷ c .zero ∷ c .special ∷ []) i (pos 0)) ≡ true
+amounts-fit c t zero h = t .standard
+amounts-fit c t (suc zero) h = t .reduced1
+amounts-fit c t (suc (suc zero)) h = t .reduced2
+amounts-fit c t (suc (suc (suc zero))) h = t .zero
+amounts-fit c t (suc (suc (suc (suc zero)))) h = t .special
+amounts-fit c t (suc (suc (suc (suc (suc i))))) h = absurd (omega arith)
+
+kind-typed : (number : ℕ) (date : DateTime) (amounts : List ℤ) (kind : ℕ) → ((k : Kind) → TypedDetails (detailsWith number date amounts k))
+    → TypedDetails (ofKind number date amounts kind)
+unfolding ofKind
+kind-typed number date amounts kind t = go (eqb kind 0) (eqb kind 1) (eqb kind 2)
+  where
+    go : (x y z : Bool)
+        → TypedDetails (cond x (detailsWith number date amounts Standard) (cond y (detailsWith number date amounts Cancellation) (cond z (detailsWith number date amounts Training) noDetails)))
+    go true y z = t Standard
+    go false true z = t Cancellation
+    go false false true = t Training
+    go false false false = none-detailed
+
+details-typed : (c : IssueCall) → TypedIssueCall c → TypedDetails (callIn c .details)
+unfolding callIn detailsOf dateOf detailsWith
+details-typed c t =
+    kind-typed (c .number) (dateOf (c .year) (c .month) (c .day) (c .hour) (c .minute) (c .second)) (c .standard ∷ c .reduced1 ∷ c .reduced2 ∷ c .zero ∷ c .special ∷ []) (c .kind)
+    (λ k. record {
+      number = t .number;
+      year = t .year;
+      month = t .month;
+      day = t .day;
+      hour = t .hour;
+      minute = t .minute;
+      second = t .second;
+      five = refl;
+      amounts = amounts-fit c t;
+    })
+
+module _ (g : Slices) (a : AllBytes (g .state)) (few : length (g .journal) < 18446744073709551616) (c : IssueCall) (t : TypedIssueCall c)
+    (z : issuedNumber g c ≡ 0) where
+  st : State
+  st = stateOf (g .state)
+
+  d : Details
+  d = callIn c .details
+
+  zero-is : issueNumber st d (c .signature) (length (g .journal)) ≡ 0
+  unfolding issuedNumber issueAnswer st d
+  zero-is = sym (issued-number st d (c .signature) (length (g .journal))) ∙ z
+
+  long : length (g .state) ≡ 155
+  unfolding st d
+  long = state-long (g .state) d (c .signature) (length (g .journal)) zero-is
+
+  typed : TypedRegister (st .settings) (st .width) (st .key)
+  unfolding st
+  typed =
+      let s = issue-zero st d (c .signature) (length (g .journal)) zero-is .sound in
+      let k = state-key (g .state) a long in
+      good-register (st .settings) (st .width) (st .key) (state-settings (g .state) a long .lengths) (s .settings) (s .width) (k .1) (k .2)
+
+  entry : Entry
+  unfolding st d
+  entry = entryOf st d (c .signature)
+
+  entry-good : TypedEntry entry × (spellable (st .settings) (st .width) entry ≡ true)
+  unfolding st d entry callIn
+  entry-good =
+      let k = state-key (g .state) a long in
+      let tc = call-typed c t in
+      entry-spelled st d (c .signature) (length (g .journal)) (k .2) (k .0) (tc .number) (tc .amounts) (tc .bytes) zero-is
+
+  appended-is : appended g c ≡ textOf st d (c .signature)
+  unfolding appended issuedSlices issueAnswer st d callIn
+  appended-is =
+      let x = issued st d (c .signature) (length (g .journal)) .state in
+      let f = form-is-appended st d (c .signature) (g .journal) zero-is in
+      let e : stateOf (kept (g .state) x) ≡ x =
+      ap stateOf (kept-all (g .state) x long) ∙ state-is-read x (state-typed st d (c .signature) (length (g .journal)) typed (call-typed c t .number) few zero-is) in
+      let m : stateOf (kept (g .state) x) .length - (st .length + 2) ≡ length (textOf st d (c .signature)) = omega (arith, ap (λ (y : State). y .length) e, f .0) in
+      ap (λ (k : ℕ). take k (drop (st .length + 2) (issueBuffer st d (c .signature) (g .journal)))) m ∙ f .1
+
+  settings-are : (settingsOf (take 123 (g .state)) ≡ st .settings) × (widthOf (take 123 (g .state)) ≡ st .width)
+  unfolding st
+  settings-are =
+      let e = first-settings (g .state) a long in
+      let r = settings-are-read (st .settings) (st .width) (st .key) typed in
+      (ap settingsOf e ∙ r .0, ap widthOf e ∙ r .1)
+
+  call-is : callOf entry ≡ callIn c
+  unfolding st d entry callIn
+  call-is = call-back st d (c .signature)
+
+  spelled : Spelled (settingsOf (take 123 (g .state))) (widthOf (take 123 (g .state))) (appended g c)
+  unfolding st d entry
+  spelled =
+      let e = settings-are in
+      record {
+        entry = entry;
+        typed = entry-good .0;
+        spellable = (λ i. spellable (e .0 i) (e .1 i) entry) ∙ entry-good .1;
+        is = appended-is ∙ text-is st d (c .signature) ∙ (λ i. compact (sym (e .0) i) (sym (e .1) i) entry);
+      }
+
+  readable : (details signature : List ℕ) → length details ≡ 72 → length signature ≡ 64 → Readable (take 123 (g .state)) (appended g c) details signature
+  unfolding st
+  readable details signature ld ls =
+      let s = issue-zero st d (c .signature) (length (g .journal)) zero-is .sound in
+      let e = settings-are in
+      record { good = ap settingsGood (e .0) ∙ s .settings; width = ap widthGood (e .1) ∙ s .width; spelled = spelled; detailsLength = ld; signatureLength = ls }
+
+  appended-bytes : AllBytes (appended g c)
+  appended-bytes = subst AllBytes (sym (spelled .is)) (compact-bytes (settingsOf (take 123 (g .state))) (widthOf (take 123 (g .state))) (spelled .entry))
+
+  read-again : (details signature : List ℕ) → length details ≡ 72 → length signature ≡ 64
+      → readBack (take 123 (g .state)) (appended g c) details signature ≡ readAs (callIn c) signature
+  unfolding readable spelled
+  read-again details signature ld ls =
+      read-is-exact (take 123 (g .state)) (appended g c) details signature (bytes-take 123 a) appended-bytes .1 (readable details signature ld ls)
+      ∙ ap (λ (k : Call). readAs k signature) call-is
+
+pub issued-is-read : IssuedIsRead
+issued-is-read g a few c t z details signature ld ls =
+    (read-again g a few c t z details signature ld ls, details-are-read (callIn c .details) (details-typed c t) .1)

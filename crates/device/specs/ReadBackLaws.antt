@@ -1,0 +1,56 @@
+-- What holds of a receipt that is read back. Proved in proofs/ReadBackLaws.antt.
+use Prim.Native.Nat.{ℕ, _+_, _-_, _<_}
+use mathlib.Core.Path.{_≡_}
+use mathlib.Core.Bool.{true}
+use mathlib.Core.List.{List}
+use lib.ListN.{length, take, drop}
+use Rattle.primitives.specs.Bytes.{AllBytes}
+use Rattle.primitives.specs.Counter.{widthGood}
+use Rattle.primitives.specs.Place.{overwrite}
+use Rattle.receipt.specs.Settings.{settingsGood}
+use Rattle.receipt.specs.Exact.{Spelled}
+use Rattle.journal.specs.Calls.{Call, callOf}
+use Rattle.device.specs.Layout.{settingsOf, widthOf, stateOf}
+use Rattle.device.specs.Details.{detailsBytes, detailsIn}
+use Rattle.device.specs.Calls.{Slices, IssueCall, callIn, issuedNumber, issuedSlices}
+use Rattle.device.specs.Demand.{TypedIssueCall}
+use Rattle.device.specs.ReadBack.{ReadBack, readBack}
+
+-- what ditgrux_read answers and leaves where this call issued the receipt
+abbrev pub readAs : Call → List ℕ → ReadBack
+readAs c signature = record { number = 0; details = detailsBytes (c .details); signature = overwrite signature 0 (c .signature); length = length (c .signature) }
+
+-- it returns 0 exactly where the settings are good, the outputs have their lengths and the form is the compact form of an entry under these settings,
+-- and then its outputs hold the details of that entry, and its signature
+pub record Readable (settings form details signature : List ℕ) : Type 0 where
+  pub good : settingsGood (settingsOf settings) ≡ true
+  pub width : widthGood (widthOf settings) ≡ true
+  pub spelled : Spelled (settingsOf settings) (widthOf settings) form
+  pub detailsLength : length details ≡ 72
+  pub signatureLength : length signature ≡ 64
+
+abbrev pub ReadIsExact : Type 0
+ReadIsExact =
+    (settings form details signature : List ℕ) → AllBytes settings → AllBytes form
+    → (readBack settings form details signature .number ≡ 0 → Readable settings form details signature)
+    × ((w : Readable settings form details signature) → readBack settings form details signature ≡ readAs (callOf (w .spelled .entry)) signature)
+
+-- refused, it leaves both outputs as they were, with length 0
+abbrev pub RefusedReadChangesNothing : Type 0
+RefusedReadChangesNothing =
+    (settings form details signature : List ℕ) → (readBack settings form details signature .number ≡ 0 → ⊥)
+    → (readBack settings form details signature .details ≡ details) × (readBack settings form details signature .signature ≡ signature)
+    × (readBack settings form details signature .length ≡ 0)
+
+-- the compact form that a call of ditgrux_issue appended: from two bytes after the old length of the journal up to the new one
+unfoldable pub appended : Slices → IssueCall → List ℕ
+appended g c =
+    take (stateOf (issuedSlices g c .state) .length - (stateOf (g .state) .length + 2)) (drop (stateOf (g .state) .length + 2) (issuedSlices g c .journal))
+
+-- what ditgrux_issue was given, where it returned 0, ditgrux_read gives back, under the settings in the state: details and signature
+abbrev pub IssuedIsRead : Type 0
+IssuedIsRead =
+    (g : Slices) → AllBytes (g .state) → length (g .journal) < 18446744073709551616 → (c : IssueCall) → TypedIssueCall c → issuedNumber g c ≡ 0
+    → (details signature : List ℕ) → length details ≡ 72 → length signature ≡ 64
+    → (readBack (take 123 (g .state)) (appended g c) details signature ≡ readAs (callIn c) signature)
+    × (detailsIn (detailsBytes (callIn c .details)) ≡ callIn c .details)

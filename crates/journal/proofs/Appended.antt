@@ -1,0 +1,124 @@
+-- What Issue appends: where it stands, and that it is read as what Issue was given.
+use Prim.Native.Nat.{ℕ, _+_, _^_, _<_}
+use mathlib.Core.Path.{_≡_, refl, sym, ap, _∙_, subst}
+use mathlib.Core.Bool.{Bool, true, false, cond}
+use mathlib.Core.List.{List, [], _∷_}
+use native.Mathlib.Omega.{arith}
+use borrow.Author.Tests.{eqb-true, lt-ltb}
+use lib.Dec.{eqb}
+use lib.IntN.{_+ℤ_}
+use lib.ListN.{length, take, drop, replicate}
+use lib.Signed.{mag}
+use Rattle.primitives.specs.Bytes.{AllBytes}
+use Rattle.primitives.specs.Counter.{fitsIn}
+use Rattle.primitives.specs.Place.{overwrite}
+use Rattle.primitives.specs.Number.{bytesOf}
+use Rattle.primitives.proofs.Numbers.{length-bytesOf}
+use Rattle.primitives.proofs.Over.{length-over}
+use Rattle.primitives.proofs.Rewrites.{over-comm}
+use Rattle.primitives.proofs.Rows.{ifZero-yes}
+use Rattle.primitives.proofs.Twos.{width-true, half-small, fits-below, fits-64, counted as counted-in}
+use Rattle.receipt.specs.Details.{counted}
+use Rattle.receipt.specs.Compact.{compact, spellable, TypedEntry}
+use Rattle.receipt.specs.declared.details.Details.{Details}
+use Rattle.receipt.specs.declared.details.After.{After}
+use Rattle.receipt.specs.declared.entry.Signature.{Signature}
+use Rattle.journal.specs.Head.{entryText}
+use Rattle.journal.specs.State.{settingsNow, countPlaceNow, TypedRegister, TypedState}
+use Rattle.journal.specs.Step.{fieldsOf, next}
+use Rattle.journal.specs.Issuing.{givenSignature, entryOf, textOf, issueNumber, issued, withEntry, issueBuffer}
+use Rattle.journal.specs.Calls.{callOf}
+use Rattle.journal.specs.Demands.{FormIsAppended}
+use Rattle.journal.specs.declared.state.State.{State}
+use Rattle.journal.proofs.Places.{length-entry}
+use Rattle.journal.proofs.Check.{new-fits, new-is}
+use Rattle.journal.proofs.CallLists.{Eight, chain-eight, Answered, issue-zero, call-spellable, entry-typed}
+use Rattle.journal.proofs.IssueCalls.{entry-text}
+use Rattle.journal.proofs.Touching.{place-head}
+
+-- ---- where it stands
+
+module _ (st : State) (d : Details) (sig buf : List ℕ) (z : issueNumber st d sig (length buf) ≡ 0) where
+  a : Answered st d sig (length buf)
+  a = issue-zero st d sig (length buf) z
+
+  new-length : issued st d sig (length buf) .state .length ≡ st .length + 2 + length (textOf st d sig)
+  unfolding issued next
+  new-length = ap (λ (x : State). x .length) (ifZero-yes (next st d (textOf st d sig)) st z) ∙ omega (arith, length-entry (textOf st d sig))
+
+  -- the count is rewritten before the entry
+  after-count : issueBuffer st d sig buf ≡ overwrite (overwrite buf (countPlaceNow st) (bytesOf 4 (st .issued + 1))) (st .length) (entryText (textOf st d sig))
+  unfolding issueBuffer withEntry
+  after-count =
+      let t = entryText (textOf st d sig) in
+      let n = bytesOf 4 (st .issued + 1) in
+      let l = length-bytesOf 4 (st .issued + 1) in
+      ifZero-yes (withEntry st (textOf st d sig) buf) buf z
+      ∙ sym (over-comm buf (countPlaceNow st) n (st .length) t (omega (arith, place-head (st .settings), a .sound .head)) (a .fits))
+
+  there : take (length (textOf st d sig)) (drop (st .length + 2) (issueBuffer st d sig buf)) ≡ textOf st d sig
+  there =
+      let b = overwrite buf (countPlaceNow st) (bytesOf 4 (st .issued + 1)) in
+      let l : length b ≡ length buf =
+      length-over buf (countPlaceNow st) (bytesOf 4 (st .issued + 1)) (omega (arith, place-head (st .settings), a .sound .head, a .within, length-bytesOf 4 (st .issued + 1))) in
+      ap (λ (x : List ℕ). take (length (textOf st d sig)) (drop (st .length + 2) x)) after-count
+      ∙ entry-text b (textOf st d sig) (st .length) (omega (arith, a .fits))
+
+pub form-is-appended : FormIsAppended
+form-is-appended st d sig buf z = (new-length st d sig buf z, there st d sig buf z)
+
+-- ---- the state after it
+
+-- what the code's types say of it, in a buffer whose length is a number of 64 bits
+pub state-typed : (st : State) (d : Details) (sig : List ℕ) (room : ℕ) → TypedRegister (st .settings) (st .width) (st .key) → d .number < 4294967296
+    → room < 18446744073709551616 → issueNumber st d sig room ≡ 0 → TypedState (issued st d sig room .state)
+unfolding issued next
+state-typed st d sig room t number few z =
+    let a = issue-zero st d sig room z in
+    let v = st .counter +ℤ counted d in
+    let f = counted-in (st .width) v (new-fits st d (a .details .counter) .fits) in
+    let fits : fitsIn 8 v ≡ true =
+    fits-64 v ∙ lt-ltb (mag v) (2 ^ 63) (omega (arith, fits-below (st .width) v (f .fits), half-small (st .width) (width-true (st .width) (f .width) .most))) in
+    let chain = chain-eight (textOf st d sig) in
+    subst TypedState (sym (ifZero-yes (next st d (textOf st d sig)) st z)) (record {
+      register = t;
+      counter = ap (λ (x : After). fitsIn 8 (x .counter)) (new-is st d (a .details .counter)) ∙ fits;
+      last = number;
+      issued = omega (arith, a .sound .issued, a .details .above);
+      chain = chain .long;
+      chainBytes = chain .bytes;
+      length = omega (arith, a .fits);
+    })
+
+-- ---- what it spells
+
+-- the call that issues the entry of a call is that call
+empty : (xs : List ℕ) → length xs ≡ 0 → [] ≡ xs
+empty [] e = refl
+empty (x ∷ xs) e = absurd (omega arith)
+
+given-back : (sig : List ℕ) → cond (givenSignature sig .failed) [] (givenSignature sig .bytes) ≡ sig
+unfolding givenSignature
+given-back sig = go (eqb (length sig) 0) refl
+  where
+    choose : Bool → Signature
+    choose t = cond t (record { failed = true; bytes = replicate 64 0 }) (record { failed = false; bytes = sig })
+
+    go : (t : Bool) → eqb (length sig) 0 ≡ t → cond (choose t .failed) [] (choose t .bytes) ≡ sig
+    go true e = empty sig (eqb-true (length sig) 0 e)
+    go false e = refl
+
+pub call-back : (st : State) (d : Details) (sig : List ℕ) → callOf (entryOf st d sig) ≡ record { details = d; signature = sig }
+unfolding callOf entryOf fieldsOf
+call-back st d sig = λ i. record { details = d; signature = given-back sig i }
+
+-- the text of a call is the compact form of its entry, which can be spelled where the call is accepted
+pub text-is : (st : State) (d : Details) (sig : List ℕ) → textOf st d sig ≡ compact (settingsNow st) (st .width) (entryOf st d sig)
+unfolding textOf
+text-is st d sig = refl
+
+pub entry-spelled : (st : State) (d : Details) (sig : List ℕ) (room : ℕ) → AllBytes (st .key) → Eight (st .chain) → d .number < 4294967296 → length (d .amounts) ≡ 5
+    → AllBytes sig → issueNumber st d sig room ≡ 0 → TypedEntry (entryOf st d sig) × (spellable (settingsNow st) (st .width) (entryOf st d sig) ≡ true)
+entry-spelled st d sig room key chain number amounts bytes z =
+    let a = issue-zero st d sig room z in
+    (entry-typed st d sig (a .sound) (a .details) (a .signature) key chain number amounts bytes, call-spellable st d sig (a .sound) (a .details) (a .signature))

@@ -1,0 +1,116 @@
+/* Prints the receipts of a journal again. It reads the journal from a file, walks its entries as the header describes, and reads each
+ * receipt back. Each line has the number, date and time, kind, the five amounts in cents, and whether the device had signed.
+ *
+ *     cc -Iinclude examples/reprint.c target/staticlib/libdevice.a -o reprint
+ *     ./reprint JOURNAL WIDTH          WIDTH: bytes of the register's turnover counter, 5 to 8
+ *
+ * To find out whether the journal is good, take it over. This program only reads.
+ */
+#include "ditgrux.h"
+
+#include <inttypes.h>
+#include <stdio.h>
+#include <stdlib.h>
+
+/* What is left of the file: every number and text is taken from its front. */
+struct reader {
+    const uint8_t *bytes;
+    size_t left;
+    int good; /* 0 once something was not there */
+};
+
+static const uint8_t *take(struct reader *r, size_t count)
+{
+    const uint8_t *front = r->bytes;
+    if (r->left < count) {
+        r->good = 0;
+        count = r->left;
+    }
+    r->bytes += count;
+    r->left -= count;
+    return front;
+}
+
+/* A big-endian number of so many bytes; 0 where it is not there. */
+static size_t number(struct reader *r, size_t count)
+{
+    const uint8_t *bytes = take(r, count);
+    size_t value = 0;
+    while (r->good && count-- > 0)
+        value = value << 8 | *bytes++;
+    return value;
+}
+
+/* The settings of the register, from the head of its journal. Reading needs no key, so it is left at zeros. */
+static uint32_t settings_of(struct reader *r, size_t width, uint8_t settings[DITGRUX_SETTINGS])
+{
+    static const uint8_t key[DITGRUX_KEY] = {0};
+    const uint8_t *part[3];
+    size_t length[3], i;
+    for (i = 0; i < 3; i++) { /* CSP, ID, serial */
+        length[i] = number(r, 4);
+        part[i] = take(r, length[i]);
+    }
+    if (!r->good)
+        return DITGRUX_BAD_HEAD;
+    return ditgrux_settings(part[0], length[0], part[1], length[1], part[2], length[2], width, key, sizeof key, settings,
+                            DITGRUX_SETTINGS);
+}
+
+static void print(const struct ditgrux_details *d, int signed_by_device)
+{
+    static const char *const kinds[] = {"standard", "cancellation", "training"};
+    printf("%" PRIu32 " %04" PRIu32 "-%02" PRIu32 "-%02" PRIu32 " %02" PRIu32 ":%02" PRIu32 ":%02" PRIu32 " %s", d->number, d->year,
+           d->month, d->day, d->hour, d->minute, d->second, kinds[d->kind]);
+    printf(" %" PRId64 " %" PRId64 " %" PRId64 " %" PRId64 " %" PRId64 " %s\n", d->standard, d->reduced_1, d->reduced_2, d->zero,
+           d->special, signed_by_device ? "signed" : "device failed");
+}
+
+/* Prints the next receipt. Returns 0, or the number of its refusal. */
+static uint32_t reprint_entry(struct reader *r, const uint8_t settings[DITGRUX_SETTINGS])
+{
+    uint8_t signature[DITGRUX_SIGNATURE];
+    struct ditgrux_details details;
+    size_t form_length = number(r, 2), signed_bytes;
+    const uint8_t *form = take(r, form_length);
+    uint32_t refused;
+    if (!r->good)
+        return DITGRUX_ENTRY_CUT;
+    refused = ditgrux_read_details(settings, DITGRUX_SETTINGS, form, form_length, &details, signature, &signed_bytes);
+    if (!refused)
+        print(&details, signed_bytes != 0);
+    return refused;
+}
+
+/* Prints the receipts up to the first that is refused. Returns its number, and says which entry it is; 0 where there is none. */
+static uint32_t reprint(struct reader *r, size_t width)
+{
+    uint8_t settings[DITGRUX_SETTINGS];
+    uint32_t refused = settings_of(r, width, settings);
+    size_t entry, receipts = number(r, 4);
+    if (refused)
+        return refused;
+    for (entry = 0; entry < receipts && !refused; entry++)
+        refused = reprint_entry(r, settings);
+    if (refused)
+        fprintf(stderr, "entry %zu: ", entry - 1);
+    return refused;
+}
+
+int main(int count, char **arguments)
+{
+    static uint8_t journal[1 << 20];
+    struct reader r = {journal, 0, 1};
+    FILE *file = count == 3 ? fopen(arguments[1], "rb") : NULL;
+    uint32_t refused;
+    if (file == NULL) {
+        fprintf(stderr, "usage: reprint JOURNAL WIDTH\n");
+        return 2;
+    }
+    r.left = fread(journal, 1, sizeof journal, file);
+    fclose(file);
+    refused = reprint(&r, strtoul(arguments[2], NULL, 10));
+    if (refused)
+        fprintf(stderr, "refused %u\n", (unsigned)refused);
+    return refused ? 1 : 0;
+}
