@@ -19,7 +19,7 @@ use Rattle.primitives.specs.Questions.{ask, ifZero}
 use Rattle.journal.specs.Checking.{headNumber, refused, accepted, takeOver, lastAnswer, steps}
 use Rattle.journal.proofs.Remaining.{checkFrom, steps-check}
 use Rattle.journal.specs.Receipts.{receiptsIn, sum}
-use Rattle.journal.specs.Valid.{Right, RightBehind, Valid, texts, lastOf, chainOf}
+use Rattle.journal.specs.Valid.{Right, RightAfter, Valid, texts, lastOf, chainOf}
 use Rattle.journal.specs.declared.state.State.{State}
 use Rattle.journal.specs.declared.state.TakenOver.{TakenOver}
 use Rattle.primitives.proofs.Rows.{ask-zero}
@@ -63,18 +63,18 @@ module _ (s : Settings) (key : List ℕ) (n : ℕ) where
 
   -- ---- valid journals
 
-  from-fresh : (before : List Entry) (e : Entry) → RightFrom (fresh s n key) before e ≡ RightBehind s key n before e
+  from-fresh : (before : List Entry) (e : Entry) → RightFrom (fresh s n key) before e ≡ RightAfter s key n before e
   unfolding fresh
   from-fresh before e =
       λ i. Right s key n (lastOf 0 before) (zero-add (length before) i) (+ℤ-idl (sum (receiptsIn before)) i) (chainOf s n (chainValue (nameText (s .id))) before) e
 
   pub fresh-each : (es : List Entry) → AllRight (fresh s n key) es
-      → (before : List Entry) (e : Entry) (behind : List Entry) → es ≡ before ++ (e ∷ behind) → RightBehind s key n before e
-  fresh-each es h before e behind q = transport (from-fresh before e) (all-each es (fresh s n key) h before e behind q)
+      → (before : List Entry) (e : Entry) (later : List Entry) → es ≡ before ++ (e ∷ later) → RightAfter s key n before e
+  fresh-each es h before e later q = transport (from-fresh before e) (all-each es (fresh s n key) h before e later q)
 
-  pub each-fresh : (es : List Entry) → ((before : List Entry) (e : Entry) (behind : List Entry) → es ≡ before ++ (e ∷ behind) → RightBehind s key n before e)
+  pub each-fresh : (es : List Entry) → ((before : List Entry) (e : Entry) (later : List Entry) → es ≡ before ++ (e ∷ later) → RightAfter s key n before e)
       → AllRight (fresh s n key) es
-  each-fresh es h = each-all es (fresh s n key) (λ before e behind q. transport (sym (from-fresh before e)) (h before e behind q))
+  each-fresh es h = each-all es (fresh s n key) (λ before e later q. transport (sym (from-fresh before e)) (h before e later q))
 
 -- the entries of a valid journal, all right from the fresh state on
 pub valid-right : {j key : List ℕ} {n : ℕ} (v : Valid j key n) → AllRight (fresh (v .settings) n key) (v .entries)

@@ -18,7 +18,7 @@ use Rattle.primitives.proofs.ByteLists.{bytes-replicate}
 use Rattle.primitives.proofs.Cipher.{schedule-bytes}
 use Rattle.primitives.proofs.Numbers.{length-bytesOf}
 use Rattle.primitives.proofs.Over.{length-over, before-over, read-over}
-use Rattle.primitives.proofs.Rewrites.{take-behind, over-middle}
+use Rattle.primitives.proofs.Rewrites.{take-after, over-middle}
 use Rattle.receipt.specs.Settings.{settingsGood}
 use Rattle.receipt.specs.Payload.{counterGood}
 use Rattle.receipt.specs.DateTime.{dateGood}
@@ -34,7 +34,7 @@ use Rattle.receipt.specs.declared.entry.Entry.{Entry}
 use Rattle.receipt.specs.declared.entry.Signature.{Signature}
 use Rattle.primitives.proofs.Rows.{both, true-is-not-false, ask-zero}
 use Rattle.receipt.proofs.Names.{good-sized}
-use Rattle.receipt.proofs.Chains.{length-chain, bytes-chain, length-encrypted, bytes-encrypted, behind-encrypted, decrypt-back}
+use Rattle.receipt.proofs.Chains.{length-chain, bytes-chain, length-encrypted, bytes-encrypted, after-encrypted, decrypt-back}
 use Rattle.journal.specs.Head.{head, entryText, front}
 use Rattle.primitives.specs.Questions.{ask, ifZero}
 use Rattle.journal.specs.Step.{soundAlone, sound, numberAbove, firstGood, newCounter, detailsNumber, fieldsOf, next}
@@ -43,7 +43,7 @@ use Rattle.journal.specs.Receipts.{receiptsIn, sum}
 use Rattle.journal.specs.Valid.{texts}
 use Rattle.journal.specs.Calls.{Call, TypedCall, none, more}
 use Rattle.journal.specs.declared.state.State.{State}
-use Rattle.receipt.proofs.Entries.{spellable-yes, behind-counter, none-counter, failed-zero, signed-zero}
+use Rattle.receipt.proofs.Entries.{spellable-yes, after-counter, none-counter, failed-zero, signed-zero}
 use Rattle.journal.proofs.Heads.{head-front}
 use Rattle.journal.proofs.Check as check
 use Rattle.journal.proofs.Check.{RightAt, textIn, step, AllRight, run, run-length, step-counter, step-sum, above-true, first-true, new-fits, new-is}
@@ -139,7 +139,7 @@ module _ (s : Settings) (k : ℕ) (t e buf : List ℕ) (len place : ℕ) (at : l
   written-bytes =
       let l = length-bytesOf 4 (k + 1) in
       let m : length (bytesOf 4 k) ≡ length (bytesOf 4 (k + 1)) = length-bytesOf 4 k ∙ sym l in
-      take-behind (overwrite buf len e) place (bytesOf 4 (k + 1)) (len + length e) (omega arith) (omega (arith, long))
+      take-after (overwrite buf len e) place (bytesOf 4 (k + 1)) (len + length e) (omega arith) (omega (arith, long))
       ∙ (λ i. overwrite (appended i) (sym at i) (bytesOf 4 (k + 1)))
       ∙ over-middle (front s) (bytesOf 4 k) (t ++ e) (bytesOf 4 (k + 1)) m
       ∙ sym (append-assoc (front s) (bytesOf 4 (k + 1)) (t ++ e))
@@ -284,7 +284,7 @@ module _ (st : State) (d : Details) where
   counter-good = go (d .kind)
     where
       go : (k : Kind) → counterGood (st .width) k (cond (standard k) (encryptedCounter (keySchedule (st .key)) (settingsNow st .id) (d .number) (st .width) (newCounter st d .counter)) (replicate 8 0)) ≡ true
-      go Standard = behind-counter (st .width) _ (behind-encrypted (keySchedule (st .key)) (settingsNow st .id) (d .number) (st .width) (newCounter st d .counter))
+      go Standard = after-counter (st .width) _ (after-encrypted (keySchedule (st .key)) (settingsNow st .id) (d .number) (st .width) (newCounter st d .counter))
       go Cancellation = none-counter (st .width) Cancellation refl
       go Training = none-counter (st .width) Training refl
 

@@ -315,7 +315,7 @@ RightFrom st before e =
     (chainOf (settingsNow st) (st .width) (st .chain) before) e
 
 abbrev pub EachRight : State → List Entry → Type 0
-EachRight st es = (before : List Entry) (e : Entry) (behind : List Entry) → es ≡ before ++ (e ∷ behind) → RightFrom st before e
+EachRight st es = (before : List Entry) (e : Entry) (later : List Entry) → es ≡ before ++ (e ∷ later) → RightFrom st before e
 
 pub step-counter : (st : State) (e : Entry) → RightAt st e → step st e .counter ≡ st .counter +ℤ counted (e .fields .details)
 unfolding next
@@ -345,15 +345,15 @@ unfolding lastOf chainOf sum receiptsIn
 none-before st e = λ i. Right (settingsNow st) (st .key) (st .width) (st .last) (add-zero (st .issued) i) (+ℤ-idr (st .counter) i) (st .chain) e
 
 pub all-each : (es : List Entry) (st : State) → AllRight st es → EachRight st es
-all-each [] st none [] e behind q = absurd (let z : _≡_ {A = ℕ} 0 1 = cc in omega arith)
-all-each [] st none (x ∷ before) e behind q = absurd (let z : _≡_ {A = ℕ} 0 1 = cc in omega arith)
-all-each (x ∷ es) st (more h hs) [] e behind q =
+all-each [] st none [] e later q = absurd (let z : _≡_ {A = ℕ} 0 1 = cc in omega arith)
+all-each [] st none (x ∷ before) e later q = absurd (let z : _≡_ {A = ℕ} 0 1 = cc in omega arith)
+all-each (x ∷ es) st (more h hs) [] e later q =
     let p : x ≡ e = cc in
     transport (sym (none-before st e)) (subst (RightAt st) p h)
-all-each (x ∷ es) st (more h hs) (y ∷ before) e behind q =
+all-each (x ∷ es) st (more h hs) (y ∷ before) e later q =
     let p : x ≡ y = cc in
-    let p′ : es ≡ before ++ (e ∷ behind) = cc in
-    let w = all-each es (step st x) hs before e behind p′ in
+    let p′ : es ≡ before ++ (e ∷ later) = cc in
+    let w = all-each es (step st x) hs before e later p′ in
     subst (λ (v : Entry). RightFrom st (v ∷ before) e) p (transport (one-more st x before e h) w)
 
 pub each-all : (es : List Entry) (st : State) → EachRight st es → AllRight st es
@@ -361,4 +361,4 @@ each-all [] st h = none
 each-all (e ∷ es) st h =
     let r : RightAt st e = transport (none-before st e) (h [] e es refl) in
     more r
-    (each-all es (step st e) (λ before x behind q. transport (sym (one-more st e before x r)) (h (e ∷ before) x behind (ap (λ (l : List Entry). e ∷ l) q))))
+    (each-all es (step st e) (λ before x later q. transport (sym (one-more st e before x r)) (h (e ∷ before) x later (ap (λ (l : List Entry). e ∷ l) q))))

@@ -66,7 +66,7 @@ module _ {j key : List ℕ} {n : ℕ} (v : Valid j key n) (kept dropped : List E
               entries = kept;
               few = fewer;
               bytes = refl;
-              each = λ before e behind p. v .each before e (behind ++ dropped) (q ∙ (ap (λ (l : List Entry). l ++ dropped) p ∙ append-assoc before (e ∷ behind) dropped));
+              each = λ before e later p. v .each before e (later ++ dropped) (q ∙ (ap (λ (l : List Entry). l ++ dropped) p ∙ append-assoc before (e ∷ later) dropped));
             };
         entries = refl;
       }

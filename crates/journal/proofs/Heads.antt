@@ -145,8 +145,8 @@ module _ (s : Settings) (t : SettingsLengths s) (g : settingsGood s ≡ true) wh
         let m = length-head k in
         rw (read-three, read-settings, le-leb (countPlaceIn (head s k ++ more) + 4) (length (head s k ++ more)) (omega (arith, place-four))) g
 
-    pub behind-head : drop (headLength s) (head s k ++ more) ≡ more
-    behind-head = drop-at (head s k) more (headLength s) (length-head k)
+    pub after-head : drop (headLength s) (head s k ++ more) ≡ more
+    after-head = drop-at (head s k) more (headLength s) (length-head k)
 
 -- ---- a good head is the head of what was read in it
 

@@ -13,7 +13,7 @@ use Rattle.receipt.specs.declared.settings.Settings.{Settings}
 use Rattle.receipt.specs.declared.entry.Entry.{Entry}
 use Rattle.journal.specs.Head.{head, entryText}
 use Rattle.journal.specs.Receipts.{receiptsIn, sum}
-use Rattle.journal.specs.Valid.{Counted, RightBehind, texts, lastOf, chainOf}
+use Rattle.journal.specs.Valid.{Counted, RightAfter, texts, lastOf, chainOf}
 
 -- 14: the journal starts with a good head, which says k entries
 pub record Headed (j : List ℕ) (s : Settings) (k : ℕ) (more : List ℕ) : Type 0 where
@@ -26,7 +26,7 @@ pub record Headed (j : List ℕ) (s : Settings) (k : ℕ) (more : List ℕ) : Ty
 pub record SoFar (j key : List ℕ) (n : ℕ) (s : Settings) (k : ℕ) (es : List Entry) (rest : List ℕ) : Type 0 where
   pub width : widthGood n ≡ true
   pub headed : Headed j s k (texts s n es ++ rest)
-  pub each : (before : List Entry) (e : Entry) (behind : List Entry) → es ≡ before ++ (e ∷ behind) → RightBehind s key n before e
+  pub each : (before : List Entry) (e : Entry) (later : List Entry) → es ≡ before ++ (e ∷ later) → RightAfter s key n before e
 
 -- 15: a length and so many bytes
 pub record EntryThere (rest text more : List ℕ) : Type 0 where

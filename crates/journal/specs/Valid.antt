@@ -53,8 +53,8 @@ pub record Right (s : Settings) (key : List ℕ) (n last count : ℕ) (total : �
   pub counter : Counted s key n total e
 
 -- right behind the entries before it; the first chain field is that of the ID
-abbrev pub RightBehind : Settings → List ℕ → ℕ → List Entry → Entry → Type 0
-RightBehind s key n before e =
+abbrev pub RightAfter : Settings → List ℕ → ℕ → List Entry → Entry → Type 0
+RightAfter s key n before e =
     Right s key n (lastOf 0 before) (length before) (sum (receiptsIn before)) (chainOf s n (chainValue (nameText (s .id))) before) e
 
 pub record Valid (j key : List ℕ) (n : ℕ) : Type 0 where
@@ -69,4 +69,4 @@ pub record Valid (j key : List ℕ) (n : ℕ) : Type 0 where
   pub few : length entries < 4294967296
   pub bytes : j ≡ head settings (length entries) ++ texts settings n entries
   -- 16 to 20, at each place
-  pub each : (before : List Entry) (e : Entry) (behind : List Entry) → entries ≡ before ++ (e ∷ behind) → RightBehind settings key n before e
+  pub each : (before : List Entry) (e : Entry) (later : List Entry) → entries ≡ before ++ (e ∷ later) → RightAfter settings key n before e

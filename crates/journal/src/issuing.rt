@@ -15,7 +15,7 @@ ghost use mathlib.Core.Path.{_≡_};
 ghost use mathlib.Core.Bool.{true};
 ghost use lib.ListN.{length};
 ghost use Rattle.primitives.specs.Questions.{ask};
-ghost use Rattle.primitives.specs.Place.{placed, behind};
+ghost use Rattle.primitives.specs.Place.{placed, placeAfter};
 ghost use Rattle.receipt.specs.Compact.{compact, spellable};
 ghost use Rattle.journal.specs.Head.{entryText};
 ghost use Rattle.journal.specs.Step.{sound, detailsNumber};
@@ -71,7 +71,7 @@ fn entry_of(st: State, d: Details, signature: &[u8]) -> Entry
 fn put_entry(st: State, e: Entry, buf: &mut [u8]) -> usize
     requires { ⌜ spellable (settingsNow st) (st .width) e ≡ true ⌝ }
     ensures { λ r. let text : _ = entryText (compact (settingsNow st) (st .width) e) in
-        ⌜ (r ≡ behind (now (buf .entry)) (st .length) text) × (now (buf .exit) ≡ placed (now (buf .entry)) (st .length) text) ⌝ }
+        ⌜ (r ≡ placeAfter (now (buf .entry)) (st .length) text) × (now (buf .exit) ≡ placed (now (buf .entry)) (st .length) text) ⌝ }
 {
     let at = st.length;
     let settings = settings_now(st);

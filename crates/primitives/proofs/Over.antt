@@ -1,4 +1,4 @@
--- Laws of writing at a place: `overwrite`, and the writers' answers `placed` and `behind`.
+-- Laws of writing at a place: `overwrite`, and the writers' answers `placed` and `placeAfter`.
 use Prim.Native.Nat.{ℕ, suc, _+_, _-_, _≤_, _<_}
 use mathlib.Core.Path.{_≡_, refl, sym, ap, _∙_}
 use mathlib.Core.Bool.{Bool, true, false, cond}
@@ -10,7 +10,7 @@ use borrow.Author.Tests.{le-leb, lt-leb, leb-true}
 use lib.Dec.{leb}
 use lib.ListN.{length, getD, take, drop, set, length-append, length-drop, take-append-drop}
 use lib.Seq.{take-suc, drop-cons, set-at, take-at, drop-at, length-take-le, drop-drop, sets, sets-eq}
-use Rattle.primitives.specs.Place.{overwrite, room, placed, behind}
+use Rattle.primitives.specs.Place.{overwrite, room, placed, placeAfter}
 
 pub over-nil : (xs : List ℕ) (at : ℕ) → overwrite xs at [] ≡ xs
 unfolding overwrite
@@ -137,13 +137,13 @@ module _ (xs : List ℕ) (at : ℕ) (ys : List ℕ) where
   unfolding placed room
   placed-full h = rw (lt-leb (at + length ys) (length xs) h)
 
-  pub behind-room : at + length ys ≤ length xs → behind xs at ys ≡ at + length ys
-  unfolding behind room
-  behind-room h = rw (le-leb (at + length ys) (length xs) h)
+  pub after-room : at + length ys ≤ length xs → placeAfter xs at ys ≡ at + length ys
+  unfolding placeAfter room
+  after-room h = rw (le-leb (at + length ys) (length xs) h)
 
-  pub behind-full : length xs < at + length ys → behind xs at ys ≡ at
-  unfolding behind room
-  behind-full h = rw (lt-leb (at + length ys) (length xs) h)
+  pub after-full : length xs < at + length ys → placeAfter xs at ys ≡ at
+  unfolding placeAfter room
+  after-full h = rw (lt-leb (at + length ys) (length xs) h)
 
   pub room-true : at + length ys ≤ length xs → room xs at ys ≡ true
   unfolding room

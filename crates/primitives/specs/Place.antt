@@ -18,5 +18,5 @@ unfoldable pub placed : List ℕ → ℕ → List ℕ → List ℕ
 placed xs at ys = cond (room xs at ys) (overwrite xs at ys) xs
 
 -- the place behind what a writer wrote: the place itself where it wrote nothing
-unfoldable pub behind : List ℕ → ℕ → List ℕ → ℕ
-behind xs at ys = cond (room xs at ys) (at + length ys) at
+unfoldable pub placeAfter : List ℕ → ℕ → List ℕ → ℕ
+placeAfter xs at ys = cond (room xs at ys) (at + length ys) at

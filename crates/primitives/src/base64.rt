@@ -3,7 +3,7 @@ ghost use mathlib.Core.Path.{_≡_};
 ghost use Prim.Native.Nat.{_+_, _<_, _≤_};
 ghost use mathlib.Core.List.{[], _∷_, _++_};
 ghost use lib.ListN.{length, take};
-ghost use Rattle.primitives.specs.Place.{overwrite, placed, behind};
+ghost use Rattle.primitives.specs.Place.{overwrite, placed, placeAfter};
 ghost use Rattle.primitives.specs.Base64.{LetterTable, DigitTable, quad, fromBytes, fromDigits, digit, triple, letters, paddingCount, encoding, encodedLength, bytes, known, ended, unmarked, letterCount, whole, accepted, decodeAnswer, decodeBuffer};
 use crate::buffer::has_room;
 
@@ -171,7 +171,7 @@ pub fn base64_length(alphabet: Alphabet, s: &[u8]) -> usize
 // Writes the text of `s` at a place, or nothing where there is no room for all of it; the place behind what was written.
 pub fn base64_encode(alphabet: Alphabet, s: &[u8], out: &mut [u8], at: usize) -> usize
     ensures { λ r. let text : _ = encoding alphabet (now (s .entry)) in
-        ⌜ (r ≡ behind (now (out .entry)) at text) × (now (out .exit) ≡ placed (now (out .entry)) at text) ⌝ }
+        ⌜ (r ≡ placeAfter (now (out .entry)) at text) × (now (out .exit) ≡ placed (now (out .entry)) at text) ⌝ }
 {
     if !has_room(out.len(), at, base64_length(alphabet, s)) {
         return at;

@@ -3,7 +3,7 @@ ghost use mathlib.Core.Path.{_≡_};
 ghost use Prim.Native.Nat.{_+_, _≤_};
 ghost use lib.Dec.{leb};
 ghost use lib.ListN.{length};
-ghost use Rattle.primitives.specs.Place.{overwrite, placed, behind};
+ghost use Rattle.primitives.specs.Place.{overwrite, placed, placeAfter};
 ghost use Rattle.primitives.specs.Bytes.{same};
 ghost use Rattle.primitives.specs.Number.{bytesOf, numberAt};
 
@@ -19,7 +19,7 @@ pub fn has_room(len: usize, at: usize, n: usize) -> bool
 
 // Copies all of `s` to a place, or nothing where there is no room; the place behind what was written.
 pub fn put(out: &mut [u8], at: usize, s: &[u8]) -> usize
-    ensures { λ r. ⌜ (r ≡ behind (now (out .entry)) at (now (s .entry))) × (now (out .exit) ≡ placed (now (out .entry)) at (now (s .entry))) ⌝ }
+    ensures { λ r. ⌜ (r ≡ placeAfter (now (out .entry)) at (now (s .entry))) × (now (out .exit) ≡ placed (now (out .entry)) at (now (s .entry))) ⌝ }
 {
     if !has_room(out.len(), at, s.len()) {
         return at;
@@ -48,7 +48,7 @@ pub(crate) fn put_be(out: &mut [u8], at: usize, n: usize, x: u64)
 
 // The same, or nothing where there is no room; the place behind what was written.
 pub fn put_number(out: &mut [u8], at: usize, n: usize, x: u64) -> usize
-    ensures { λ r. ⌜ (r ≡ behind (now (out .entry)) at (bytesOf n x)) × (now (out .exit) ≡ placed (now (out .entry)) at (bytesOf n x)) ⌝ }
+    ensures { λ r. ⌜ (r ≡ placeAfter (now (out .entry)) at (bytesOf n x)) × (now (out .exit) ≡ placed (now (out .entry)) at (bytesOf n x)) ⌝ }
 {
     if !has_room(out.len(), at, n) {
         return at;

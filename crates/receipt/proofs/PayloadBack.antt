@@ -153,16 +153,16 @@ module _ (s : Settings) (n : ℕ) (f : PayloadFields) (w : widthGood n ≡ true)
 
 -- ---- the whole
 
-behind-register : (s : Settings) (n : ℕ) (f : PayloadFields) → SettingsLengths s → sized s ≡ true → drop (9 + s .id .len) (payload s n f) ≡ body s n f
+after-register : (s : Settings) (n : ℕ) (f : PayloadFields) → SettingsLengths s → sized s ≡ true → drop (9 + s .id .len) (payload s n f) ≡ body s n f
 unfolding payload
-behind-register s n f t z = drop-at (registerPart s) (body s n f) (9 + s .id .len) (length-register s (t .csp) (t .id) (sized-short s z .id))
+after-register s n f t z = drop-at (registerPart s) (body s n f) (9 + s .id .len) (length-register s (t .csp) (t .id) (sized-short s z .id))
 
 -- reading what was spelled gives it back
 pub payload-back : (s : Settings) (n : ℕ) (f : PayloadFields) → SettingsLengths s → sized s ≡ true → widthGood n ≡ true → TypedFields f → fieldsGood n f ≡ true
     → readFields s n (payload s n f) ≡ f
 unfolding readFields
 payload-back s n f t z w a g =
-    rw (behind-register s n f t z, readable-back s n f w a (good n f g)) (found-back s n f w a (good n f g))
+    rw (after-register s n f t z, readable-back s n f w a (good n f g)) (found-back s n f w a (good n f g))
 
 -- different fields are spelled differently
 pub payload-injective : (s : Settings) (n : ℕ) (f h : PayloadFields) → SettingsLengths s → sized s ≡ true → widthGood n ≡ true

@@ -19,7 +19,7 @@ ghost use mathlib.Core.Bool.{cond};
 ghost use Prim.Native.Nat.{_≤_};
 ghost use mathlib.Core.List.{[]};
 ghost use lib.ListN.{length, take};
-ghost use Rattle.primitives.specs.Place.{placed, behind};
+ghost use Rattle.primitives.specs.Place.{placed, placeAfter};
 ghost use Rattle.receipt.specs.Settings.{sized};
 ghost use Rattle.receipt.specs.Payload.{payload, longestPayload};
 ghost use Rattle.receipt.specs.Form.{parts, signedForm};
@@ -97,7 +97,7 @@ fn signature_zero(g: Signature) -> bool
 fn put_signed(payload: &[u8], g: Signature, out: &mut [u8], at: usize) -> usize
     requires { ⌜ length (now payload) ≤ longestPayload ⌝ }
     ensures { λ r. let y : _ = signedForm (parts (now (payload .entry)) (signatureText g)) in
-        ⌜ (r ≡ behind (now (out .entry)) at y) × (now (out .exit) ≡ placed (now (out .entry)) at y) ⌝ }
+        ⌜ (r ≡ placeAfter (now (out .entry)) at y) × (now (out .exit) ≡ placed (now (out .entry)) at y) ⌝ }
 {
     let bytes = g.bytes;
     if g.failed {
@@ -109,7 +109,7 @@ fn put_signed(payload: &[u8], g: Signature, out: &mut [u8], at: usize) -> usize
 
 // Writes the compact form of an entry at a place; nothing where the entry cannot be spelled or there is no room.
 pub fn put_compact(s: Settings, n: usize, e: Entry, out: &mut [u8], at: usize) -> usize
-    ensures { λ r. ⌜ (r ≡ behind (now (out .entry)) at (spelled s n e)) × (now (out .exit) ≡ placed (now (out .entry)) at (spelled s n e)) ⌝ }
+    ensures { λ r. ⌜ (r ≡ placeAfter (now (out .entry)) at (spelled s n e)) × (now (out .exit) ≡ placed (now (out .entry)) at (spelled s n e)) ⌝ }
 {
     let f = e.fields;
     let g = e.signature;
@@ -132,7 +132,7 @@ pub fn put_signing_input(
     out: &mut [u8],
     at: usize,
 ) -> usize
-    ensures { λ r. ⌜ (r ≡ behind (now (out .entry)) at (prepared s n f)) × (now (out .exit) ≡ placed (now (out .entry)) at (prepared s n f)) ⌝ }
+    ensures { λ r. ⌜ (r ≡ placeAfter (now (out .entry)) at (prepared s n f)) × (now (out .exit) ≡ placed (now (out .entry)) at (prepared s n f)) ⌝ }
 {
     let mut payload = [0u8; LONGEST_PAYLOAD];
     let m = write_payload(s, n, f, &mut payload);

@@ -10,7 +10,7 @@ use primitives::same;
 ghost use mathlib.Core.Path.{_≡_};
 ghost use Prim.Native.Nat.{_+_, _≤_};
 ghost use lib.ListN.{length, take};
-ghost use Rattle.primitives.specs.Place.{overwrite, placed, behind};
+ghost use Rattle.primitives.specs.Place.{overwrite, placed, placeAfter};
 ghost use Rattle.primitives.specs.Base64.{decoding};
 ghost use Rattle.receipt.specs.Payload.{longestPayload};
 ghost use Rattle.receipt.specs.Texts.{beginning};
@@ -163,7 +163,7 @@ fn put_element(out: &mut [u8], at: usize, s: &[u8]) -> usize
 pub(crate) fn put_signed_input(payload: &[u8], out: &mut [u8], at: usize) -> usize
     requires { ⌜ length (now payload) ≤ longestPayload ⌝ }
     ensures { λ r. let y : _ = signedInput (now (payload .entry)) in
-        ⌜ (r ≡ behind (now (out .entry)) at y) × (now (out .exit) ≡ placed (now (out .entry)) at y) ⌝ }
+        ⌜ (r ≡ placeAfter (now (out .entry)) at y) × (now (out .exit) ≡ placed (now (out .entry)) at y) ⌝ }
 {
     let element = base64_length(Alphabet::UrlSafe, payload);
     let total = 21 + element;
@@ -179,7 +179,7 @@ pub(crate) fn put_signed_input(payload: &[u8], out: &mut [u8], at: usize) -> usi
 pub(crate) fn put_form(payload: &[u8], signature: &[u8], out: &mut [u8], at: usize) -> usize
     requires { ⌜ (length (now payload) ≤ longestPayload) × (length (now signature) ≤ 64) ⌝ }
     ensures { λ r. let y : _ = signedForm (parts (now (payload .entry)) (now (signature .entry))) in
-        ⌜ (r ≡ behind (now (out .entry)) at y) × (now (out .exit) ≡ placed (now (out .entry)) at y) ⌝ }
+        ⌜ (r ≡ placeAfter (now (out .entry)) at y) × (now (out .exit) ≡ placed (now (out .entry)) at y) ⌝ }
 {
     let second = base64_length(Alphabet::UrlSafe, payload);
     let third = base64_length(Alphabet::UrlSafe, signature);
