@@ -58,7 +58,7 @@ module _ (m out : List ℕ) where
 
 -- ---- BASE64
 
--- bytes have a text, and no bytes have none
+-- a text is empty exactly if there are no bytes
 text-some : (a : Alphabet) (n : ℕ) → 0 < n → 0 < encodedLength a n
 text-some Standard n h = omega arith
 text-some UrlSafe n h = omega arith

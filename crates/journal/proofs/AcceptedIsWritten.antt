@@ -1,4 +1,4 @@
--- Demand 3, back: the receipts of an accepted journal, issued anew, write it again.
+-- Demand 3, back: the receipts of an accepted journal, issued again, write the same journal.
 use Prim.Native.Nat.{ℕ, _+_, _≤_}
 use mathlib.Core.Path.{_≡_, refl, sym, ap, _∙_, subst}
 use mathlib.Core.Bool.{Bool, true, false, cond, _||_}

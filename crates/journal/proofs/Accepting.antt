@@ -1,4 +1,4 @@
--- Take over accepts just the valid journals.
+-- Take over accepts exactly the valid journals.
 use Prim.Native.Nat.{ℕ, zero, suc, _≤_, _<_}
 use mathlib.Core.Path.{_≡_, refl, sym, ap, _∙_, subst, transport}
 use mathlib.Core.Bool.{true}
@@ -32,7 +32,7 @@ head-some : (s : Settings) → 0 < headLength s
 unfolding headLength
 head-some s = omega arith
 
--- ---- a journal of right entries is accepted, with the state behind them
+-- ---- a journal of right entries is accepted, with the state after them
 
 module _ (s : Settings) (key : List ℕ) (n : ℕ) where
   -- from the fresh state on, as many steps as the journal has bytes check the entries that its count says
@@ -98,7 +98,7 @@ fresh-settings : (s : Settings) (n : ℕ) (key : List ℕ) → fresh s n key .se
 unfolding fresh
 fresh-settings s n key = refl
 
--- the rest behind the head of a fresh state
+-- the rest after the head of a fresh state
 fresh-bytes : (s : Settings) (n k : ℕ) (key j : List ℕ) (r : Reads k (fresh s n key) j) → drop (headLength s) j ≡ texts s n (r .entries)
 unfolding fresh
 fresh-bytes s n k key j r = r .bytes

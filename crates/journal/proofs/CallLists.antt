@@ -120,7 +120,7 @@ bounds (e ∷ es) st (check.more h hs) b =
     let a = h .above in
     bounds es (step st e) hs (record { issued = omega arith; last = h .typed .fields .number; counter = ap (counterFits (st .width)) (step-counter st e h) ∙ h .counter .fits })
 
--- ---- the buffer behind an accepted call
+-- ---- the buffer after an accepted call
 
 module _ (s : Settings) (k : ℕ) (t e buf : List ℕ) (len place : ℕ) (at : length (front s) ≡ place) (room : len + length e ≤ length buf)
     (size : len ≡ place + 4 + length t) (was : take len buf ≡ head s k ++ t) where
@@ -148,7 +148,7 @@ module _ (s : Settings) (k : ℕ) (t e buf : List ℕ) (len place : ℕ) (at : l
   pub written-length : length (overwrite (overwrite buf len e) place (bytesOf 4 (k + 1))) ≡ length buf
   written-length = length-over (overwrite buf len e) place (bytesOf 4 (k + 1)) (omega (arith, length-bytesOf 4 (k + 1), long)) ∙ long
 
--- ---- what the answers yes say
+-- ---- what the yes answers say
 
 pub record Sound (st : State) : Type 0 where
   pub settings : settingsGood (st .settings) ≡ true
@@ -231,7 +231,7 @@ issue-yes st d sig room a =
 
 -- ---- the entry of an accepted call is right
 
--- a slice of 64 bytes, or none
+-- a slice of 64 bytes, or an empty one
 pub record Signed (g : Signature) : Type 0 where
   pub long : length (g .bytes) ≡ 64
   pub bytes : AllBytes (g .bytes)
@@ -252,7 +252,7 @@ given-signed sig b e = go (eqb (length sig) 0) refl
     go true q = record { long = refl; bytes = bytes-replicate 64 (omega arith) }
     go false q = record { long = sized-cases sig e q; bytes = b }
 
--- where the device has failed, there are zeros
+-- if the device has failed, the bytes are zero
 given-zero : (sig : List ℕ) → signatureZero (givenSignature sig) ≡ true
 unfolding givenSignature
 given-zero sig = go (eqb (length sig) 0)
@@ -298,7 +298,7 @@ module _ (st : State) (d : Details) where
       ∙ decrypt-back (keySchedule (st .key)) (settingsNow st .id) (d .number) (st .width) z (ap (counterFits (st .width)) e ∙ new-fits st d f .fits)
       ∙ e
 
--- the entry of a call can be spelled once 6 to 12 are answered by yes
+-- the entry of a call can be spelled once 6 to 12 are answered yes
 module _ (st : State) (d : Details) (sig : List ℕ) (s : Sound st) (a : Detailed st d) (g : signatureSized sig ≡ true) where
   pub call-spellable : spellable (settingsNow st) (st .width) (entryOf st d sig) ≡ true
   unfolding entryOf fieldsOf
@@ -313,7 +313,7 @@ module _ (st : State) (d : Details) (sig : List ℕ) (s : Sound st) (a : Detaile
         signature = given-zero sig;
       })
 
-  -- and it is what the code's types say
+  -- and it has the code's types
   pub entry-typed : AllBytes (st .key) → Eight (st .chain) → d .number < 4294967296 → length (d .amounts) ≡ 5 → AllBytes sig → TypedEntry (entryOf st d sig)
   unfolding entryOf fieldsOf
   entry-typed kb chain number amounts b =

@@ -1,4 +1,4 @@
--- The checker accepts just the texts of right entries.
+-- The checker accepts exactly the texts of right entries.
 use Prim.Native.Nat.{ℕ, zero, suc, _+_, _≤_, _<_}
 use mathlib.Core.Path.{_≡_, refl, sym, ap, _∙_, subst, transport}
 use mathlib.Core.Bool.{Bool, true, false, cond, not, _||_}
@@ -84,7 +84,7 @@ module _ (st : State) (d : Details) where
   unfolding numberAbove
   above-true e = ltb-true (st .last) (d .number) e
 
-  -- the new counter is the sum where it fits
+  -- the new counter is the sum if it fits
   pub new-yes : amountsGood (d .amounts) ≡ true → counterFits (st .width) (st .counter +ℤ counted d) ≡ true
       → newCounter st d ≡ record { fits = true; counter = st .counter +ℤ counted d }
   unfolding newCounter
@@ -219,7 +219,7 @@ run-length (e ∷ es) st =
     let a = length-append (entryText (textIn st e)) (texts (settingsNow st) (st .width) es) in
     run-length es (step st e) ∙ omega (arith, step-length st e, ap length (step-texts st e es))
 
--- right entries at the state's place are passed, whatever stands behind them
+-- right entries at the state's place are passed, whatever follows them
 pub passed : (es : List Entry) (m : ℕ) (st : State) (p rest j : List ℕ) → length p ≡ st .length → TypedSettings (settingsNow st) → AllRight st es
     → j ≡ p ++ (texts (settingsNow st) (st .width) es ++ rest) → checkFrom (length es + m) st j ≡ checkFrom m (run st es) j
 unfolding texts run
@@ -249,14 +249,14 @@ pub bytes-text : (j : List ℕ) (at : ℕ) → AllBytes j → AllBytes (textAt j
 unfolding textAt
 bytes-text j at b = bytes-take (lengthAt j at) (bytes-drop (at + 2) b)
 
--- what an accepted rest is
+-- what an accepted rest consists of
 pub record Reads (n : ℕ) (st : State) (j : List ℕ) : Type 0 where
   pub entries : List Entry
   pub count : length entries ≡ n
   pub bytes : drop (st .length) j ≡ texts (settingsNow st) (st .width) entries
   pub right : AllRight st entries
 
--- the state behind an entry that passed
+-- the state after an entry that passed
 pub after-passed : (st : State) (text : List ℕ) (w : Passed st text) → after st text ≡ step st (w .entry)
 unfolding after
 after-passed st text w = rw (w .found) (ap (next st (w .entry .fields .details)) (w .is))
@@ -308,7 +308,7 @@ sound-from (suc n) st j ts b z =
 
 -- ---- right at each place, and all right
 
--- right behind the entries before it, from a state on
+-- right, given the entries before it, from a state on
 abbrev pub RightFrom : State → List Entry → Entry → Type 0
 RightFrom st before e =
     Right (settingsNow st) (st .key) (st .width) (lastOf (st .last) before) (st .issued + length before) (st .counter +ℤ sum (receiptsIn before))
@@ -321,14 +321,14 @@ pub step-counter : (st : State) (e : Entry) → RightAt st e → step st e .coun
 unfolding next
 step-counter st e h = ap (λ (a : After). a .counter) (right-new st e h)
 
--- the sum behind one more entry
+-- the sum after one more entry
 pub step-sum : (st : State) (e : Entry) (before : List Entry) → RightAt st e
     → step st e .counter +ℤ sum (receiptsIn before) ≡ st .counter +ℤ sum (receiptsIn (e ∷ before))
 unfolding sum receiptsIn receiptOf
 step-sum st e before h =
     ap (λ (z : ℤ). z +ℤ sum (receiptsIn before)) (step-counter st e h) ∙ +ℤ-assoc (st .counter) (counted (e .fields .details)) (sum (receiptsIn before))
 
--- a right entry behind one more entry
+-- a right entry after one more entry
 module _ (st : State) (x : Entry) (before : List Entry) (e : Entry) (h : RightAt st x) where
   count-more : step st x .issued + length before ≡ st .issued + length (x ∷ before)
   unfolding next

@@ -1,4 +1,4 @@
--- A refused Take over has the number and the index of the first question with the answer no.
+-- A refused Take over gives the number and the index of the first question answered no.
 use Prim.Native.Nat.{ℕ, zero, suc, _+_, _≤_, _<_}
 use mathlib.Core.Path.{_≡_, refl, sym, ap, _∙_, subst}
 use mathlib.Core.Bool.{Bool, true, false, cond}
@@ -43,7 +43,7 @@ use Rattle.journal.proofs.CallLists.{run-snoc, texts-snoc, right-snoc}
 use Rattle.journal.proofs.Registers.{StateAfter, run-after, counter-sum}
 use Rattle.journal.specs.State.{settingsNow}
 
--- ---- the state behind entries, field by field
+-- ---- the state after entries, field by field
 
 run-last : (es : List Entry) (st : State) → run st es .last ≡ lastOf (st .last) es
 unfolding run lastOf next
@@ -63,7 +63,7 @@ fresh-chain : (s : Settings) (n : ℕ) (key : List ℕ) (es : List Entry) → ru
 unfolding fresh
 fresh-chain s n key es = run-chain es (fresh s n key)
 
--- the state behind entries
+-- the state after entries
 abbrev pub at : Settings → ℕ → List ℕ → List Entry → State
 at s n key es = run (fresh s n key) es
 
@@ -95,7 +95,7 @@ module _ (j key : List ℕ) (n : ℕ) (b : AllBytes j) (width : widthGood n ≡ 
     unfolding found
     found-here text = λ i. readEntry (state-after .settings i) (state-after .width i) text
 
-    -- where an entry is there, 15 is answered by yes
+    -- if an entry is complete, 15 is answered yes
     pub there-yes : (text more : List ℕ) → EntryThere (drop (at s n key es .length) j) text more → there j (at s n key es .length) ≡ true
     there-yes text more x =
         let p = take (at s n key es .length) j in
@@ -329,7 +329,7 @@ module _ (st : State) (f : PayloadFields) where
 
 -- ---- the head
 
--- what is read behind a fresh head
+-- what is read after a fresh head
 fresh-bytes : (s : Settings) (n : ℕ) (key j : List ℕ) (k : ℕ) → j ≡ head s k ++ drop (headLength s) j
     → j ≡ head s k ++ (texts s n [] ++ drop (run (fresh s n key) [] .length) j)
 unfolding run fresh texts

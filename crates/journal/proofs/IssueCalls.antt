@@ -135,7 +135,7 @@ module _ (b t : List ℕ) (at : ℕ) {r : ℕ} {b₁ : List ℕ} (w : (r ≡ pla
           record { room = k; end = w .0 ∙ after-room b at t k; wrote = e; same = ap length e ∙ length-over b at t k }
       go false h = absurd (q (w .0 ∙ after-full b at t (leb-false (at + length t) (length b) h)))
 
--- ---- the entry behind the journal
+-- ---- the entry after the journal
 
 module _ (t b : List ℕ) (at : ℕ) (some : 0 < length t) where
   full : length b < at + (2 + length t) → (at ≡ placeAfter b at (entryText t)) × (b ≡ placed b at (entryText t))
@@ -185,7 +185,7 @@ entry-text b t at h =
         let k : 2 ≤ length l = omega (arith, ap length g, length-take (2 + length t) l, n) in
         sym (drop-at (take 2 l) (take (length t) (drop 2 l)) 2 (length-take-le 2 l k)) ∙ ap (drop 2) (sym (take-add 2 (length t) l) ∙ g) ∙ drop-at y t 2 (length-bytesOf 2 (length t))
 
--- the state behind it
+-- the state after it
 pub next-is : (st : State) (d : Details) (text : List ℕ) {a : After} {chain : List ℕ} → a ≡ newCounter st d → chain ≡ chainValue text
     → record { settings = st .settings; width = st .width; key = st .key; counter = a .counter; last = d .number; issued = st .issued + 1; chain = chain; length = st .length + 2 + length text } ≡ next st d text
 unfolding next
@@ -223,7 +223,7 @@ module _ (st : State) (d : Details) (sig b : List ℕ) (a : Asked st d sig (leng
   pub append-place : {k : ℕ} → k ≡ countPlaceNow st → k + 4 ≤ length b
   append-place e = count-room (settingsNow st) e (omega (arith, sound-true st (asked-alone .0) .head, asked-alone .1))
 
-  -- the number, as far as it is not known
+  -- the part of the number that is not known yet
   number-is : issueNumber st d sig (length b) ≡ ask (leb (st .length + length (entryText (textOf st d sig))) (length b)) 13 0
   unfolding issueNumber entryFits
   number-is =
@@ -231,7 +231,7 @@ module _ (st : State) (d : Details) (sig b : List ℕ) (a : Asked st d sig (leng
 
   module _ {e : Entry} (q : e ≡ entryOf st d sig) {r : ℕ} {b₁ : List ℕ}
       (w : (r ≡ placeAfter b (st .length) (entryText (compact (settingsNow st) (st .width) e))) × (b₁ ≡ placed b (st .length) (entryText (compact (settingsNow st) (st .width) e)))) where
-    -- the same of the text that the definitions speak of
+    -- the same for the text that the definitions name
     w′ : (r ≡ placeAfter b (st .length) (entryText (textOf st d sig))) × (b₁ ≡ placed b (st .length) (entryText (textOf st d sig)))
     unfolding textOf
     w′ =

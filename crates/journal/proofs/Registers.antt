@@ -38,7 +38,7 @@ use Rattle.receipt.proofs.Names.{settings-zero}
 
 -- ---- the fresh state
 
--- the state behind entries, since it was fresh
+-- the state after entries, starting from the fresh one
 pub record StateAfter (s : Settings) (n : ℕ) (k : List ℕ) (es : List Entry) (st : State) : Type 0 where
   pub settings : st .settings ≡ s
   pub width : st .width ≡ n

@@ -60,7 +60,7 @@ fresh-spelled : (s : Settings) (n : ℕ) (key : List ℕ) (es : List Entry) → 
 unfolding fresh
 fresh-spelled s n key es h = all-spelled es (fresh s n key) h
 
--- entries of one text are one list
+-- entries with the same text are the same list
 same-texts : (s : Settings) (n : ℕ) → TypedSettings s → (es fs : List Entry) → AllSpelled s n es → AllSpelled s n fs → length es ≡ length fs → texts s n es ≡ texts s n fs → es ≡ fs
 unfolding texts
 same-texts s n ts [] [] nothing nothing l t = refl

@@ -1,4 +1,4 @@
-// A receipt after the journal.
+// Issuing a receipt: its entry, appended to the journal.
 use super::head::put_count;
 use super::state::Issued;
 use super::state::State;
@@ -67,7 +67,7 @@ fn entry_of(st: State, d: Details, signature: &[u8]) -> Entry
 
 // ---- issuing
 
-// The compact form with its length before it, after the journal; the place after it. Nothing where there is no room.
+// Writes the entry, a length and the compact form, after the journal; returns the place after it. Writes nothing if there is no room.
 fn put_entry(st: State, e: Entry, buf: &mut [u8]) -> usize
     requires { ⌜ spellable (settingsNow st) (st .width) e ≡ true ⌝ }
     ensures { λ r. let text : _ = entryText (compact (settingsNow st) (st .width) e) in
@@ -87,7 +87,7 @@ fn put_entry(st: State, e: Entry, buf: &mut [u8]) -> usize
     end
 }
 
-// The receipt after the journal, where the questions 6 to 12 have the answer yes: question 13.
+// Appends the receipt once questions 6 to 12 are answered yes: question 13.
 fn append(st: State, d: Details, signature: &[u8], buf: &mut [u8]) -> Issued
     requires { ⌜ (sound st (length (now buf)) ≡ true) × (detailsNumber st d 0 ≡ 0) × (signatureSized (now signature) ≡ true) ⌝ }
     ensures { λ r. let given : _ = now (signature .entry) in

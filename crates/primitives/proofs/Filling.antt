@@ -1,4 +1,4 @@
--- Loops that fill a part of a buffer: a copy from the front, a number's bytes from the end. And the two answers of a writer.
+-- Loops that fill a part of a buffer: a copy from the front, a number's bytes from the end. Also the two answers of a writer.
 use Prim.Native.Nat.{ℕ, zero, suc, _+_, _-_, _/_, _%_, _≤_, _<_}
 use mathlib.Core.Path.{_≡_, refl, sym, ap, _∙_}
 use mathlib.Core.Bool.{Bool, true, false}
@@ -17,7 +17,7 @@ use Rattle.primitives.proofs.Numbers.{bytesOf-suc}
 
 -- ---- the question whether there is room, and the answers
 
--- n bytes from a place on, asked without a sum
+-- room for n bytes from a place on, computed without a sum
 pub reach-test : (len at n : ℕ) → at ≤ len → leb n (len - at) ≡ leb (at + n) len
 reach-test len at n h = go (leb n (len - at)) refl
   where

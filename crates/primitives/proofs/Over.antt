@@ -30,7 +30,7 @@ module _ (xs : List ℕ) (at : ℕ) (ys : List ℕ) where
       ap length split ∙ length-append (take at xs ++ ys) (drop (at + length ys) xs)
       ∙ omega (arith, front (omega arith), length-drop (at + length ys) xs)
 
-  -- one more byte behind
+  -- one more byte after it
   pub over-snoc : (b : ℕ) → at + length ys < length xs → set (overwrite xs at ys) (at + length ys) b ≡ overwrite xs at (ys ++ (b ∷ []))
   unfolding overwrite
   over-snoc b h =
@@ -48,7 +48,7 @@ module _ (xs : List ℕ) (at : ℕ) (ys : List ℕ) where
       e : suc (at + length ys) ≡ at + length (ys ++ (b ∷ []))
       e = omega (arith, length-append ys (b ∷ []))
 
-  -- one more byte in front
+  -- one more byte before it
   pub over-cons : (b : ℕ) → at < length xs → set (overwrite xs (at + 1) ys) at b ≡ overwrite xs at (b ∷ ys)
   unfolding overwrite
   over-cons b h =
@@ -93,7 +93,7 @@ module _ (xs : List ℕ) (at : ℕ) (ys : List ℕ) where
       ap (take (length ys)) (drop-at (take at xs) (ys ++ drop (at + length ys) xs) at (length-take-le at xs (omega arith)))
       ∙ take-at ys (drop (at + length ys) xs) (length ys) refl
 
-  -- what stands before is as it was
+  -- what stands before it is unchanged
   pub before-over : at ≤ length xs → take at (overwrite xs at ys) ≡ take at xs
   unfolding overwrite
   before-over h = take-at (take at xs) (ys ++ drop (at + length ys) xs) at (length-take-le at xs h)
@@ -162,7 +162,7 @@ module _ (xs : List ℕ) (at : ℕ) (ys : List ℕ) where
       go true e = length-over xs at ys (leb-true (at + length ys) (length xs) e)
       go false e = refl
 
--- two writes in a row, the second behind the first
+-- two writes in a row, the second after the first
 pub then : (b ys zs : List ℕ) (at at′ : ℕ) {b₁ b₂ : List ℕ} → b₁ ≡ overwrite b at ys → b₂ ≡ overwrite b₁ at′ zs → at′ ≡ at + length ys
     → at + length ys ≤ length b → b₂ ≡ overwrite b at (ys ++ zs)
 then b ys zs at at′ p q e h = q ∙ (λ i. overwrite (p i) (e i) zs) ∙ over-over b at ys zs h

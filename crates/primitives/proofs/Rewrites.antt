@@ -1,4 +1,4 @@
--- Laws of writing over a part of a buffer that holds more: the parts outside are as they were, and writes at two places commute.
+-- Laws of writing over a part of a larger buffer: the parts outside are unchanged, and writes at two places commute.
 use Prim.Native.Nat.{ℕ, _+_, _-_, _≤_, _<_}
 use mathlib.Core.Path.{_≡_, refl, sym, ap, _∙_}
 use mathlib.Core.List.{List, _++_, append-assoc}

@@ -129,7 +129,7 @@ module _ (schedule : List (List ℕ)) (id : Name) (number n : ℕ) where
     unfolding encryptedCounter keyStream
     bytes-encrypted w = bytes-xorFirst n (bytes-counterBytes n z) (cipher-bytes (iv id number) w)
 
-    -- zeros behind the n bytes
+    -- zeros after the n bytes
     pub after-encrypted : drop n (encryptedCounter schedule id number n z) ≡ replicate (8 - n) 0
     unfolding encryptedCounter
     after-encrypted = after-xorFirst n (counterBytes n z) (keyStream schedule id number) (long-enough z) ∙ after-counter n z
@@ -139,7 +139,7 @@ module _ (schedule : List (List ℕ)) (id : Name) (number n : ℕ) where
     unfolding encryptedCounter decryptedCounter
     decrypt-back e = ap (counterValue n) (xorFirst-back n (counterBytes n z) (keyStream schedule id number) (long-enough z)) ∙ counter-back n z e
 
--- ---- a counter that has no n bytes
+-- ---- a counter that does not fit n bytes
 
 pub nothing-to-encrypt : NothingToEncrypt
 unfolding encryptedCounter

@@ -79,7 +79,7 @@ module _ (p s out : List ℕ) where
       let w₂ : out₂ ≡ overwrite out 0 (p ++ (95 ∷ [])) = put-next out p (95 ∷ []) 0 w₁ e₂ (omega arith) (omega arith) in
       put-next out (p ++ (95 ∷ [])) (encoding Standard s) 0 w₂ e₃ (omega arith) (omega arith)
 
--- a form is not empty, so the place behind it is 0 where it was not written at 0
+-- a form is not empty, so the place after it is 0 exactly if it was not written at 0
 module _ (out text : List ℕ) (n : ℕ) (is : n ≡ placeAfter out 0 text) where
   pub wrote-none : n ≡ 0 → 1 ≤ length text → record { number = 23; length = 0 } ≡ written out text
   wrote-none z h = go (leb (length text) (length out)) refl
@@ -157,7 +157,7 @@ module _ (code out sig : List ℕ) (r : Reading) (e : found (r .good) (take (r .
 abbrev pub Placed : List ℕ → Part → Type 0
 Placed code x = (x ≡ idPlace code) × (x .start ≤ x .end) × (x .end ≤ length code)
 
--- nowhere is right where there is no field
+-- `nowhere` is right if there is no field
 none-placed : (code : List ℕ) {x : Part} → x ≡ nowhere → nowhere ≡ idPlace code → Placed code x
 none-placed code h k = rw (h) (k, omega arith, omega arith)
 

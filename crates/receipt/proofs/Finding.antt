@@ -100,7 +100,7 @@ part-without b s from =
     let n : ℕ = from + firstAt b t - from in
     record { at = λ i h q. first-before b t i (omega (arith, length-take n t)) (sym (getD-take n t i 0 (omega (arith, length-take n t))) ∙ q) }
 
--- behind a front and a list without it, the next b is the one that follows
+-- after a front and a list without it, the next b is the one that follows
 pub next-without : (b : ℕ) (front xs ys : List ℕ) (from : ℕ) → length front ≡ from → Without b xs
     → nextAt b (front ++ (xs ++ (b ∷ ys))) from ≡ from + length xs
 unfolding nextAt
@@ -153,7 +153,7 @@ module _ (b : ℕ) (s : List ℕ) where
       go k true = omega arith
       go k false = k
 
--- behind the last b stands a list without it
+-- the last b is followed by a list without it
 module _ (b : ℕ) (xs ys : List ℕ) (w : Without b ys) where
   text : List ℕ
   text = xs ++ (b ∷ ys)

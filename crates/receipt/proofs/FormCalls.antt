@@ -156,7 +156,7 @@ module _ (g : Bool) (x y : List ℕ) {o : Option Parts} (e : found g x y ≡ o) 
 
 -- ---- writing
 
--- one more text behind what was written
+-- one more text after what was written
 pub put-next : (b ys zs : List ℕ) (at : ℕ) {at′ : ℕ} {b₁ b₂ : List ℕ} → b₁ ≡ overwrite b at ys → b₂ ≡ placed b₁ at′ zs → at′ ≡ at + length ys
     → at + length ys + length zs ≤ length b → b₂ ≡ overwrite b at (ys ++ zs)
 put-next b ys zs at {at′} {b₁} p q e h =

@@ -69,7 +69,7 @@ module _ (p : Parts) where
       rw (take-at firstElement (x ++ (46 ∷ y)) 21 first-long, same-refl firstElement)
       (next-without 46 firstElement x y 21 first-long (dotless (p .payload)))
 
-  -- the second "." stands behind the payload's element
+  -- the second "." stands after the payload's element
   pub form-dot : secondDot (signedForm p) ≡ 21 + length (encoding UrlSafe (p .payload))
   unfolding x
   form-dot = ap secondDot form-is ∙ dot-is

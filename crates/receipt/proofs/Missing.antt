@@ -21,7 +21,7 @@ use Rattle.primitives.proofs.Numbers.{length-bytesOf}
 use Rattle.primitives.proofs.Twos.{counterBytes-is, counterBytes-none}
 use Rattle.primitives.proofs.Xors.{length-xorFirst, xorFirst-start, xorFirst-more}
 
--- a buffer that is written all over
+-- a buffer that is overwritten completely
 pub filled : (xs ys : List ℕ) → length xs ≡ length ys → placed xs 0 ys ≡ ys
 filled xs ys e =
     placed-room xs 0 ys (omega arith) ∙ ap (λ (l : List ℕ). overwrite l 0 ys) (sym (append-nil xs)) ∙ over-middle [] xs [] ys e ∙ append-nil ys
@@ -31,7 +31,7 @@ drop-replicate zero m a = ap (λ (k : ℕ). replicate k a) (sym (sub-zero m))
 drop-replicate (suc n) zero a = ap (λ (k : ℕ). replicate k a) (sym (zero-sub (suc n)))
 drop-replicate (suc n) (suc m) a = drop-replicate n m a ∙ ap (λ (k : ℕ). replicate k a) (sym (suc-sub-suc m n))
 
--- behind the n bytes of a counter stand zeros
+-- zeros follow the n bytes of a counter
 pub after-counter : (n : ℕ) (z : ℤ) → drop n (counterBytes n z) ≡ replicate (8 - n) 0
 after-counter n z = go (counterFits n z) refl
   where
@@ -39,7 +39,7 @@ after-counter n z = go (counterFits n z) refl
     go true e = ap (drop n) (counterBytes-is n z e) ∙ drop-at (bytesOf n (twos n z)) (replicate (8 - n) 0) n (length-bytesOf n (twos n z))
     go false e = ap (drop n) (counterBytes-none n z e) ∙ drop-replicate n 8 0
 
--- what stands behind the bytes that are combined is as it was
+-- what follows the combined bytes is unchanged
 after-first : (n i : ℕ) (b k : List ℕ) → i ≤ n → n ≤ length b → n ≤ length k → drop n (xorFirst i b k) ≡ drop n b
 after-first n zero b k h l m = ap (drop n) (xorFirst-start b k)
 after-first n (suc i) b k h l m =

@@ -1,4 +1,4 @@
--- What is spelled is read: reading a payload gives back its fields, so no two fields have one spelling.
+-- What is spelled is read back: reading a payload gives its fields, so different fields are spelled differently.
 use mathlib.Core.Path.{_≡_, refl, sym, ap, _∙_}
 use mathlib.Core.Bool.{Bool, true, false, cond, _&&_}
 use mathlib.Core.List.{List, [], _∷_, _++_, append-assoc}
@@ -59,7 +59,7 @@ small t e =
 -- ---- the body, from the front
 
 module _ (s : Settings) (n : ℕ) (f : PayloadFields) (w : widthGood n ≡ true) (a : TypedFields f) (g : Good n f) where
-  -- what stands behind the counter field's '_'
+  -- what follows the counter field's '_'
   ending : List ℕ
   ending = nameText (s .serial) ++ (95 ∷ base64 (f .chain))
 
