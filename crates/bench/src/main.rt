@@ -1,5 +1,5 @@
-// The benchmarks' work: the first argument names it, the second says how often. Each turn's result goes into the next,
-// so that none can be left out; the last one is printed for comparison with the other programs.
+// The benchmarks' work: the first argument names it, the second says how often it is done. Each turn uses the result of the
+// one before, so that no turn can be left out; the last result is printed for comparison with the other programs.
 
 // The first eight bytes of a result, in hexadecimal.
 fn print(result: &[u8]) {
@@ -7,7 +7,7 @@ fn print(result: &[u8]) {
     printing::text(b"\n");
 }
 
-// Hashes a message again and again, with each digest at its start.
+// Hashes a message repeatedly, with each digest written to its start.
 fn hash(message: &mut [u8], turns: u64) {
     let mut left = turns;
     while 0 < left {
@@ -18,7 +18,7 @@ fn hash(message: &mut [u8], turns: u64) {
     print(message);
 }
 
-// Encrypts a block again and again under one expanded key.
+// Encrypts a block repeatedly under one expanded key.
 fn encrypt(key: [u8; 32], turns: u64) {
     let schedule = primitives::expand_key(key);
     let mut block = [0u8; 16];
@@ -30,7 +30,7 @@ fn encrypt(key: [u8; 32], turns: u64) {
     print(&block);
 }
 
-// Encrypts a block again and again, with the key expanded each time.
+// Encrypts a block repeatedly, expanding the key each time.
 fn expand_and_encrypt(key: [u8; 32], turns: u64) {
     let mut block = [0u8; 16];
     let mut left = turns;
@@ -41,7 +41,7 @@ fn expand_and_encrypt(key: [u8; 32], turns: u64) {
     print(&block);
 }
 
-// The number of a decimal text of at most 18 digits; 0 of a longer one.
+// The number in a decimal text of at most 18 digits; 0 if the text is longer.
 fn digits(s: &[u8]) -> u64 {
     let mut v: u64 = 0;
     let mut i: usize = 0;

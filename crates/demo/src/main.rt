@@ -38,7 +38,7 @@ fn show_code(buf: &[u8], a: usize, e: usize) {
     printing::text(b"\n");
 }
 
-// The chain value, and as the next receipt spells it.
+// The chain value, in hexadecimal and as the next receipt spells it.
 fn show_chain(chain: [u8; 8]) {
     let mut spelled = [0u8; 12];
     primitives::base64_encode(Alphabet::Standard, &chain, &mut spelled, 0);

@@ -1,5 +1,5 @@
--- Laws of definitions of the crates below that these do not state. Beside proofs/Zeros.antt, which computes, this is the one place of the
--- crate that unfolds a definition of a lower one.
+-- Laws of definitions of the lower crates that those crates do not state. Apart from proofs/Zeros.antt, which computes, this is the only
+-- file of the crate that unfolds a definition of a lower one.
 use Prim.Native.Nat.{ℕ, _<_}
 use mathlib.Core.Path.{_≡_, refl}
 use mathlib.Core.Bool.{true, cond}

@@ -42,7 +42,7 @@ use Rattle.device.proofs.Writers.{length-settings}
 
 -- ---- settings
 
--- questions 1 to 4 say no; or they do not, and the output decides
+-- one of questions 1 to 4 is answered no; or none is, and the output decides
 module _ (s : Settings) (n room : ℕ) {k : ℕ} (e : k ≡ settingsNumber s n 0) where
   pub answer-stops : (k ≡ 0 → ⊥) → k ≡ settingsAnswer s n room
   unfolding settingsAnswer

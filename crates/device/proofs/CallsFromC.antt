@@ -28,7 +28,7 @@ use Rattle.journal.specs.declared.state.State.{State}
 use Rattle.journal.specs.declared.state.Opened.{Opened}
 use Rattle.journal.proofs.CallLists.{Bounds}
 use Rattle.primitives.proofs.Counts.{part-length}
-use Rattle.journal.proofs.Registers.{run-bounds, refused-same, entriesOf, open-zero, Holds, holds-behind, accepted-length, holds-calls, opening-holds, opening-length}
+use Rattle.journal.proofs.Registers.{run-bounds, refused-same, entriesOf, open-zero, Holds, holds-after, accepted-length, holds-calls, opening-holds, opening-length}
 use Rattle.device.specs.Layout.{stateBytes, nameAt, settingsAt, keyAt, settingsOf, widthOf, keyOf, stateOf}
 use Rattle.device.specs.Details.{noDetails, dateOf, detailsWith, ofKind, detailsOf}
 use Rattle.device.specs.Calls.{Slices, openedNumber, openedSlices, IssueCall, callIn, issueAnswer, issuedNumber, issuedSlices}
@@ -148,7 +148,7 @@ module _ (s : Settings) (n : ℕ) (key : List ℕ) (ts : TypedSettings s) (t : T
   module _ (g : Register) (es : List Entry) (h : Holds s n key g es) where
     held-typed : length (g .buf) < 18446744073709551616 → TypedState (g .state)
     held-typed l =
-        let b = holds-behind s n key ts good width (t .keyBytes) g es h in
+        let b = holds-after s n key ts good width (t .keyBytes) g es h in
         let o = subst Bounds (sym (h .state)) (run-bounds s n key es width (h .right)) in
         let m = g .state .width in
         let z = g .state .counter in

@@ -7,8 +7,8 @@ use native.Mathlib.Numerals.{add-one}
 use native.Mathlib.Omega.{arith}
 use lib.ListN.{length, getD, take, drop, length-append, drop-of-length-le}
 use lib.Seq.{drop-cons, drop-at, take-at, drop-drop}
-use Rattle.primitives.specs.Place.{overwrite, placed, behind}
-use Rattle.primitives.proofs.Over.{placed-room, behind-room}
+use Rattle.primitives.specs.Place.{overwrite, placed, placeAfter}
+use Rattle.primitives.proofs.Over.{placed-room, after-room}
 use Rattle.primitives.proofs.Writing.{Writing, writing-left, writing-more, writing-end, writing-fits}
 use Rattle.device.specs.Details.{pieces}
 
@@ -19,14 +19,14 @@ module _ {A : Type 0} (f : A → List ℕ) (z : A) where
 
   -- the loop that writes them
   module _ (xs : List A) (i : ℕ) {out₀ out : List ℕ} {at p : ℕ} (w : Writing out₀ at (pieces f xs) out p (pieces f (drop i xs))) where
-    pub piece-more : {r : ℕ} {out₁ : List ℕ} → i < length xs → (r ≡ behind out p (f (getD xs i z))) × (out₁ ≡ placed out p (f (getD xs i z)))
+    pub piece-more : {r : ℕ} {out₁ : List ℕ} → i < length xs → (r ≡ placeAfter out p (f (getD xs i z))) × (out₁ ≡ placed out p (f (getD xs i z)))
         → Writing out₀ at (pieces f xs) out₁ r (pieces f (drop (i + 1) xs))
     piece-more {r} {out₁} h e =
         let y = f (getD xs i z) in
         let rest = pieces f (drop (i + 1) xs) in
         let q = here xs i h in
         let room : p + length y ≤ length out = omega (arith, writing-fits w, ap length q, length-append y rest) in
-        subst (λ (o : ℕ). Writing out₀ at (pieces f xs) out₁ o rest) (sym (e .0 ∙ behind-room out p y room))
+        subst (λ (o : ℕ). Writing out₀ at (pieces f xs) out₁ o rest) (sym (e .0 ∙ after-room out p y room))
         (writing-more y rest (writing-left w q) (e .1 ∙ placed-room out p y room))
 
     pub pieces-done : length xs ≤ i → out ≡ overwrite out₀ at (pieces f xs)

@@ -7,9 +7,9 @@ use native.Mathlib.Omega.{arith}
 use borrow.Author.Tests.{eq-eqb, ne-eqb, eqb-true, not-true, not-false}
 use lib.Dec.{eqb}
 use lib.ListN.{length}
-use Rattle.primitives.specs.Place.{overwrite, placed, behind}
+use Rattle.primitives.specs.Place.{overwrite, placed, placeAfter}
 use Rattle.primitives.specs.Questions.{ask}
-use Rattle.primitives.proofs.Over.{over-nil, placed-room, behind-room}
+use Rattle.primitives.proofs.Over.{over-nil, placed-room, after-room}
 use Rattle.primitives.proofs.Rows.{ask-zero, ask-yes, ask-no, ifZero-yes, ifZero-no}
 use Rattle.primitives.specs.Counter.{widthGood}
 use Rattle.receipt.specs.Settings.{settingsGood, settingsNumber}
@@ -94,9 +94,9 @@ module _ (failed : Bool) (bytes out : List ℕ) where
   pub none-given : failed ≡ true → (0 ≡ length (cond failed [] bytes)) × (out ≡ overwrite out 0 (cond failed [] bytes))
   none-given h = rw h (refl, sym (over-nil out 0))
 
-  pub some-given : {r : ℕ} {out₁ : List ℕ} → failed ≡ false → length bytes ≡ 64 → length out ≡ 64 → (r ≡ behind out 0 bytes) × (out₁ ≡ placed out 0 bytes)
+  pub some-given : {r : ℕ} {out₁ : List ℕ} → failed ≡ false → length bytes ≡ 64 → length out ≡ 64 → (r ≡ placeAfter out 0 bytes) × (out₁ ≡ placed out 0 bytes)
       → (r ≡ length (cond failed [] bytes)) × (out₁ ≡ overwrite out 0 (cond failed [] bytes))
-  some-given h l m e = rw h (e .0 ∙ behind-room out 0 bytes (omega arith) ∙ omega arith, e .1 ∙ placed-room out 0 bytes (omega arith))
+  some-given h l m e = rw h (e .0 ∙ after-room out 0 bytes (omega arith) ∙ omega arith, e .1 ∙ placed-room out 0 bytes (omega arith))
 
 -- ---- the call
 

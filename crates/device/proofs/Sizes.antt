@@ -50,7 +50,7 @@ pub width-whole : (key : List ℕ) (n : ℕ) → length key ≡ 32 → widthWith
 unfolding widthWith
 width-whole key n l = rw (eq-eqb (length key) 32 l)
 
--- a width that is good came with a key of 32 bytes
+-- a good width came with a key of 32 bytes
 pub key-long : (key : List ℕ) (n : ℕ) → widthGood (widthWith key n) ≡ true → length key ≡ 32
 unfolding widthWith
 key-long key n w = go (eqb (length key) 32) refl w

@@ -8,7 +8,7 @@ use native.Mathlib.Omega.{arith}
 use borrow.Author.Tests.{le-leb, lt-leb, leb-true, leb-false, eq-eqb, ne-eqb}
 use lib.Dec.{leb, eqb}
 use lib.ListN.{length}
-use Rattle.primitives.specs.Place.{room, placed, behind}
+use Rattle.primitives.specs.Place.{room, placed, placeAfter}
 use Rattle.primitives.specs.Sha256.{sha256}
 use Rattle.primitives.specs.Base64 as B
 use Rattle.primitives.specs.Base64.{encoding, decoding, encodedLength, answerOf, bufferOf}
@@ -18,7 +18,7 @@ use Rattle.primitives.specs.declared.base64.Decoded.{Decoded}
 use Rattle.primitives.specs.declared.base64.Decoded.the-variants.{Upto, NoRoom}
 use Rattle.primitives.proofs.Base64Lengths.{length-encoding}
 use Rattle.primitives.proofs.Digest.{length-sha256}
-use Rattle.primitives.proofs.Over.{placed-room, behind-room, behind-full}
+use Rattle.primitives.proofs.Over.{placed-room, after-room, after-full}
 use Rattle.receipt.specs.Code.{idPlace}
 use Rattle.primitives.specs.Answers.{written, answerWith, bufferWith}
 use Rattle.primitives.specs.declared.answer.Answer.{Answer}
@@ -58,7 +58,7 @@ module _ (m out : List ℕ) where
 
 -- ---- BASE64
 
--- bytes have a text, and no bytes have none
+-- a text is empty exactly if there are no bytes
 text-some : (a : Alphabet) (n : ℕ) → 0 < n → 0 < encodedLength a n
 text-some Standard n h = omega arith
 text-some UrlSafe n h = omega arith
@@ -99,26 +99,26 @@ module _ (a : Alphabet) (xs out : List ℕ) where
       let t = text-none a in
       written-full (length xs) 0 (λ z. let q = ap (encodedLength a) z in omega arith) refl
 
-  pub encoded : {n end : ℕ} → end ≡ behind out 0 (encoding a xs) → n ≡ writtenNumber (length xs) end
+  pub encoded : {n end : ℕ} → end ≡ placeAfter out 0 (encoding a xs) → n ≡ writtenNumber (length xs) end
       → (n ≡ written out (encoding a xs) .number) × (end ≡ written out (encoding a xs) .length)
   encoded {n} {end} e q = go (leb (0 + length (encoding a xs)) (length out)) refl
     where
       go : (t : Bool) → leb (0 + length (encoding a xs)) (length out) ≡ t → (n ≡ written out (encoding a xs) .number) × (end ≡ written out (encoding a xs) .length)
       go true f =
           let r = leb-true (0 + length (encoding a xs)) (length out) f in
-          let w = e ∙ behind-room out 0 (encoding a xs) r in
+          let w = e ∙ after-room out 0 (encoding a xs) r in
           rw (written-room out (encoding a xs) (omega arith)) (q ∙ ap (writtenNumber (length xs)) w ∙ sym (fitted r), w ∙ omega arith)
       go false f =
           let r = leb-false (0 + length (encoding a xs)) (length out) f in
-          let w = e ∙ behind-full out 0 (encoding a xs) r in
+          let w = e ∙ after-full out 0 (encoding a xs) r in
           rw (answers.written-full out (encoding a xs) (omega arith)) (q ∙ ap (writtenNumber (length xs)) w ∙ sym (cut-off r), w)
 
 pub encode-is : (url : ℕ) (xs out : List ℕ) {a : Alphabet} {n end : ℕ} {b : List ℕ} → a ≡ alphabetOf url
-    → (end ≡ behind out 0 (encoding a xs)) × (b ≡ placed out 0 (encoding a xs)) → n ≡ writtenNumber (length xs) end
+    → (end ≡ placeAfter out 0 (encoding a xs)) × (b ≡ placed out 0 (encoding a xs)) → n ≡ writtenNumber (length xs) end
     → (n ≡ encodeAnswer url xs out .number) × (b ≡ encodeBuffer url xs out) × (end ≡ encodeAnswer url xs out .length)
 unfolding encodeAnswer encodeBuffer
 encode-is url xs out ea p q =
-    let r = encoded (alphabetOf url) xs out (p .0 ∙ ap (λ (x : Alphabet). behind out 0 (encoding x xs)) ea) q in
+    let r = encoded (alphabetOf url) xs out (p .0 ∙ ap (λ (x : Alphabet). placeAfter out 0 (encoding x xs)) ea) q in
     (r .0, p .1 ∙ ap (λ (x : Alphabet). placed out 0 (encoding x xs)) ea, r .1)
 
 module _ (out : List ℕ) where

@@ -1,4 +1,4 @@
--- What is all zero, and how the questions answer it.
+-- Values that are all zero, and how the questions answer them.
 use mathlib.Core.Path.{_≡_, refl}
 use mathlib.Core.Bool.{false}
 use native.Mathlib.Omega.{arith}

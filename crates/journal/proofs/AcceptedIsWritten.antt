@@ -1,4 +1,4 @@
--- Demand 3, back: the receipts of an accepted journal, issued anew, write it again.
+-- Demand 3, back: the receipts of an accepted journal, issued again, write the same journal.
 use Prim.Native.Nat.{ℕ, _+_, _≤_}
 use mathlib.Core.Path.{_≡_, refl, sym, ap, _∙_, subst}
 use mathlib.Core.Bool.{Bool, true, false, cond, _||_}
@@ -33,13 +33,13 @@ use Rattle.journal.specs.Calls.{TypedCall, TypedCalls, none, more, Regis
 use Rattle.journal.specs.Demands.{Again, AcceptedIsWritten}
 use Rattle.journal.specs.declared.state.State.{State}
 use Rattle.journal.specs.declared.state.TakenOver.{TakenOver}
-use Rattle.receipt.proofs.Entries.{Admitted, admitted, standard-is, counter-behind, counter-none, failed-bytes, encrypt-back}
+use Rattle.receipt.proofs.Entries.{Admitted, admitted, standard-is, counter-after, counter-none, failed-bytes, encrypt-back}
 use Rattle.journal.proofs.Heads.{length-head}
 use Rattle.journal.proofs.Check as check
 use Rattle.journal.proofs.Check.{RightAt, textIn, step, AllRight, run, first-yes, right-new, step-length, step-texts}
 use Rattle.journal.proofs.Accepting.{valid-right, valid-taken}
 use Rattle.journal.proofs.CallLists.{Bounds, Sound, Detailed, issue-yes}
-use Rattle.journal.proofs.Registers.{run-bounds, counter-sum, entryIn, Holds, holds-behind, call-state, accepted-call, accepted-length, opening-holds, opening-length}
+use Rattle.journal.proofs.Registers.{run-bounds, counter-sum, entryIn, Holds, holds-after, call-state, accepted-call, accepted-length, opening-holds, opening-length}
 use Rattle.journal.specs.State.{settingsNow}
 use Rattle.receipt.proofs.Names.{settings-yes}
 use Rattle.primitives.proofs.Rows.{ask-yes}
@@ -91,7 +91,7 @@ module _ (st : State) (e : Entry) (h : RightAt st e) (kb : AllBytes (st .key)) w
           let k = standard-is (e .fields .details .kind) q in
           let c : newCounter st (e .fields .details) .counter ≡ decryptedCounter (keySchedule (st .key)) (settingsNow st .id) (e .fields .details .number) (st .width) (e .fields .counter) =
           ap (λ (x : After). x .counter) (right-new st e h) ∙ sym (h .counter .decrypted k) in
-          let z = counter-behind (st .width) (e .fields .counter) (h .typed .fields .counter) (subst (λ (x : Kind). counterGood (st .width) x (e .fields .counter) ≡ true) k (a .counter)) in
+          let z = counter-after (st .width) (e .fields .counter) (h .typed .fields .counter) (subst (λ (x : Kind). counterGood (st .width) x (e .fields .counter) ≡ true) k (a .counter)) in
           ap (encryptedCounter (keySchedule (st .key)) (settingsNow st .id) (e .fields .details .number) (st .width)) c
           ∙ encrypt-back (keySchedule (st .key)) (settingsNow st .id) (e .fields .details .number) (st .width) (e .fields .counter) (schedule-bytes kb) (a .width) (h .typed .fields .counter) (h .typed .fields .counterBytes) z
       go false q = sym (counter-none (st .width) (e .fields .details .kind) (e .fields .counter) q (h .typed .fields .counter) (a .counter))
@@ -155,7 +155,7 @@ module _ (s : Settings) (n : ℕ) (key : List ℕ) (ts : TypedSettings s) (good 
   -- a register that holds entries is sound
   holds-sound : (g : Register) (es : List Entry) → Holds s n key g es → Sound (g .state)
   holds-sound g es h =
-      let b = holds-behind s n key ts good width kb g es h in
+      let b = holds-after s n key ts good width kb g es h in
       let r : Bounds (g .state) = subst Bounds (sym (h .state)) (run-bounds s n key es width (h .right)) in
       record {
         settings = subst (λ (x : Settings). settingsGood x ≡ true) (sym (b .settings)) good;
@@ -169,7 +169,7 @@ module _ (s : Settings) (n : ℕ) (key : List ℕ) (ts : TypedSettings s) (good 
   module _ (g : Register) (before : List Entry) (e : Entry) (k : Holds s n key g before) (h : RightAt (g .state) e)
       (room : g .state .length + length (entryText (textIn (g .state) e)) ≤ length (g .buf)) where
     key-bytes : AllBytes (g .state .key)
-    key-bytes = subst AllBytes (sym (holds-behind s n key ts good width kb g before k .key)) kb
+    key-bytes = subst AllBytes (sym (holds-after s n key ts good width kb g before k .key)) kb
 
     one-zero : numberOf g (callOf e) ≡ 0
     unfolding numberOf
@@ -264,7 +264,7 @@ module _ {j key : List ℕ} {n : ℕ} (kb : AllBytes key) (v : Valid j key n) (b
   end-journal =
       let g = calls start (callsOf (v .entries)) in
       let h = all-again .holds in
-      let b = holds-behind (v .settings) n key (v .typed) (v .good) (v .width) kb g (v .entries) h in
+      let b = holds-after (v .settings) n key (v .typed) (v .good) (v .width) kb g (v .entries) h in
       sym (take-all (g .state .length) (g .buf) (omega (arith, all-again .long, start-length, j-long, b .length))) ∙ (h .bytes ∙ sym (v .bytes))
 
   taken-state : takeOver j key n .state ≡ run (fresh (v .settings) n key) (v .entries)

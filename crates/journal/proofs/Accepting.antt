@@ -1,4 +1,4 @@
--- Take over accepts just the valid journals.
+-- Take over accepts exactly the valid journals.
 use Prim.Native.Nat.{ℕ, zero, suc, _≤_, _<_}
 use mathlib.Core.Path.{_≡_, refl, sym, ap, _∙_, subst, transport}
 use mathlib.Core.Bool.{true}
@@ -19,7 +19,7 @@ use Rattle.primitives.specs.Questions.{ask, ifZero}
 use Rattle.journal.specs.Checking.{headNumber, refused, accepted, takeOver, lastAnswer, steps}
 use Rattle.journal.proofs.Remaining.{checkFrom, steps-check}
 use Rattle.journal.specs.Receipts.{receiptsIn, sum}
-use Rattle.journal.specs.Valid.{Right, RightBehind, Valid, texts, lastOf, chainOf}
+use Rattle.journal.specs.Valid.{Right, RightAfter, Valid, texts, lastOf, chainOf}
 use Rattle.journal.specs.declared.state.State.{State}
 use Rattle.journal.specs.declared.state.TakenOver.{TakenOver}
 use Rattle.primitives.proofs.Rows.{ask-zero}
@@ -32,7 +32,7 @@ head-some : (s : Settings) → 0 < headLength s
 unfolding headLength
 head-some s = omega arith
 
--- ---- a journal of right entries is accepted, with the state behind them
+-- ---- a journal of right entries is accepted, with the state after them
 
 module _ (s : Settings) (key : List ℕ) (n : ℕ) where
   -- from the fresh state on, as many steps as the journal has bytes check the entries that its count says
@@ -63,18 +63,18 @@ module _ (s : Settings) (key : List ℕ) (n : ℕ) where
 
   -- ---- valid journals
 
-  from-fresh : (before : List Entry) (e : Entry) → RightFrom (fresh s n key) before e ≡ RightBehind s key n before e
+  from-fresh : (before : List Entry) (e : Entry) → RightFrom (fresh s n key) before e ≡ RightAfter s key n before e
   unfolding fresh
   from-fresh before e =
       λ i. Right s key n (lastOf 0 before) (zero-add (length before) i) (+ℤ-idl (sum (receiptsIn before)) i) (chainOf s n (chainValue (nameText (s .id))) before) e
 
   pub fresh-each : (es : List Entry) → AllRight (fresh s n key) es
-      → (before : List Entry) (e : Entry) (behind : List Entry) → es ≡ before ++ (e ∷ behind) → RightBehind s key n before e
-  fresh-each es h before e behind q = transport (from-fresh before e) (all-each es (fresh s n key) h before e behind q)
+      → (before : List Entry) (e : Entry) (later : List Entry) → es ≡ before ++ (e ∷ later) → RightAfter s key n before e
+  fresh-each es h before e later q = transport (from-fresh before e) (all-each es (fresh s n key) h before e later q)
 
-  pub each-fresh : (es : List Entry) → ((before : List Entry) (e : Entry) (behind : List Entry) → es ≡ before ++ (e ∷ behind) → RightBehind s key n before e)
+  pub each-fresh : (es : List Entry) → ((before : List Entry) (e : Entry) (later : List Entry) → es ≡ before ++ (e ∷ later) → RightAfter s key n before e)
       → AllRight (fresh s n key) es
-  each-fresh es h = each-all es (fresh s n key) (λ before e behind q. transport (sym (from-fresh before e)) (h before e behind q))
+  each-fresh es h = each-all es (fresh s n key) (λ before e later q. transport (sym (from-fresh before e)) (h before e later q))
 
 -- the entries of a valid journal, all right from the fresh state on
 pub valid-right : {j key : List ℕ} {n : ℕ} (v : Valid j key n) → AllRight (fresh (v .settings) n key) (v .entries)
@@ -98,7 +98,7 @@ fresh-settings : (s : Settings) (n : ℕ) (key : List ℕ) → fresh s n key .se
 unfolding fresh
 fresh-settings s n key = refl
 
--- the rest behind the head of a fresh state
+-- the rest after the head of a fresh state
 fresh-bytes : (s : Settings) (n k : ℕ) (key j : List ℕ) (r : Reads k (fresh s n key) j) → drop (headLength s) j ≡ texts s n (r .entries)
 unfolding fresh
 fresh-bytes s n k key j r = r .bytes

@@ -1,4 +1,4 @@
--- The checker accepts just the texts of right entries.
+-- The checker accepts exactly the texts of right entries.
 use Prim.Native.Nat.{ℕ, zero, suc, _+_, _≤_, _<_}
 use mathlib.Core.Path.{_≡_, refl, sym, ap, _∙_, subst, transport}
 use mathlib.Core.Bool.{Bool, true, false, cond, not, _||_}
@@ -84,7 +84,7 @@ module _ (st : State) (d : Details) where
   unfolding numberAbove
   above-true e = ltb-true (st .last) (d .number) e
 
-  -- the new counter is the sum where it fits
+  -- the new counter is the sum if it fits
   pub new-yes : amountsGood (d .amounts) ≡ true → counterFits (st .width) (st .counter +ℤ counted d) ≡ true
       → newCounter st d ≡ record { fits = true; counter = st .counter +ℤ counted d }
   unfolding newCounter
@@ -219,7 +219,7 @@ run-length (e ∷ es) st =
     let a = length-append (entryText (textIn st e)) (texts (settingsNow st) (st .width) es) in
     run-length es (step st e) ∙ omega (arith, step-length st e, ap length (step-texts st e es))
 
--- right entries at the state's place are passed, whatever stands behind them
+-- right entries at the state's place are passed, whatever follows them
 pub passed : (es : List Entry) (m : ℕ) (st : State) (p rest j : List ℕ) → length p ≡ st .length → TypedSettings (settingsNow st) → AllRight st es
     → j ≡ p ++ (texts (settingsNow st) (st .width) es ++ rest) → checkFrom (length es + m) st j ≡ checkFrom m (run st es) j
 unfolding texts run
@@ -249,14 +249,14 @@ pub bytes-text : (j : List ℕ) (at : ℕ) → AllBytes j → AllBytes (textAt j
 unfolding textAt
 bytes-text j at b = bytes-take (lengthAt j at) (bytes-drop (at + 2) b)
 
--- what an accepted rest is
+-- what an accepted rest consists of
 pub record Reads (n : ℕ) (st : State) (j : List ℕ) : Type 0 where
   pub entries : List Entry
   pub count : length entries ≡ n
   pub bytes : drop (st .length) j ≡ texts (settingsNow st) (st .width) entries
   pub right : AllRight st entries
 
--- the state behind an entry that passed
+-- the state after an entry that passed
 pub after-passed : (st : State) (text : List ℕ) (w : Passed st text) → after st text ≡ step st (w .entry)
 unfolding after
 after-passed st text w = rw (w .found) (ap (next st (w .entry .fields .details)) (w .is))
@@ -308,27 +308,27 @@ sound-from (suc n) st j ts b z =
 
 -- ---- right at each place, and all right
 
--- right behind the entries before it, from a state on
+-- right, given the entries before it, from a state on
 abbrev pub RightFrom : State → List Entry → Entry → Type 0
 RightFrom st before e =
     Right (settingsNow st) (st .key) (st .width) (lastOf (st .last) before) (st .issued + length before) (st .counter +ℤ sum (receiptsIn before))
     (chainOf (settingsNow st) (st .width) (st .chain) before) e
 
 abbrev pub EachRight : State → List Entry → Type 0
-EachRight st es = (before : List Entry) (e : Entry) (behind : List Entry) → es ≡ before ++ (e ∷ behind) → RightFrom st before e
+EachRight st es = (before : List Entry) (e : Entry) (later : List Entry) → es ≡ before ++ (e ∷ later) → RightFrom st before e
 
 pub step-counter : (st : State) (e : Entry) → RightAt st e → step st e .counter ≡ st .counter +ℤ counted (e .fields .details)
 unfolding next
 step-counter st e h = ap (λ (a : After). a .counter) (right-new st e h)
 
--- the sum behind one more entry
+-- the sum after one more entry
 pub step-sum : (st : State) (e : Entry) (before : List Entry) → RightAt st e
     → step st e .counter +ℤ sum (receiptsIn before) ≡ st .counter +ℤ sum (receiptsIn (e ∷ before))
 unfolding sum receiptsIn receiptOf
 step-sum st e before h =
     ap (λ (z : ℤ). z +ℤ sum (receiptsIn before)) (step-counter st e h) ∙ +ℤ-assoc (st .counter) (counted (e .fields .details)) (sum (receiptsIn before))
 
--- a right entry behind one more entry
+-- a right entry after one more entry
 module _ (st : State) (x : Entry) (before : List Entry) (e : Entry) (h : RightAt st x) where
   count-more : step st x .issued + length before ≡ st .issued + length (x ∷ before)
   unfolding next
@@ -345,15 +345,15 @@ unfolding lastOf chainOf sum receiptsIn
 none-before st e = λ i. Right (settingsNow st) (st .key) (st .width) (st .last) (add-zero (st .issued) i) (+ℤ-idr (st .counter) i) (st .chain) e
 
 pub all-each : (es : List Entry) (st : State) → AllRight st es → EachRight st es
-all-each [] st none [] e behind q = absurd (let z : _≡_ {A = ℕ} 0 1 = cc in omega arith)
-all-each [] st none (x ∷ before) e behind q = absurd (let z : _≡_ {A = ℕ} 0 1 = cc in omega arith)
-all-each (x ∷ es) st (more h hs) [] e behind q =
+all-each [] st none [] e later q = absurd (let z : _≡_ {A = ℕ} 0 1 = cc in omega arith)
+all-each [] st none (x ∷ before) e later q = absurd (let z : _≡_ {A = ℕ} 0 1 = cc in omega arith)
+all-each (x ∷ es) st (more h hs) [] e later q =
     let p : x ≡ e = cc in
     transport (sym (none-before st e)) (subst (RightAt st) p h)
-all-each (x ∷ es) st (more h hs) (y ∷ before) e behind q =
+all-each (x ∷ es) st (more h hs) (y ∷ before) e later q =
     let p : x ≡ y = cc in
-    let p′ : es ≡ before ++ (e ∷ behind) = cc in
-    let w = all-each es (step st x) hs before e behind p′ in
+    let p′ : es ≡ before ++ (e ∷ later) = cc in
+    let w = all-each es (step st x) hs before e later p′ in
     subst (λ (v : Entry). RightFrom st (v ∷ before) e) p (transport (one-more st x before e h) w)
 
 pub each-all : (es : List Entry) (st : State) → EachRight st es → AllRight st es
@@ -361,4 +361,4 @@ each-all [] st h = none
 each-all (e ∷ es) st h =
     let r : RightAt st e = transport (none-before st e) (h [] e es refl) in
     more r
-    (each-all es (step st e) (λ before x behind q. transport (sym (one-more st e before x r)) (h (e ∷ before) x behind (ap (λ (l : List Entry). e ∷ l) q))))
+    (each-all es (step st e) (λ before x later q. transport (sym (one-more st e before x r)) (h (e ∷ before) x later (ap (λ (l : List Entry). e ∷ l) q))))

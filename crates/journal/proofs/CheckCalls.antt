@@ -94,7 +94,7 @@ bits-equal {x} {y} {z} f g e = go (eqb (ofZ w64 x) (ofZ w64 y)) refl
     go true q = sym (equal-yes z y (sym e ∙ same-bits x y f g (eqb-true (ofZ w64 x) (ofZ w64 y) q)))
     go false q = sym (equal-no z y (λ r. true-is-not-false (sym q ∙ eq-eqb (ofZ w64 x) (ofZ w64 y) (ap (ofZ w64) (e ∙ r)))))
 
--- the same of what is decrypted with the settings in force
+-- the same for the counter decrypted with the settings in force
 pub decrypted-equal : (k : List (List ℕ)) (st : State) (f : PayloadFields) {s : Settings} {x y : ℤ} → s ≡ settingsNow st → SFits w64 x → SFits w64 y
     → x ≡ decryptedCounter k (s .id) (f .details .number) (st .width) (f .counter)
     → eqb (ofZ w64 x) (ofZ w64 y) ≡ equal (decryptedCounter k (settingsNow st .id) (f .details .number) (st .width) (f .counter)) y

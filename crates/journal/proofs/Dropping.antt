@@ -30,7 +30,7 @@ texts-append s n [] fs = refl
 texts-append s n (e ∷ es) fs =
     ap (λ (l : List ℕ). entryText (compact s n e) ++ l) (texts-append s n es fs) ∙ sym (append-assoc (entryText (compact s n e)) (texts s n es) (texts s n fs))
 
--- another count over a head, and what stands behind it
+-- another count written over that of a head, with what follows it
 count-over : (s : Settings) (k m : ℕ) (t : List ℕ) (place : ℕ) → length (front s) ≡ place → overwrite (head s k ++ t) place (bytesOf 4 m) ≡ head s m ++ t
 count-over s k m t place e =
     let l : length (bytesOf 4 k) ≡ length (bytesOf 4 m) = length-bytesOf 4 k ∙ sym (length-bytesOf 4 m) in
@@ -66,7 +66,7 @@ module _ {j key : List ℕ} {n : ℕ} (v : Valid j key n) (kept dropped : List E
               entries = kept;
               few = fewer;
               bytes = refl;
-              each = λ before e behind p. v .each before e (behind ++ dropped) (q ∙ (ap (λ (l : List Entry). l ++ dropped) p ∙ append-assoc before (e ∷ behind) dropped));
+              each = λ before e later p. v .each before e (later ++ dropped) (q ∙ (ap (λ (l : List Entry). l ++ dropped) p ∙ append-assoc before (e ∷ later) dropped));
             };
         entries = refl;
       }

@@ -1,4 +1,4 @@
--- The first question of Take over with the answer no is its answer.
+-- If there is a first question answered no, Take over gives its number and index.
 use Prim.Native.Nat.{ℕ, suc, _+_, _-_, _≤_, _<_}
 use mathlib.Core.Path.{_≡_, refl, sym, ap, _∙_, subst}
 use mathlib.Core.Bool.{Bool, true, false, cond}
@@ -30,7 +30,7 @@ use Rattle.journal.proofs.Places.{text-at, there-entry, text-short}
 use Rattle.journal.proofs.Heads.{length-head, good-head, read-typed, read-few, read-back, countOf}
 use Rattle.journal.proofs.Check.{AllRight, run, passed, bytes-text}
 use Rattle.journal.proofs.Accepting.{head-passes, each-fresh}
-use Rattle.journal.proofs.Registers.{run-behind}
+use Rattle.journal.proofs.Registers.{run-after}
 use Rattle.journal.proofs.FirstRefusal.{there-yes, found-here, d-above, above-d, d-start, start-d, d-chain, chain-d, d-counter, step-15, step-there-is, entry-16, entry-fields, fields-17, fields-18, fields-19, fields-20, take-no}
 
 bool-no : (q : Bool) → (q ≡ true → ⊥) → q ≡ false
@@ -52,7 +52,7 @@ module _ (j key : List ℕ) (n : ℕ) (b : AllBytes j) (s : Settings) (k : ℕ) 
   unfolding state
   front-long =
       length-append (head s k) (texts s n es)
-      ∙ (ap (λ (m : ℕ). m + length (texts s n es)) (length-head s (far .headed .typed .lengths) (far .headed .good) k) ∙ sym (run-behind s n key es .length))
+      ∙ (ap (λ (m : ℕ). m + length (texts s n es)) (length-head s (far .headed .typed .lengths) (far .headed .good) k) ∙ sym (run-after s n key es .length))
 
   rest-is : drop (state .length) j ≡ rest
   rest-is =
@@ -75,7 +75,7 @@ module _ (j key : List ℕ) (n : ℕ) (b : AllBytes j) (s : Settings) (k : ℕ) 
 
   issued-is : state .issued ≡ length es
   unfolding state
-  issued-is = run-behind s n key es .issued
+  issued-is = run-after s n key es .issued
 
   -- a step that is refused
   stopped : length es < k → (x : ℕ) → entryNumber (scheduleOf state) state j ≡ suc x → takeOver j key n ≡ refused (suc x) (length es)
@@ -111,7 +111,7 @@ module _ (j key : List ℕ) (n : ℕ) (b : AllBytes j) (s : Settings) (k : ℕ) 
   found-far text =
       found-here j key n b (far .width) s (far .headed .typed) (far .headed .good) k (far .headed .few) es right-far bytes-far text
 
-  -- 15 was answered by yes
+  -- 15 was answered yes
   module _ (l : length es < k) (text more : List ℕ) (x : EntryThere rest text more) where
     step-text : entryNumber (scheduleOf state) state j ≡ textNumber (scheduleOf state) state text
     step-text = step-there-is state j (there-far text more x) ∙ ap (textNumber (scheduleOf state) state) (text-far text more x)
@@ -135,7 +135,7 @@ module _ (j key : List ℕ) (n : ℕ) (b : AllBytes j) (s : Settings) (k : ℕ) 
       step-fields : entryNumber (scheduleOf state) state j ≡ contextNumber (scheduleOf state) state (e .fields)
       step-fields = step-text ∙ entry-fields state text e found-e
 
--- 15 and 16 were answered by yes: the numbers of 17 to 20
+-- 15 and 16 were answered yes: the numbers of 17 to 20
 module _ (j key : List ℕ) (n : ℕ) (b : AllBytes j) (es : List Entry) (s : Settings) (e : Entry) (x : Next j key n es s e) where
   st : State
   st = run (fresh s n key) es

@@ -1,4 +1,4 @@
--- A refused Take over has the number and the index of the first question with the answer no.
+-- A refused Take over gives the number and the index of the first question answered no.
 use Prim.Native.Nat.{ℕ, zero, suc, _+_, _≤_, _<_}
 use mathlib.Core.Path.{_≡_, refl, sym, ap, _∙_, subst}
 use mathlib.Core.Bool.{Bool, true, false, cond}
@@ -40,10 +40,10 @@ use Rattle.journal.proofs.Check as check
 use Rattle.journal.proofs.Check.{step, AllRight, run, first-yes, first-true, above-yes, above-true, new-yes, right-yes, right-fits, right-true, new-fits, passes-right, Passed, after-passed, bytes-text}
 use Rattle.journal.proofs.Accepting.{fresh-each, head-checks}
 use Rattle.journal.proofs.CallLists.{run-snoc, texts-snoc, right-snoc}
-use Rattle.journal.proofs.Registers.{Behind, run-behind, counter-sum}
+use Rattle.journal.proofs.Registers.{StateAfter, run-after, counter-sum}
 use Rattle.journal.specs.State.{settingsNow}
 
--- ---- the state behind entries, field by field
+-- ---- the state after entries, field by field
 
 run-last : (es : List Entry) (st : State) → run st es .last ≡ lastOf (st .last) es
 unfolding run lastOf next
@@ -63,7 +63,7 @@ fresh-chain : (s : Settings) (n : ℕ) (key : List ℕ) (es : List Entry) → ru
 unfolding fresh
 fresh-chain s n key es = run-chain es (fresh s n key)
 
--- the state behind entries
+-- the state after entries
 abbrev pub at : Settings → ℕ → List ℕ → List Entry → State
 at s n key es = run (fresh s n key) es
 
@@ -71,8 +71,8 @@ at s n key es = run (fresh s n key) es
 
 module _ (j key : List ℕ) (n : ℕ) (b : AllBytes j) (width : widthGood n ≡ true) (s : Settings) (ts : TypedSettings s) (good : settingsGood s ≡ true) (k : ℕ) (few : k < 4294967296) where
   module _ (es : List Entry) (right : AllRight (fresh s n key) es) (bytes : j ≡ head s k ++ (texts s n es ++ drop (at s n key es .length) j)) where
-    behind : Behind s n key es (at s n key es)
-    behind = run-behind s n key es
+    state-after : StateAfter s n key es (at s n key es)
+    state-after = run-after s n key es
 
     so-far : SoFar j key n s k es (drop (at s n key es .length) j)
     so-far = record { width = width; headed = record { typed = ts; good = good; few = few; bytes = bytes }; each = fresh-each s key n es right }
@@ -80,7 +80,7 @@ module _ (j key : List ℕ) (n : ℕ) (b : AllBytes j) (width : widthGood n ≡ 
     inside : at s n key es .length ≤ length j
     inside =
         let d = drop (at s n key es .length) j in
-        omega (arith, ap length bytes, length-append (head s k) (texts s n es ++ d), length-append (texts s n es) d, length-head s (ts .lengths) good k, behind .length, length-drop (at s n key es .length) j)
+        omega (arith, ap length bytes, length-append (head s k) (texts s n es ++ d), length-append (texts s n es) d, length-head s (ts .lengths) good k, state-after .length, length-drop (at s n key es .length) j)
 
     last-is : at s n key es .last ≡ lastOf 0 es
     last-is = fresh-last s n key es
@@ -93,9 +93,9 @@ module _ (j key : List ℕ) (n : ℕ) (b : AllBytes j) (width : widthGood n ≡ 
 
     pub found-here : (text : List ℕ) → found (at s n key es) text ≡ readEntry s n text
     unfolding found
-    found-here text = λ i. readEntry (behind .settings i) (behind .width i) text
+    found-here text = λ i. readEntry (state-after .settings i) (state-after .width i) text
 
-    -- where an entry is there, 15 is answered by yes
+    -- if an entry is complete, 15 is answered yes
     pub there-yes : (text more : List ℕ) → EntryThere (drop (at s n key es .length) j) text more → there j (at s n key es .length) ≡ true
     there-yes text more x =
         let p = take (at s n key es .length) j in
@@ -113,10 +113,10 @@ module _ (j key : List ℕ) (n : ℕ) (b : AllBytes j) (width : widthGood n ≡ 
       above-d q = above-yes (at s n key es) (e .fields .details) (subst (λ (l : ℕ). l < e .fields .details .number) (sym last-is) q)
 
       pub d-start : firstGood (at s n key es) (e .fields .details) ≡ true → StartFirst es e
-      d-start q z = first-true (at s n key es) (e .fields .details) q (behind .issued ∙ z)
+      d-start q z = first-true (at s n key es) (e .fields .details) q (state-after .issued ∙ z)
 
       pub start-d : StartFirst es e → firstGood (at s n key es) (e .fields .details) ≡ true
-      start-d q = first-yes (at s n key es) (e .fields .details) (λ z. q (sym (behind .issued) ∙ z))
+      start-d q = first-yes (at s n key es) (e .fields .details) (λ z. q (sym (state-after .issued) ∙ z))
 
       pub d-chain : same (e .fields .chain) (at s n key es .chain) ≡ true → Chained s n es e
       d-chain q = same-true (e .fields .chain) (at s n key es .chain) q ∙ chain-is
@@ -128,16 +128,16 @@ module _ (j key : List ℕ) (n : ℕ) (b : AllBytes j) (width : widthGood n ≡ 
       counter-d c =
           let d = e .fields .details in
           let a = admitted s n e (x .spells .spelled) in
-          let f : counterFits (at s n key es .width) (at s n key es .counter +ℤ counted d) ≡ true = (λ i. counterFits (behind .width i) (sum-is i +ℤ counted d)) ∙ c .fits in
+          let f : counterFits (at s n key es .width) (at s n key es .counter +ℤ counted d) ≡ true = (λ i. counterFits (state-after .width i) (sum-is i +ℤ counted d)) ∙ c .fits in
           right-yes (at s n key es) (e .fields) (new-yes (at s n key es) d (a .amounts) f)
-          (λ q. (λ i. decryptedCounter (keySchedule (behind .key i)) (behind .settings i .id) (d .number) (behind .width i) (e .fields .counter)) ∙ (c .decrypted q ∙ ap (λ (z : ℤ). z +ℤ counted d) (sym sum-is)))
+          (λ q. (λ i. decryptedCounter (keySchedule (state-after .key i)) (state-after .settings i .id) (d .number) (state-after .width i) (e .fields .counter)) ∙ (c .decrypted q ∙ ap (λ (z : ℤ). z +ℤ counted d) (sym sum-is)))
 
       pub d-counter : counterRight (scheduleOf (at s n key es)) (at s n key es) (e .fields) ≡ true → Counted s key n (sum (receiptsIn es)) e
       d-counter q =
           let d = e .fields .details in
           record {
-            fits = (λ i. counterFits (sym (behind .width) i) (sym sum-is i +ℤ counted d)) ∙ new-fits (at s n key es) d (right-fits (at s n key es) (e .fields) q) .fits;
-            decrypted = λ p. (λ i. decryptedCounter (keySchedule (sym (behind .key) i)) (sym (behind .settings) i .id) (d .number) (sym (behind .width) i) (e .fields .counter)) ∙ (right-true (at s n key es) (e .fields) q p ∙ ap (λ (z : ℤ). z +ℤ counted d) sum-is);
+            fits = (λ i. counterFits (sym (state-after .width) i) (sym sum-is i +ℤ counted d)) ∙ new-fits (at s n key es) d (right-fits (at s n key es) (e .fields) q) .fits;
+            decrypted = λ p. (λ i. decryptedCounter (keySchedule (sym (state-after .key) i)) (sym (state-after .settings) i .id) (d .number) (sym (state-after .width) i) (e .fields .counter)) ∙ (right-true (at s n key es) (e .fields) q p ∙ ap (λ (z : ℤ). z +ℤ counted d) sum-is);
           }
 
       fields-no : (contextNumber (scheduleOf (at s n key es)) (at s n key es) (e .fields) ≡ 0 → ⊥) → NoAt j key n (contextNumber (scheduleOf (at s n key es)) (at s n key es) (e .fields)) (length es)
@@ -216,7 +216,7 @@ module _ (j key : List ℕ) (n : ℕ) (b : AllBytes j) (width : widthGood n ≡ 
       step-passed : Passed (at s n key es) (textAt j (at s n key es .length))
       unfolding entryNumber
       step-passed =
-          passes-right (at s n key es) (textAt j (at s n key es .length)) (subst TypedSettings (sym (behind .settings)) ts) (bytes-text j (at s n key es .length) b) (ask-zero _ _ _ z .1)
+          passes-right (at s n key es) (textAt j (at s n key es .length)) (subst TypedSettings (sym (state-after .settings)) ts) (bytes-text j (at s n key es .length) b) (ask-zero _ _ _ z .1)
 
       one : Entry
       one = step-passed .entry
@@ -231,14 +231,14 @@ module _ (j key : List ℕ) (n : ℕ) (b : AllBytes j) (width : widthGood n ≡ 
 
       one-text : textAt j (at s n key es .length) ≡ compact s n one
       unfolding one
-      one-text = step-passed .is ∙ (λ i. compact (behind .settings i) (behind .width i) (step-passed .entry))
+      one-text = step-passed .is ∙ (λ i. compact (state-after .settings i) (state-after .width i) (step-passed .entry))
 
       one-length : at s n key es .length + length (entryText (textAt j (at s n key es .length))) ≡ at s n key (es ++ (one ∷ [])) .length
       one-length =
           let t = texts-snoc s n es one in
           let l = length-append (texts s n es) (entryText (compact s n one)) in
           let m = ap (λ (x : List ℕ). length (entryText x)) one-text in
-          omega (arith, behind .length, run-behind s n key (es ++ (one ∷ [])) .length, ap length t)
+          omega (arith, state-after .length, run-after s n key (es ++ (one ∷ [])) .length, ap length t)
 
       one-bytes : j ≡ head s k ++ (texts s n (es ++ (one ∷ [])) ++ drop (at s n key (es ++ (one ∷ [])) .length) j)
       one-bytes =
@@ -267,7 +267,7 @@ module _ (j key : List ℕ) (n : ℕ) (b : AllBytes j) (width : widthGood n ≡ 
     where
       go : (q : Bool) → leb (length j) (at s n key es .length) ≡ q → Refusal (cond q (accepted (at s n key es)) (refused 21 (at s n key es .issued)))
       go true q h = absurd (h refl)
-      go false q h = subst (λ (i : ℕ). NoAt j key n 21 i) (sym (behind es right bytes .issued)) (end-left es right bytes l (leb-false _ _ q))
+      go false q h = subst (λ (i : ℕ). NoAt j key n 21 i) (sym (state-after es right bytes .issued)) (end-left es right bytes l (leb-false _ _ q))
 
   step-check : (m : ℕ) (es : List Entry) (right : AllRight (fresh s n key) es) (bytes : Bytes es) → suc m + length es ≡ k
       → ((z : entryNumber (scheduleOf (at s n key es)) (at s n key es) j ≡ 0) → Refusal (checkFrom m (after (at s n key es) (textAt j (at s n key es .length))) j))
@@ -278,7 +278,7 @@ module _ (j key : List ℕ) (n : ℕ) (b : AllBytes j) (width : widthGood n ≡ 
       go : (x : ℕ) → entryNumber (scheduleOf (at s n key es)) (at s n key es) j ≡ x → Refusal (ifZero x (checkFrom m (after (at s n key es) (textAt j (at s n key es .length))) j) (refused x (at s n key es .issued)))
       go zero q h = rec q h
       go (suc x) q h =
-          subst (λ (i : ℕ). NoAt j key n (suc x) i) (sym (behind es right bytes .issued))
+          subst (λ (i : ℕ). NoAt j key n (suc x) i) (sym (state-after es right bytes .issued))
           (subst (λ (y : ℕ). NoAt j key n y (length es)) q (step-no es right bytes (omega arith) (λ z. omega (arith, q, z))))
 
   check-no : (m : ℕ) (es : List Entry) → AllRight (fresh s n key) es → Bytes es → m + length es ≡ k → Refusal (checkFrom m (at s n key es) j)
@@ -329,7 +329,7 @@ module _ (st : State) (f : PayloadFields) where
 
 -- ---- the head
 
--- what is read behind a fresh head
+-- what is read after a fresh head
 fresh-bytes : (s : Settings) (n : ℕ) (key j : List ℕ) (k : ℕ) → j ≡ head s k ++ drop (headLength s) j
     → j ≡ head s k ++ (texts s n [] ++ drop (run (fresh s n key) [] .length) j)
 unfolding run fresh texts

@@ -1,4 +1,4 @@
--- The head of a journal: what is read in it, and that a good head was written so.
+-- The head of a journal: what is read from it, and that a good head is what the writer writes.
 use Prim.Native.Nat.{ℕ, _+_, _≤_, _<_}
 use mathlib.Core.Path.{_≡_, refl, sym, ap, _∙_}
 use mathlib.Core.Bool.{true}
@@ -145,10 +145,10 @@ module _ (s : Settings) (t : SettingsLengths s) (g : settingsGood s ≡ true) wh
         let m = length-head k in
         rw (read-three, read-settings, le-leb (countPlaceIn (head s k ++ more) + 4) (length (head s k ++ more)) (omega (arith, place-four))) g
 
-    pub behind-head : drop (headLength s) (head s k ++ more) ≡ more
-    behind-head = drop-at (head s k) more (headLength s) (length-head k)
+    pub after-head : drop (headLength s) (head s k ++ more) ≡ more
+    after-head = drop-at (head s k) more (headLength s) (length-head k)
 
--- ---- a good head is the head of what was read in it
+-- ---- a good head is the head of what was read from it
 
 module _ (j : List ℕ) (b : AllBytes j) (h : headGood j ≡ true) where
   pub record GoodHead : Type 0 where
@@ -163,7 +163,7 @@ module _ (j : List ℕ) (b : AllBytes j) (h : headGood j ≡ true) where
       let q = both _ _ (p .1) in
       record { three = eqb-true _ _ (p .0); room = leb-true _ _ (q .0); good = q .1 }
 
-  -- the sections are all there
+  -- the sections are complete
   csp-after : sectionEnd j 0 ≡ 7
   unfolding sectionEnd
   csp-after = omega (arith, good-head .three)

@@ -9,13 +9,13 @@ use lib.Dec.{leb}
 use lib.IntN.{ℤ}
 use lib.ListN.{length, take, drop, replicate, length-append, length-take}
 use lib.Seq.{take-all, take-add, drop-drop, drop-at, length-take-le}
-use Rattle.primitives.specs.Place.{overwrite, placed, behind}
+use Rattle.primitives.specs.Place.{overwrite, placed, placeAfter}
 use Rattle.primitives.specs.Number.{bytesOf}
 use Rattle.primitives.specs.Aes.{keySchedule}
 use Rattle.primitives.specs.Base64.{encoding}
 use Rattle.primitives.specs.declared.base64.Alphabet.the-variants.{UrlSafe}
 use Rattle.primitives.proofs.Numbers.{length-bytesOf}
-use Rattle.primitives.proofs.Over.{length-over, read-over, over-over, placed-room, placed-full, behind-room, behind-full}
+use Rattle.primitives.proofs.Over.{length-over, read-over, over-over, placed-room, placed-full, after-room, after-full}
 use Rattle.primitives.proofs.Rewrites.{over-comm}
 use Rattle.receipt.specs.Settings.{settingsGood}
 use Rattle.receipt.specs.Details.{standard}
@@ -100,10 +100,10 @@ compact-some s n e =
 
 -- what was written with these settings is the compact form
 pub as-compact : (s : Settings) (n : ℕ) (e : Entry) → spellable s n e ≡ true → (b : List ℕ) (at : ℕ) {u : Settings} {r : ℕ} {b₁ : List ℕ} → u ≡ s
-    → (r ≡ behind b at (spelled u n e)) × (b₁ ≡ placed b at (spelled u n e)) → (r ≡ behind b at (compact s n e)) × (b₁ ≡ placed b at (compact s n e))
+    → (r ≡ placeAfter b at (spelled u n e)) × (b₁ ≡ placed b at (spelled u n e)) → (r ≡ placeAfter b at (compact s n e)) × (b₁ ≡ placed b at (compact s n e))
 as-compact s n e g b at f w =
     let q = ap (λ (x : Settings). spelled x n e) f ∙ spelled-is s n e g in
-    (w .0 ∙ ap (behind b at) q, w .1 ∙ ap (placed b at) q)
+    (w .0 ∙ ap (placeAfter b at) q, w .1 ∙ ap (placed b at) q)
 
 -- ---- whether a writer has moved
 
@@ -117,12 +117,12 @@ pub record Moved (b t : List ℕ) (at r : ℕ) (b₁ : List ℕ) : Type 0 where
   pub wrote : b₁ ≡ overwrite b at t
   pub same : length b₁ ≡ length b
 
-module _ (b t : List ℕ) (at : ℕ) {r : ℕ} {b₁ : List ℕ} (w : (r ≡ behind b at t) × (b₁ ≡ placed b at t)) where
+module _ (b t : List ℕ) (at : ℕ) {r : ℕ} {b₁ : List ℕ} (w : (r ≡ placeAfter b at t) × (b₁ ≡ placed b at t)) where
   pub stayed : 0 < length t → r ≡ at → Stayed b t at b₁
   stayed some q = go (leb (at + length t) (length b)) refl
     where
       go : (u : Bool) → leb (at + length t) (length b) ≡ u → Stayed b t at b₁
-      go true h = absurd (omega (arith, w .0, behind-room b at t (leb-true (at + length t) (length b) h)))
+      go true h = absurd (omega (arith, w .0, after-room b at t (leb-true (at + length t) (length b) h)))
       go false h = let k = leb-false (at + length t) (length b) h in record { full = k; same = w .1 ∙ placed-full b at t k }
 
   pub moved : (r ≡ at → ⊥) → Moved b t at r b₁
@@ -132,29 +132,29 @@ module _ (b t : List ℕ) (at : ℕ) {r : ℕ} {b₁ : List ℕ} (w : (r ≡ beh
       go true h =
           let k = leb-true (at + length t) (length b) h in
           let e : b₁ ≡ overwrite b at t = w .1 ∙ placed-room b at t k in
-          record { room = k; end = w .0 ∙ behind-room b at t k; wrote = e; same = ap length e ∙ length-over b at t k }
-      go false h = absurd (q (w .0 ∙ behind-full b at t (leb-false (at + length t) (length b) h)))
+          record { room = k; end = w .0 ∙ after-room b at t k; wrote = e; same = ap length e ∙ length-over b at t k }
+      go false h = absurd (q (w .0 ∙ after-full b at t (leb-false (at + length t) (length b) h)))
 
--- ---- the entry behind the journal
+-- ---- the entry after the journal
 
 module _ (t b : List ℕ) (at : ℕ) (some : 0 < length t) where
-  full : length b < at + (2 + length t) → (at ≡ behind b at (entryText t)) × (b ≡ placed b at (entryText t))
+  full : length b < at + (2 + length t) → (at ≡ placeAfter b at (entryText t)) × (b ≡ placed b at (entryText t))
   full h =
       let l = length-entry t in
       let k : length b < at + length (entryText t) = omega arith in
-      (sym (behind-full b at (entryText t) k), sym (placed-full b at (entryText t) k))
+      (sym (after-full b at (entryText t) k), sym (placed-full b at (entryText t) k))
 
-  pub entry-short : length b < at + 2 → (at ≡ behind b at (entryText t)) × (b ≡ placed b at (entryText t))
+  pub entry-short : length b < at + 2 → (at ≡ placeAfter b at (entryText t)) × (b ≡ placed b at (entryText t))
   entry-short h = full (omega arith)
 
-  module _ {r : ℕ} {b₁ : List ℕ} (w : (r ≡ behind b (at + 2) t) × (b₁ ≡ placed b (at + 2) t)) where
-    pub entry-full : r ≡ at + 2 → (at ≡ behind b at (entryText t)) × (b₁ ≡ placed b at (entryText t))
+  module _ {r : ℕ} {b₁ : List ℕ} (w : (r ≡ placeAfter b (at + 2) t) × (b₁ ≡ placed b (at + 2) t)) where
+    pub entry-full : r ≡ at + 2 → (at ≡ placeAfter b at (entryText t)) × (b₁ ≡ placed b at (entryText t))
     entry-full q =
         let s = stayed b t (at + 2) w some q in
         let f = full (omega (arith, s .full)) in
         (f .0, s .same ∙ f .1)
 
-    pub entry-placed : {b₂ : List ℕ} → (r ≡ at + 2 → ⊥) → b₂ ≡ placed b₁ at (bytesOf 2 (r - (at + 2))) → (r ≡ behind b at (entryText t)) × (b₂ ≡ placed b at (entryText t))
+    pub entry-placed : {b₂ : List ℕ} → (r ≡ at + 2 → ⊥) → b₂ ≡ placed b₁ at (bytesOf 2 (r - (at + 2))) → (r ≡ placeAfter b at (entryText t)) × (b₂ ≡ placed b at (entryText t))
     unfolding entryText
     entry-placed {b₂} q v =
         let m = moved b t (at + 2) w q in
@@ -165,7 +165,7 @@ module _ (t b : List ℕ) (at : ℕ) (some : 0 < length t) where
         let le : length (h ++ t) ≡ 2 + length t = length-entry t in
         let p : at + 2 ≡ at + length h = omega arith in
         let w₂ : b₂ ≡ overwrite b₁ at h = v ∙ ap (λ (x : ℕ). placed b₁ at (bytesOf 2 x)) n ∙ placed-room b₁ at h (omega (arith, m .same)) in (
-          m .end ∙ sym (behind-room b at (h ++ t) (omega arith) ∙ omega arith),
+          m .end ∙ sym (after-room b at (h ++ t) (omega arith) ∙ omega arith),
           w₂ ∙ (λ i. overwrite (m .wrote i) at h) ∙ (λ i. overwrite (overwrite b (p i) t) at h)
               ∙ sym (over-comm b at h (at + length h) t (omega arith) (omega arith)) ∙ over-over b at h t (omega arith) ∙ sym (placed-room b at (h ++ t) (omega arith)),
         )
@@ -185,7 +185,7 @@ entry-text b t at h =
         let k : 2 ≤ length l = omega (arith, ap length g, length-take (2 + length t) l, n) in
         sym (drop-at (take 2 l) (take (length t) (drop 2 l)) 2 (length-take-le 2 l k)) ∙ ap (drop 2) (sym (take-add 2 (length t) l) ∙ g) ∙ drop-at y t 2 (length-bytesOf 2 (length t))
 
--- the state behind it
+-- the state after it
 pub next-is : (st : State) (d : Details) (text : List ℕ) {a : After} {chain : List ℕ} → a ≡ newCounter st d → chain ≡ chainValue text
     → record { settings = st .settings; width = st .width; key = st .key; counter = a .counter; last = d .number; issued = st .issued + 1; chain = chain; length = st .length + 2 + length text } ≡ next st d text
 unfolding next
@@ -223,20 +223,20 @@ module _ (st : State) (d : Details) (sig b : List ℕ) (a : Asked st d sig (leng
   pub append-place : {k : ℕ} → k ≡ countPlaceNow st → k + 4 ≤ length b
   append-place e = count-room (settingsNow st) e (omega (arith, sound-true st (asked-alone .0) .head, asked-alone .1))
 
-  -- the number, as far as it is not known
+  -- the part of the number that is not known yet
   number-is : issueNumber st d sig (length b) ≡ ask (leb (st .length + length (entryText (textOf st d sig))) (length b)) 13 0
   unfolding issueNumber entryFits
   number-is =
       ask-yes 6 _ (a .sound) ∙ details-past st d refl _ (a .details) ∙ ask-yes 12 _ (a .signature)
 
   module _ {e : Entry} (q : e ≡ entryOf st d sig) {r : ℕ} {b₁ : List ℕ}
-      (w : (r ≡ behind b (st .length) (entryText (compact (settingsNow st) (st .width) e))) × (b₁ ≡ placed b (st .length) (entryText (compact (settingsNow st) (st .width) e)))) where
-    -- the same of the text that the definitions speak of
-    w′ : (r ≡ behind b (st .length) (entryText (textOf st d sig))) × (b₁ ≡ placed b (st .length) (entryText (textOf st d sig)))
+      (w : (r ≡ placeAfter b (st .length) (entryText (compact (settingsNow st) (st .width) e))) × (b₁ ≡ placed b (st .length) (entryText (compact (settingsNow st) (st .width) e)))) where
+    -- the same for the text that the definitions name
+    w′ : (r ≡ placeAfter b (st .length) (entryText (textOf st d sig))) × (b₁ ≡ placed b (st .length) (entryText (textOf st d sig)))
     unfolding textOf
     w′ =
         let p : entryText (compact (settingsNow st) (st .width) e) ≡ entryText (textOf st d sig) = λ i. entryText (compact (settingsNow st) (st .width) (q i)) in
-        (w .0 ∙ ap (behind b (st .length)) p, w .1 ∙ ap (placed b (st .length)) p)
+        (w .0 ∙ ap (placeAfter b (st .length)) p, w .1 ∙ ap (placed b (st .length)) p)
 
     pub append-refused : r ≡ st .length → (record { number = 13; state = st } ≡ issued st d sig (length b)) × (b₁ ≡ issueBuffer st d sig b)
     unfolding issued issueBuffer
@@ -328,7 +328,7 @@ module _ (st : State) (d : Details) (out : List ℕ) {k : ℕ} (e : k ≡ ask (s
       go true (suc m) rest h = refl
 
   module _ (z : k ≡ 0) {s : Settings} (g : s ≡ settingsNow st) {f : PayloadFields} (q : f ≡ fieldsOf st d) {r : ℕ} {out₁ : List ℕ}
-      (w : (r ≡ behind out 0 (prepared s (st .width) f)) × (out₁ ≡ placed out 0 (prepared s (st .width) f))) where
+      (w : (r ≡ placeAfter out 0 (prepared s (st .width) f)) × (out₁ ≡ placed out 0 (prepared s (st .width) f))) where
     asked : (soundAlone st ≡ true) × (detailsNumber st d 0 ≡ 0)
     asked = ask-zero _ _ _ (sym e ∙ z)
 
@@ -343,8 +343,8 @@ module _ (st : State) (d : Details) (out : List ℕ) {k : ℕ} (e : k ≡ ask (s
         none : signatureSized [] ≡ true
         none = refl
 
-    w₁ : (r ≡ behind out 0 (preparedText st d)) × (out₁ ≡ placed out 0 (preparedText st d))
-    w₁ = (w .0 ∙ ap (behind out 0) prepared-as, w .1 ∙ ap (placed out 0) prepared-as)
+    w₁ : (r ≡ placeAfter out 0 (preparedText st d)) × (out₁ ≡ placed out 0 (preparedText st d))
+    w₁ = (w .0 ∙ ap (placeAfter out 0) prepared-as, w .1 ∙ ap (placed out 0) prepared-as)
 
     some-text : 0 < length (preparedText st d)
     unfolding preparedText

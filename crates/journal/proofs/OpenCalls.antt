@@ -27,7 +27,7 @@ use lib.Dec.{leb}
 
 -- ---- writers in a row
 
--- one more write, behind what was written, in a buffer that has room for it
+-- one more write, after what was written, in a buffer that has room for it
 pub then-placed : (b ys zs : List ℕ) (at at′ : ℕ) {b₁ b₂ : List ℕ} → b₁ ≡ overwrite b at ys → b₂ ≡ placed b₁ at′ zs → at′ ≡ at + length ys
     → at + length ys + length zs ≤ length b → b₂ ≡ overwrite b at (ys ++ zs)
 then-placed b ys zs at at′ {b₁} p q e h =

@@ -1,4 +1,4 @@
--- The bytes of an entry, at a place of a journal.
+-- The bytes of an entry, at a place in a journal.
 use Prim.Native.Nat.{ℕ, _+_, _≤_, _<_}
 use mathlib.Core.Path.{_≡_, refl, sym, ap, _∙_}
 use mathlib.Core.Bool.{true}
@@ -19,7 +19,7 @@ pub length-entry : (t : List ℕ) → length (entryText t) ≡ 2 + length t
 unfolding entryText
 length-entry t = length-append (bytesOf 2 (length t)) t ∙ ap (λ (k : ℕ). k + length t) (length-bytesOf 2 (length t))
 
--- an entry at a place, whatever stands behind it
+-- an entry at a place, whatever follows it
 module _ (p t more : List ℕ) (at : ℕ) (e : length p ≡ at) (short : length t < 65536) where
   split : p ++ (entryText t ++ more) ≡ p ++ (bytesOf 2 (length t) ++ (t ++ more))
   unfolding entryText
@@ -45,7 +45,7 @@ module _ (p t more : List ℕ) (at : ℕ) (e : length p ≡ at) (short : length 
       let l₃ = length-entry t in
       rw (length-at, le-leb (at + 2) (length j) (omega arith), le-leb (at + 2 + length t) (length j) (omega arith))
 
--- where an entry is all there, the rest is the entry and more
+-- if an entry is complete, the rest is the entry and more
 module _ (j : List ℕ) (b : AllBytes j) (at : ℕ) (h : there j at ≡ true) where
   rooms : (at + 2 ≤ length j) × (at + 2 + lengthAt j at ≤ length j)
   unfolding there

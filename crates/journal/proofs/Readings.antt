@@ -1,4 +1,4 @@
--- What the counts and parts that are read in a head come to.
+-- What the counts and parts read from a head amount to.
 use Prim.Native.Nat.{ℕ, _+_, _-_, _≤_, _<_}
 use mathlib.Core.Path.{_≡_, refl, sym, ap, _∙_, subst}
 use mathlib.Core.Bool.{Bool, true, false, _&&_, and-false}
@@ -37,7 +37,7 @@ module _ (j : List ℕ) where
   unfolding countPlaceIn serialPlace sectionEnd
   place-is = omega arith
 
-  -- the first count is 3, and the head is all there
+  -- the first count is 3, and the head is complete
   abbrev pub whole : Bool
   whole = eqb (countAt j 0 4) 3 && leb (countPlaceIn j + 4) (length j)
 
@@ -65,7 +65,7 @@ module _ (j : List ℕ) where
           and-yes _ _ _ (eq-eqb (countAt j 0 4) 3 (sym e ∙ three))
           (ap (leb b) m ∙ leb-moved (19 + a) b (length j) (omega arith) ∙ ap (λ (k : ℕ). leb k (length j)) n)
 
-  -- ---- the settings of a whole head
+  -- ---- the settings of a complete head
 
   module _ (three : countAt j 0 4 ≡ 3) (room : countPlaceIn j + 4 ≤ length j) where
     pub serial-room : sectionEnd j (serialPlace j) ≤ length j

@@ -35,7 +35,7 @@ prepare-refused : (st : State) (d : Details) (out : List ℕ) → (prepareAnswer
 unfolding prepareAnswer prepareBuffer
 prepare-refused st d out h = (ifZero-no (prepareNumber st d (length out)) _ _ h, ifZero-no (prepareNumber st d (length out)) _ _ h)
 
--- an answer that is refused has the unopened state
+-- a refusal has the unopened state
 refused-state : (k i : ℕ) → refused k i .state ≡ unopened
 unfolding refused
 refused-state k i = refl

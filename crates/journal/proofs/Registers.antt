@@ -38,8 +38,8 @@ use Rattle.receipt.proofs.Names.{settings-zero}
 
 -- ---- the fresh state
 
--- the state behind entries, since it was fresh
-pub record Behind (s : Settings) (n : ℕ) (k : List ℕ) (es : List Entry) (st : State) : Type 0 where
+-- the state after entries, starting from the fresh one
+pub record StateAfter (s : Settings) (n : ℕ) (k : List ℕ) (es : List Entry) (st : State) : Type 0 where
   pub settings : st .settings ≡ s
   pub width : st .width ≡ n
   pub key : st .key ≡ k
@@ -87,8 +87,8 @@ module _ (s : Settings) (n : ℕ) (key : List ℕ) where
   unfolding fresh
   fresh-bounds w = record { issued = omega arith; last = omega arith; counter = zero-fits w }
 
-  pub run-behind : (es : List Entry) → Behind s n key es (run (fresh s n key) es)
-  run-behind es =
+  pub run-after : (es : List Entry) → StateAfter s n key es (run (fresh s n key) es)
+  run-after es =
       let k = kept es (fresh s n key) in
       record {
         settings = k .settings ∙ fresh-settings;
@@ -106,7 +106,7 @@ module _ (s : Settings) (n : ℕ) (key : List ℕ) where
   pub few-entries : (es : List Entry) → widthGood n ≡ true → AllRight (fresh s n key) es → length es < 4294967296
   few-entries es w h =
       let b = run-bounds es w h in
-      omega (arith, b .issued, b .last, run-behind es .issued)
+      omega (arith, b .issued, b .last, run-after es .issued)
 
   fresh-sum : (z : ℤ) → fresh s n key .counter +ℤ z ≡ z
   unfolding fresh
@@ -185,8 +185,8 @@ pub record Holds (s : Settings) (n : ℕ) (key : List ℕ) (g : Register) (es : 
 
 module _ (s : Settings) (n : ℕ) (key : List ℕ) (ts : TypedSettings s) (good : settingsGood s ≡ true) (width : widthGood n ≡ true) (kb : AllBytes key) where
   module _ (g : Register) (es : List Entry) (h : Holds s n key g es) where
-    pub holds-behind : Behind s n key es (g .state)
-    holds-behind = subst (Behind s n key es) (sym (h .state)) (run-behind s n key es)
+    pub holds-after : StateAfter s n key es (g .state)
+    holds-after = subst (StateAfter s n key es) (sym (h .state)) (run-after s n key es)
 
     module _ (c : Call) (z : numberOf g c ≡ 0) where
       text : List ℕ
@@ -194,7 +194,7 @@ module _ (s : Settings) (n : ℕ) (key : List ℕ) (ts : TypedSettings s) (good 
 
       text-is : text ≡ compact s n (entryIn g c)
       unfolding text
-      text-is = let b = holds-behind in λ i. compact (b .settings i) (b .width i) (entryIn g c)
+      text-is = let b = holds-after in λ i. compact (b .settings i) (b .width i) (entryIn g c)
 
       room-is : g .state .length + length (entryText text) ≤ length (g .buf)
       unfolding text entryIn textOf
@@ -205,12 +205,12 @@ module _ (s : Settings) (n : ℕ) (key : List ℕ) (ts : TypedSettings s) (good 
       place-is = omega arith
 
       size-is : g .state .length ≡ countPlace s + 4 + length (texts s n es)
-      size-is = holds-behind .length ∙ ap (λ (k : ℕ). k + length (texts s n es)) (sym place-is)
+      size-is = holds-after .length ∙ ap (λ (k : ℕ). k + length (texts s n es)) (sym place-is)
 
       buf-is : call g c .buf ≡ overwrite (overwrite (g .buf) (g .state .length) (entryText text)) (countPlace s) (bytesOf 4 (length es + 1))
       unfolding text withEntry
       buf-is =
-          let b = holds-behind in
+          let b = holds-after in
           call-buf g c z ∙ (λ i. overwrite (overwrite (g .buf) (g .state .length) (entryText text)) (countPlace (b .settings i)) (bytesOf 4 (b .issued i + 1)))
 
       length-is : call g c .state .length ≡ g .state .length + length (entryText text)
@@ -239,7 +239,7 @@ module _ (s : Settings) (n : ℕ) (key : List ℕ) (ts : TypedSettings s) (good 
       pub call-right : TypedCall c → RightAt (g .state) (entryIn g c)
       unfolding entryIn
       call-right tc =
-          let b = holds-behind in
+          let b = holds-after in
           right-call (g .state) c (length (g .buf)) (subst AllBytes (sym (b .key)) kb) (b .chain) tc (call-answered g c z)
 
   -- ---- a list of calls

@@ -1,4 +1,4 @@
--- Take over as a check of so many entries: what is left to check behind a state, as its steps find it.
+-- Take over as a check of a number of entries: what is left to check after a state, as its steps find it.
 use Prim.Native.Nat.{ℕ, zero, suc, _+_, _≤_, _<_}
 use mathlib.Core.Path.{_≡_, refl, sym, ap, _∙_}
 use mathlib.Core.Bool.{Bool, true, false, cond}
@@ -24,7 +24,7 @@ use Rattle.journal.specs.State.{countPlaceNow}
 abbrev pub scheduleOf : State → List (List ℕ)
 scheduleOf st = keySchedule (st .key)
 
--- so many entries to go, and then no byte left
+-- n entries to go, and then no byte left
 unfoldable pub checkFrom : ℕ → State → List ℕ → TakenOver
 checkFrom zero st j = cond (leb (length j) (st .length)) (accepted st) (refused 21 (st .issued))
 checkFrom (suc n) st j =

@@ -1,4 +1,4 @@
--- Sections: what is read at a place where one stands, and that a section which is all there was written so.
+-- Sections: what is read where one stands, and that a complete section is what the writer writes.
 use Prim.Native.Nat.{ℕ, _+_, _≤_, _<_}
 use mathlib.Core.Path.{_≡_, refl, sym, ap, _∙_}
 use mathlib.Core.List.{List, _++_, append-assoc}
@@ -36,7 +36,7 @@ module _ (p t q : List ℕ) (at : ℕ) (e : length p ≡ at) (short : length t <
   unfolding sectionEnd
   section-end = ap (λ (k : ℕ). at + 4 + k) section-count ∙ omega arith
 
--- ---- a section that is all there
+-- ---- a complete section
 
 module _ (j : List ℕ) (b : AllBytes j) (at : ℕ) (room : sectionEnd j at ≤ length j) where
   within : at + 4 + countAt j at 4 ≤ length j

@@ -11,7 +11,7 @@ use Rattle.primitives.specs.Place.{overwrite}
 use Rattle.primitives.specs.Number.{bytesOf}
 use Rattle.primitives.proofs.Numbers.{length-bytesOf}
 use Rattle.primitives.proofs.Over.{length-over}
-use Rattle.primitives.proofs.Rewrites.{getD-before, getD-behind}
+use Rattle.primitives.proofs.Rewrites.{getD-before, getD-after}
 use Rattle.receipt.specs.declared.settings.Settings.{Settings}
 use Rattle.receipt.specs.declared.details.Details.{Details}
 use Rattle.journal.specs.Head.{headLength, countPlace, entryText}
@@ -29,11 +29,11 @@ outside xs at ys i room h = go (leb at i) refl
   where
     go : (t : Bool) → leb at i ≡ t → getD (overwrite xs at ys) i 0 ≡ getD xs i 0
     go false e = getD-before xs at ys i (leb-false at i e) (omega arith)
-    go true e = behind (leb (at + length ys) i) refl
+    go true e = after (leb (at + length ys) i) refl
       where
-        behind : (t : Bool) → leb (at + length ys) i ≡ t → getD (overwrite xs at ys) i 0 ≡ getD xs i 0
-        behind true q = getD-behind xs at ys i (leb-true (at + length ys) i q) room
-        behind false q = absurd (h (leb-true at i e) (leb-false (at + length ys) i q))
+        after : (t : Bool) → leb (at + length ys) i ≡ t → getD (overwrite xs at ys) i 0 ≡ getD xs i 0
+        after true q = getD-after xs at ys i (leb-true (at + length ys) i q) room
+        after false q = absurd (h (leb-true at i e) (leb-false (at + length ys) i q))
 
 pub place-head : (s : Settings) → countPlace s + 4 ≡ headLength s
 unfolding countPlace headLength

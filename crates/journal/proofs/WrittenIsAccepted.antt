@@ -22,7 +22,7 @@ use Rattle.journal.specs.Demands.{AcceptedIsValid, OneReading, WrittenIs
 use Rattle.journal.specs.declared.state.State.{State}
 use Rattle.receipt.proofs.ExactEntry.{back, compact-short}
 use Rattle.journal.proofs.Places.{text-at}
-use Rattle.journal.proofs.Heads.{read-settings, read-count, behind-head, countOf}
+use Rattle.journal.proofs.Heads.{read-settings, read-count, after-head, countOf}
 use Rattle.journal.proofs.Check.{step, AllRight, none, more}
 use Rattle.journal.proofs.Accepting.{takes, fresh-each, valid-right, valid-accepted, accepted-valid}
 use Rattle.journal.proofs.Registers.{few-entries, counter-sum, Holds, entriesOf, receipts-same, holds-calls, opening-holds, open-zero}
@@ -44,7 +44,7 @@ valid-count {j} {key} {n} v =
 valid-texts : {j key : List ℕ} {n : ℕ} (v : Valid j key n) → drop (headLength (v .settings)) j ≡ texts (v .settings) n (v .entries)
 valid-texts {j} {key} {n} v =
     ap (drop (headLength (v .settings))) (v .bytes)
-    ∙ behind-head (v .settings) (v .typed .lengths) (v .good) (length (v .entries)) (v .few) (texts (v .settings) n (v .entries))
+    ∙ after-head (v .settings) (v .typed .lengths) (v .good) (length (v .entries)) (v .few) (texts (v .settings) n (v .entries))
 
 -- entries that can be spelled
 data AllSpelled (s : Settings) (n : ℕ) : List Entry → Type 0 where
@@ -60,7 +60,7 @@ fresh-spelled : (s : Settings) (n : ℕ) (key : List ℕ) (es : List Entry) → 
 unfolding fresh
 fresh-spelled s n key es h = all-spelled es (fresh s n key) h
 
--- entries of one text are one list
+-- entries with the same text are the same list
 same-texts : (s : Settings) (n : ℕ) → TypedSettings s → (es fs : List Entry) → AllSpelled s n es → AllSpelled s n fs → length es ≡ length fs → texts s n es ≡ texts s n fs → es ≡ fs
 unfolding texts
 same-texts s n ts [] [] nothing nothing l t = refl

@@ -42,7 +42,7 @@ journalOf g = take (g .state .length) (g .buf)
 unfoldable pub opening : Settings → List ℕ → ℕ → List ℕ → Register
 opening s key n buf = record { state = opened s key n (length buf) .state; buf = openBuffer s n buf }
 
--- the number of a call: 0 where it was not refused
+-- the number of a call: 0 if it was not refused
 unfoldable pub numberOf : Register → Call → ℕ
 numberOf g c = issueNumber (g .state) (c .details) (c .signature) (length (g .buf))
 
@@ -73,7 +73,7 @@ receiptsOf g (c ∷ cs) = ifZero (numberOf g c) (receiptOfCall c ∷ receiptsOf 
 
 -- ---- a journal written again
 
--- the call that issues the receipt of an entry: with its 64 signature bytes, or with none where the device had failed
+-- the call that issues the receipt of an entry: with its 64 signature bytes, or with no bytes if the device had failed
 unfoldable pub callOf : Entry → Call
 callOf e = record { details = e .fields .details; signature = cond (e .signature .failed) [] (e .signature .bytes) }
 

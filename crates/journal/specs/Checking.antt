@@ -46,7 +46,7 @@ contextNumber schedule st f =
     ask (numberAbove st (f .details)) 17
     (ask (firstGood st (f .details)) 18 (ask (same (f .chain) (st .chain)) 19 (ask (counterRight schedule st f) 20 0)))
 
--- 16 to 20, of a state and the bytes of one entry
+-- 16 to 20, asked of a state and the bytes of one entry
 unfoldable pub textNumber : List (List ℕ) → State → List ℕ → ℕ
 textNumber schedule st text = ask (found st text .ok) 16 (contextNumber schedule st (found st text .entry .fields))
 
@@ -56,7 +56,7 @@ after st text = next st (found st text .entry .fields .details) text
 
 -- ---- one step: the state's journal length is the place, its receipts issued are the index
 
--- 15 to 20, of the entry at the state's place
+-- 15 to 20, asked of the entry at the state's place
 unfoldable pub entryNumber : List (List ℕ) → State → List ℕ → ℕ
 entryNumber schedule st j = ask (there j (st .length)) 15 (textNumber schedule st (textAt j (st .length)))
 
@@ -64,7 +64,7 @@ entryNumber schedule st j = ask (there j (st .length)) 15 (textNumber schedule s
 unfoldable pub stopped : ℕ → State → Checked
 stopped number st = record { number = number; found = noEntry; state = st }
 
--- what a text gives under this number
+-- the answer for a text whose questions gave this number
 unfoldable pub checked : ℕ → State → List ℕ → Checked
 checked number st text = ifZero number (record { number = 0; found = found st text; state = after st text }) (stopped number st)
 
@@ -78,14 +78,14 @@ placeChecked schedule st j = checked (entryNumber schedule st j) st (textAt j (s
 unfoldable pub endChecked : State → List ℕ → Checked
 endChecked st j = stopped (ask (leb (length j) (st .length)) 21 0) st
 
--- as many entries were read as the count at the state's place says
+-- as many entries have been read as the receipts count says
 unfoldable pub full : State → List ℕ → Bool
 full st j = leb (countAt j (countPlaceNow st) 4) (st .issued)
 
 unfoldable pub oneStep : List (List ℕ) → State → List ℕ → Checked
 oneStep schedule st j = cond (full st j) (endChecked st j) (placeChecked schedule st j)
 
--- so many steps, up to the first that is refused: its number, and the state before it
+-- n steps, up to the first that is refused: its number, and the state before it
 unfoldable pub steps : List (List ℕ) → ℕ → State → List ℕ → Step
 steps schedule zero st j = record { number = 0; state = st }
 steps schedule (suc n) st j =
@@ -97,11 +97,11 @@ steps schedule (suc n) st j =
 unfoldable pub refused : ℕ → ℕ → TakenOver
 refused number index = record { number = number; index = index; state = unopened }
 
--- the index beside an accepted journal is free in the paper: it is 0
+-- the paper leaves the index of an accepted journal open; here it is 0
 unfoldable pub accepted : State → TakenOver
 accepted st = record { number = 0; index = 0; state = st }
 
--- the index of a refusal is that of its entry: so many receipts stand before it
+-- the index of a refusal is that of its entry: the number of receipts before it
 unfoldable pub lastAnswer : Step → TakenOver
 lastAnswer s = ifZero (s .number) (accepted (s .state)) (refused (s .number) (s .state .issued))
 
@@ -109,14 +109,14 @@ lastAnswer s = ifZero (s .number) (accepted (s .state)) (refused (s .number) (s 
 unfoldable pub headNumber : List ℕ → ℕ → ℕ
 headNumber j n = ask (widthGood n) 4 (ask (headGood j) 14 0)
 
--- an entry takes two bytes and more, so as many steps as the journal has bytes go over all of it
+-- an entry takes at least two bytes, so as many steps as the journal has bytes cover all of it
 unfoldable pub takeOver : List ℕ → List ℕ → ℕ → TakenOver
 takeOver j key n =
     ifZero (headNumber j n) (lastAnswer (steps (keySchedule key) (length j) (fresh (headSettings j) n key) j)) (refused (headNumber j n) 0)
 
 -- ---- steps for other readers: State sound? 6. Then the questions of the step
 
--- the length after the entry is a number of 64 bits
+-- the journal length after the entry fits 64 bits
 unfoldable pub entryReady : State → List ℕ → Bool
 entryReady st text = soundAlone st && leb (st .length + length (entryText text)) 18446744073709551615
 
@@ -126,7 +126,7 @@ entryChecked schedule st text = cond (entryReady st text) (textChecked schedule 
 unfoldable pub stepChecked : List (List ℕ) → State → List ℕ → Checked
 stepChecked schedule st j = cond (sound st (length j)) (oneStep schedule st j) (stopped 6 st)
 
--- the entries that these steps read, up to the first that reads none
+-- the entries that these steps read, up to the first step that reads nothing
 unfoldable pub readBySteps : List (List ℕ) → ℕ → State → List ℕ → List Entry
 readBySteps schedule zero st j = []
 readBySteps schedule (suc n) st j =

@@ -1,4 +1,4 @@
--- What is owed of journals and calls, as statements; the proofs are in proofs/.
+-- What must hold of journals and calls, as statements; the proofs are in proofs/.
 use Prim.Native.Nat.{ℕ, _+_, _≤_, _<_}
 use mathlib.Core.Path.{_≡_}
 use mathlib.Core.List.{List, _∷_, _++_}
@@ -32,7 +32,7 @@ abbrev pub AcceptedIsValid : Type 0
 AcceptedIsValid =
     (j key : List ℕ) (n : ℕ) → AllBytes j → (takeOver j key n .number ≡ 0 → Valid j key n) × (Valid j key n → takeOver j key n .number ≡ 0)
 
--- a journal is valid with one head and one list of entries
+-- a journal is valid with only one head and one list of entries
 abbrev pub OneReading : Type 0
 OneReading = (j key : List ℕ) (n : ℕ) (v w : Valid j key n) → (v .settings ≡ w .settings) × (v .entries ≡ w .entries)
 
@@ -54,16 +54,16 @@ WrittenIsAccepted =
     (s : Settings) (key : List ℕ) (n : ℕ) (buf : List ℕ) → TypedSettings s → AllBytes key → openNumber s n (length buf) ≡ 0
     → (cs : List Call) → TypedCalls cs → Written key n (opening s key n buf) cs
 
--- what holds where a valid journal is written again, into a buffer
+-- what holds if a valid journal is written again, into a buffer
 pub record Again (j key : List ℕ) (n : ℕ) (v : Valid j key n) (buf : List ℕ) : Type 0 where
   -- "Open with the CSP, ID and serial of its head, the key and N under which it was accepted": not refused
   pub opened : openNumber (v .settings) n (length buf) ≡ 0
-  -- one call for each entry, such as the code's types allow: none is refused
+  -- one call for each entry, within the code's types: none is refused
   pub typed : TypedCalls (callsOf (v .entries))
   pub none : numbersOf (opening (v .settings) key n buf) (callsOf (v .entries)) ≡ replicate (length (v .entries)) 0
   -- the buffer is the journal, byte by byte
   pub journal : calls (opening (v .settings) key n buf) (callsOf (v .entries)) .buf ≡ j
-  -- under the state that taking over gave
+  -- the state is the one that Take over gave
   pub state : calls (opening (v .settings) key n buf) (callsOf (v .entries)) .state ≡ takeOver j key n .state
   pub counter : takeOver j key n .state .counter ≡ sum (receiptsIn (v .entries))
 
@@ -72,7 +72,7 @@ abbrev pub AcceptedIsWritten : Type 0
 AcceptedIsWritten =
     (j key : List ℕ) (n : ℕ) → AllBytes key → (v : Valid j key n) (buf : List ℕ) → length buf ≡ length j → Again j key n v buf
 
--- demand 3 as one theorem: what the writer writes is accepted with its receipts and their sum, and what is accepted the writer writes
+-- demand 3 as one theorem: what the writer writes is accepted with its receipts and their sum, and the writer can write again what is accepted
 pub record WritingAndCheckingAgree : Type 0 where
   pub accepted : AcceptedIsValid
   pub reading : OneReading
@@ -115,7 +115,7 @@ FormIsAppended =
 
 -- ---- refused calls
 
--- a call that is refused leaves buffer and state; Open and Take over return the unopened state
+-- a refused call leaves buffer and state unchanged; a refused Open or Take over returns the unopened state
 pub record RefusedChangesNothing : Type 0 where
   pub opens : (s : Settings) (key : List ℕ) (n : ℕ) (buf : List ℕ) → (opened s key n (length buf) .number ≡ 0 → ⊥)
       → (opened s key n (length buf) .state ≡ unopened) × (openBuffer s n buf ≡ buf)
@@ -131,7 +131,7 @@ pub record RefusedChangesNothing : Type 0 where
 abbrev pub PreparedIsIssued : Type 0
 PreparedIsIssued = (st : State) (d : Details) (sig : List ℕ) → take (secondDot (textOf st d sig)) (textOf st d sig) ≡ preparedText st d
 
--- where Issue is not refused, neither is Prepare with room for its text
+-- if Issue is not refused, neither is Prepare with room for its text
 abbrev pub PreparedBefore : Type 0
 PreparedBefore =
     (st : State) (d : Details) (sig : List ℕ) (room space : ℕ) → issueNumber st d sig room ≡ 0 → length (preparedText st d) ≤ space
@@ -139,7 +139,7 @@ PreparedBefore =
 
 -- ---- Take over
 
--- a refusal has the number and the index of the first question with the answer no; and where there is such a question, its number and index are the answer
+-- a refusal gives the number and the index of the first question answered no; and if there is such a question, its number and index are the answer
 abbrev pub FirstNo : Type 0
 FirstNo =
     (j key : List ℕ) (n : ℕ) → AllBytes j
@@ -154,7 +154,7 @@ StepsReadEntries =
     (j key : List ℕ) (n : ℕ) (v : Valid j key n) (m : ℕ) → length (v .entries) ≤ m
     → readBySteps (keySchedule key) m (fresh (v .settings) n key) j ≡ v .entries
 
--- where an entry is to be read and all there, the step in the journal is that of the entry's bytes
+-- if an entry is left to read and is complete, the step in the journal is that of the entry's bytes
 abbrev pub StepIsItsEntry : Type 0
 StepIsItsEntry =
     (schedule : List (List ℕ)) (st : State) (j : List ℕ) → length j < 18446744073709551616 → sound st (length j) ≡ true → full st j ≡ false

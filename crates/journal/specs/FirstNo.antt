@@ -1,4 +1,4 @@
--- The first question of Take over with the answer no, as a relation between a journal and a number with an index. It runs no checker.
+-- The first question of Take over answered no, as a relation between a journal and a number with an index. It runs no checker.
 use Prim.Native.Nat.{ℕ, _<_}
 use mathlib.Core.Path.{_≡_}
 use mathlib.Core.Bool.{true}
@@ -13,22 +13,22 @@ use Rattle.receipt.specs.declared.settings.Settings.{Settings}
 use Rattle.receipt.specs.declared.entry.Entry.{Entry}
 use Rattle.journal.specs.Head.{head, entryText}
 use Rattle.journal.specs.Receipts.{receiptsIn, sum}
-use Rattle.journal.specs.Valid.{Counted, RightBehind, texts, lastOf, chainOf}
+use Rattle.journal.specs.Valid.{Counted, RightAfter, texts, lastOf, chainOf}
 
--- 14: the journal starts with a good head, which says k entries
+-- 14: the journal starts with a good head whose count is k
 pub record Headed (j : List ℕ) (s : Settings) (k : ℕ) (more : List ℕ) : Type 0 where
   pub typed : TypedSettings s
   pub good : settingsGood s ≡ true
   pub few : k < 4294967296
   pub bytes : j ≡ head s k ++ more
 
--- every answer was yes up to the entries es, behind which there is a rest
+-- every answer was yes up to the end of the entries es, which `rest` follows
 pub record SoFar (j key : List ℕ) (n : ℕ) (s : Settings) (k : ℕ) (es : List Entry) (rest : List ℕ) : Type 0 where
   pub width : widthGood n ≡ true
   pub headed : Headed j s k (texts s n es ++ rest)
-  pub each : (before : List Entry) (e : Entry) (behind : List Entry) → es ≡ before ++ (e ∷ behind) → RightBehind s key n before e
+  pub each : (before : List Entry) (e : Entry) (later : List Entry) → es ≡ before ++ (e ∷ later) → RightAfter s key n before e
 
--- 15: a length and so many bytes
+-- 15: a length and as many bytes
 pub record EntryThere (rest text more : List ℕ) : Type 0 where
   pub short : length text < 65536
   pub bytes : rest ≡ entryText text ++ more
@@ -51,7 +51,7 @@ StartFirst es e = length es ≡ 0 → startGood (e .fields .details) ≡ true
 abbrev pub Chained : Settings → ℕ → List Entry → Entry → Type 0
 Chained s n es e = e .fields .chain ≡ chainOf s n (chainValue (nameText (s .id))) es
 
--- the next entry is there and spelled: 15 and 16 are answered by yes
+-- the next entry is complete and spelled: 15 and 16 are answered yes
 pub record Next (j key : List ℕ) (n : ℕ) (es : List Entry) (s : Settings) (e : Entry) : Type 0 where
   pub count : ℕ
   pub rest : List ℕ

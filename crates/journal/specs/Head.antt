@@ -28,7 +28,7 @@ sectionEnd j at = at + 4 + countAt j at 4
 unfoldable pub front : Settings → List ℕ
 front s = section (s .csp) ++ section (nameText (s .id)) ++ section (nameText (s .serial))
 
--- the head of a journal with so many receipts
+-- the head of a journal with this many receipts
 unfoldable pub head : Settings → ℕ → List ℕ
 head s count = front s ++ bytesOf 4 count
 
@@ -36,7 +36,7 @@ head s count = front s ++ bytesOf 4 count
 unfoldable pub headLength : Settings → ℕ
 headLength s = 19 + s .id .len + s .serial .len
 
--- the receipts count is the end of the head
+-- the place of the receipts count, at the end of the head
 unfoldable pub countPlace : Settings → ℕ
 countPlace s = headLength s - 4
 

@@ -51,7 +51,7 @@ unfoldable pub issued : State → Details → List ℕ → ℕ → Issued
 issued st d sig room =
     record { number = issueNumber st d sig room; state = ifZero (issueNumber st d sig room) (next st d (textOf st d sig)) st }
 
--- the entry behind the journal, and the count anew
+-- the entry after the journal, and the count rewritten
 unfoldable pub withEntry : State → List ℕ → List ℕ → List ℕ
 withEntry st text buf = overwrite (overwrite buf (st .length) (entryText text)) (countPlaceNow st) (bytesOf 4 (st .issued + 1))
 

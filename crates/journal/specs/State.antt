@@ -34,7 +34,7 @@ unopened =
 
 -- ---- what a state says of its journal
 
--- the settings in force: with them the next receipt is spelled
+-- the settings in force: the next receipt is spelled with them
 abbrev pub settingsNow : State → Settings
 settingsNow st = st .settings
 
@@ -48,7 +48,7 @@ countPlaceNow st = countPlace (st .settings)
 
 -- ---- what the code's types say
 
--- settings, width and key: arrays of so many bytes, and numbers of 64 bits
+-- settings, width and key: arrays of fixed lengths, and numbers of 64 bits
 pub record TypedRegister (s : Settings) (n : ℕ) (key : List ℕ) : Type 0 where
   pub settings : SettingsLengths s
   pub id : s .id .len < 18446744073709551616

@@ -1,5 +1,5 @@
--- One receipt more: what is asked of the state and of the details, the fields that the receipt gets, and the state after it.
--- Writing and checking stand on this side by side.
+-- One more receipt: what is asked of the state and of the details, the fields that the receipt gets, and the state after it.
+-- Writing and checking both build on this.
 use Prim.Native.Nat.{ℕ, _+_}
 use mathlib.Core.Bool.{Bool, true, cond, _&&_}
 use mathlib.Core.List.{List}
@@ -39,7 +39,7 @@ fresh s n key =
 
 -- ---- the questions
 
--- 6, as far as it asks nothing of a buffer: "settings meet 1 to 4, counter fits N bytes, receipts issued no more than last number, head length ≤ journal length"
+-- 6, without its part about the buffer: "settings meet 1 to 4, counter fits N bytes, receipts issued no more than last number, head length ≤ journal length"
 unfoldable pub soundAlone : State → Bool
 soundAlone st =
     settingsGood (settingsNow st)
@@ -58,7 +58,7 @@ numberAbove st d = ltb (st .last) (d .number)
 unfoldable pub firstGood : State → Details → Bool
 firstGood st d = cond (eqb (st .issued) 0) (startGood d) true
 
--- the counter behind the receipt. 11: "New counter fits N bytes?"
+-- the counter after the receipt. 11: "New counter fits N bytes?"
 unfoldable pub newCounter : State → Details → After
 newCounter st d = counterAfter (st .width) (st .counter) d
 
@@ -84,7 +84,7 @@ fieldsOf st d =
 
 -- ---- the state after it
 
--- the state behind a receipt with these details and this compact form
+-- the state after a receipt with these details and this compact form
 unfoldable pub next : State → Details → List ℕ → State
 next st d text =
     record {

@@ -17,17 +17,17 @@ use Rattle.receipt.specs.declared.entry.Entry.{Entry}
 use Rattle.journal.specs.Head.{head, entryText}
 use Rattle.journal.specs.Receipts.{receiptsIn, sum}
 
--- the entries, one behind the other
+-- the entries, one after the other
 unfoldable pub texts : Settings → ℕ → List Entry → List ℕ
 texts s n [] = []
 texts s n (e ∷ es) = entryText (compact s n e) ++ texts s n es
 
--- the last number, from a number on
+-- the last number, given the number before the entries
 unfoldable pub lastOf : ℕ → List Entry → ℕ
 lastOf last [] = last
 lastOf last (e ∷ es) = lastOf (e .fields .details .number) es
 
--- the chain bytes for the next chain field, from chain bytes on
+-- the chain bytes for the next chain field, given the chain bytes before the entries
 unfoldable pub chainOf : Settings → ℕ → List ℕ → List Entry → List ℕ
 chainOf s n chain [] = chain
 chainOf s n chain (e ∷ es) = chainOf s n (chainValue (compact s n e)) es
@@ -38,9 +38,9 @@ pub record Counted (s : Settings) (key : List ℕ) (n : ℕ) (total : ℤ) (e : 
   pub decrypted : e .fields .details .kind ≡ Standard
       → decryptedCounter (keySchedule key) (s .id) (e .fields .details .number) n (e .fields .counter) ≡ total +ℤ counted (e .fields .details)
 
--- an entry is right behind a last number, so many entries, a sum and chain bytes
+-- an entry is right, given the last number, the count of entries, the sum and the chain bytes before it
 pub record Right (s : Settings) (key : List ℕ) (n last count : ℕ) (total : ℤ) (chain : List ℕ) (e : Entry) : Type 0 where
-  -- 16: spelled, with what the code's types say
+  -- 16: spelled, and of the code's types
   pub typed : TypedEntry e
   pub spelled : spellable s n e ≡ true
   -- 17: its number is above the last
@@ -52,9 +52,9 @@ pub record Right (s : Settings) (key : List ℕ) (n last count : ℕ) (total : �
   -- 20
   pub counter : Counted s key n total e
 
--- right behind the entries before it; the first chain field is that of the ID
-abbrev pub RightBehind : Settings → List ℕ → ℕ → List Entry → Entry → Type 0
-RightBehind s key n before e =
+-- right, given the entries before it; the first chain field is that of the ID
+abbrev pub RightAfter : Settings → List ℕ → ℕ → List Entry → Entry → Type 0
+RightAfter s key n before e =
     Right s key n (lastOf 0 before) (length before) (sum (receiptsIn before)) (chainOf s n (chainValue (nameText (s .id))) before) e
 
 pub record Valid (j key : List ℕ) (n : ℕ) : Type 0 where
@@ -64,9 +64,9 @@ pub record Valid (j key : List ℕ) (n : ℕ) : Type 0 where
   pub settings : Settings
   pub typed : TypedSettings settings
   pub good : settingsGood settings ≡ true
-  -- 15 and 21: the entries that the count says, and no byte behind them
+  -- 15 and 21: the entries that the count says, and no byte after them
   pub entries : List Entry
   pub few : length entries < 4294967296
   pub bytes : j ≡ head settings (length entries) ++ texts settings n entries
   -- 16 to 20, at each place
-  pub each : (before : List Entry) (e : Entry) (behind : List Entry) → entries ≡ before ++ (e ∷ behind) → RightBehind settings key n before e
+  pub each : (before : List Entry) (e : Entry) (later : List Entry) → entries ≡ before ++ (e ∷ later) → RightAfter settings key n before e

@@ -1,4 +1,4 @@
-// Taking over a journal: its head, and step by step.
+// Taking over a journal: its head, then step by step.
 use super::head::count_at;
 use super::head::head_settings;
 use super::head::head_whole;
@@ -37,7 +37,7 @@ fn chain_right(st: State, f: PayloadFields) -> bool
     receipt::same(&a, &b)
 }
 
-// The decrypted counter is this one.
+// The decrypted counter equals z.
 fn decrypts_to(schedule: &[[u8; 4]; 60], st: State, f: PayloadFields, z: i64) -> bool
     ensures { λ r. ⌜ r ≡ equal (decryptedCounter (now (schedule .entry)) (settingsNow st .id) (f .details .number) (st .width) (f .counter)) z ⌝ }
 {
@@ -48,7 +48,7 @@ fn decrypts_to(schedule: &[[u8; 4]; 60], st: State, f: PayloadFields, z: i64) ->
     receipt::decrypt_counter(schedule, id, d.number, st.width, bytes) == z
 }
 
-// 20: the new counter fits, and a standard receipt has it.
+// 20: the new counter fits, and on a standard receipt it equals the decrypted one.
 fn counter_right(schedule: &[[u8; 4]; 60], st: State, f: PayloadFields) -> bool
     ensures { λ r. ⌜ r ≡ counterRight (now (schedule .entry)) st f ⌝ }
 {
@@ -65,7 +65,7 @@ fn counter_right(schedule: &[[u8; 4]; 60], st: State, f: PayloadFields) -> bool
     }
 }
 
-// 17 to 20.
+// Questions 17 to 20.
 fn context_number(schedule: &[[u8; 4]; 60], st: State, f: PayloadFields) -> u32
     ensures { λ r. ⌜ r ≡ contextNumber (now (schedule .entry)) st f ⌝ }
 {
@@ -85,15 +85,15 @@ fn context_number(schedule: &[[u8; 4]; 60], st: State, f: PayloadFields) -> u32
     0
 }
 
-// What a step answers: the number of the question with "no" and the state that it was given; or 0, what it read and the state after it.
-// After the last entry nothing is read, and the state stays.
+// The answer of a step: the number of the question answered "no" and the state that it was given; or 0, what it read and the state after it.
+// After the last entry nothing is read, and the state stays as it was.
 pub struct Checked {
     pub number: u32,
     pub found: Found,
     pub state: State,
 }
 
-// A step that is refused.
+// The answer of a step that is refused or reads nothing.
 fn stopped(number: u32, st: State) -> Checked
     ensures { λ r. ⌜ r ≡ stopped number st ⌝ }
 {
@@ -105,7 +105,7 @@ fn stopped(number: u32, st: State) -> Checked
     }
 }
 
-// 16 to 20, of the bytes of one entry.
+// Questions 16 to 20, asked of the bytes of one entry.
 fn check_text(schedule: &[[u8; 4]; 60], st: State, text: &[u8]) -> Checked
     requires { ⌜ (st .issued ≤ st .last) × (st .length + 2 + length (now text) < 18446744073709551616) ⌝ }
     ensures { λ r. ⌜ r ≡ textChecked (now (schedule .entry)) st (now (text .entry)) ⌝ }
@@ -130,7 +130,7 @@ fn check_text(schedule: &[[u8; 4]; 60], st: State, text: &[u8]) -> Checked
     }
 }
 
-// 15 to 20, of the entry at the state's place.
+// Questions 15 to 20, asked of the entry at the state's place.
 fn check_place(schedule: &[[u8; 4]; 60], st: State, j: &[u8]) -> Checked
     requires { ⌜ st .issued ≤ st .last ⌝ }
     ensures { λ r. ⌜ r ≡ placeChecked (now (schedule .entry)) st (now (j .entry)) ⌝ }
@@ -146,7 +146,7 @@ fn check_place(schedule: &[[u8; 4]; 60], st: State, j: &[u8]) -> Checked
 
 // ---- one step
 
-// As many entries were read as the count at the state's place says.
+// As many entries have been read as the receipts count says.
 fn full(st: State, j: &[u8]) -> bool
     requires { ⌜ (settingsGood (settingsNow st) ≡ true) × (headLengthNow st ≤ length (now j)) ⌝ }
     ensures { λ r. ⌜ r ≡ full st (now (j .entry)) ⌝ }
@@ -165,7 +165,7 @@ fn check_end(st: State, j: &[u8]) -> Checked
     stopped(0, st)
 }
 
-// An entry where the count says one more, and else the end.
+// Checks the next entry if the count says that there is one, else the end.
 fn take_step(schedule: &[[u8; 4]; 60], st: State, j: &[u8]) -> Checked
     requires { ⌜ (st .issued ≤ st .last) × (settingsGood (settingsNow st) ≡ true) × (headLengthNow st ≤ length (now j)) ⌝ }
     ensures { λ r. ⌜ r ≡ oneStep (now (schedule .entry)) st (now (j .entry)) ⌝ }
@@ -178,13 +178,13 @@ fn take_step(schedule: &[[u8; 4]; 60], st: State, j: &[u8]) -> Checked
 
 // ---- all steps
 
-// The number of the step that was refused, and the state before it; or 0, and the state after the last step.
+// The number of a refused step and the state before it; or 0 and the state after the last step.
 struct Step {
     number: u32,
     state: State,
 }
 
-// So many steps, up to the first that is refused. Where a step reads nothing, so do all that follow.
+// Takes n steps, up to the first that is refused. Once a step reads nothing, neither does any step after it.
 fn steps(schedule: &[[u8; 4]; 60], n: usize, start: State, j: &[u8]) -> Step
     requires { ⌜ (start .issued ≤ start .last) × (settingsGood (settingsNow start) ≡ true) × (headLengthNow start ≤ length (now j)) ⌝ }
     ensures { λ r. ⌜ r ≡ steps (now (schedule .entry)) n start (now (j .entry)) ⌝ }
@@ -242,7 +242,7 @@ fn last_answer(s: Step) -> TakenOver
     }
 }
 
-// The state after a journal, or the number of the first question with the answer no, the index of its entry and the unopened state.
+// The state after a journal; or the number of the first question answered no, the index of its entry and the unopened state.
 pub fn take_over(j: &[u8], key: [u8; 32], n: usize) -> TakenOver
     ensures { λ r. ⌜ r ≡ takeOver (now (j .entry)) key n ⌝ }
 {
@@ -263,7 +263,7 @@ pub fn take_over(j: &[u8], key: [u8; 32], n: usize) -> TakenOver
 
 // ---- steps for other readers
 
-// The length after an entry is a number of 64 bits.
+// The journal length after the entry fits 64 bits.
 fn entry_ready(st: State, text: &[u8]) -> bool
     ensures { λ r. ⌜ r ≡ entryReady st (now (text .entry)) ⌝ }
 {

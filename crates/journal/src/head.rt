@@ -11,7 +11,7 @@ ghost use Rattle.primitives.specs.Number.{bytesOf, countAt};
 ghost use Rattle.receipt.specs.Settings.{settingsGood};
 ghost use Rattle.journal.specs.Head.{section, head, headLength, countPlace, sectionEnd, countPlaceIn, headSettings, there};
 
-// 19 bytes, ID and serial.
+// The length of the head: 19 bytes, ID and serial.
 pub(crate) fn head_length(s: Settings) -> usize
     requires { ⌜ settingsGood s ≡ true ⌝ }
     ensures { λ r. ⌜ r ≡ headLength s ⌝ }
@@ -31,7 +31,7 @@ pub(crate) fn count_place(s: Settings) -> usize
 
 // ---- writing
 
-// A section, at a place: its count and its text.
+// Writes a section at a place: its count and its text.
 fn put_section(text: &[u8], buf: &mut [u8], at: usize)
     requires { ⌜ at + 4 + length (now text) ≤ length (now buf) ⌝ }
     ensures { λ _. ⌜ now (buf .exit) ≡ overwrite (now (buf .entry)) at (section (now (text .entry))) ⌝ }
@@ -40,7 +40,7 @@ fn put_section(text: &[u8], buf: &mut [u8], at: usize)
     let _ = receipt::put(buf, at + 4, text);
 }
 
-// The count of receipts, at its place.
+// Writes the count of receipts at its place.
 pub(crate) fn put_count(place: usize, count: u32, buf: &mut [u8])
     requires { ⌜ place + 4 ≤ length (now buf) ⌝ }
     ensures { λ _. ⌜ now (buf .exit) ≡ overwrite (now (buf .entry)) place (bytesOf 4 count) ⌝ }
@@ -48,7 +48,7 @@ pub(crate) fn put_count(place: usize, count: u32, buf: &mut [u8])
     let _ = receipt::put_number(buf, place, 4, count as u64);
 }
 
-// The head of a journal without receipts.
+// Writes the head of a journal without receipts.
 pub(crate) fn put_head(s: Settings, buf: &mut [u8])
     requires { ⌜ (settingsGood s ≡ true) × (headLength s ≤ length (now buf)) ⌝ }
     ensures { λ _. ⌜ now (buf .exit) ≡ overwrite (now (buf .entry)) 0 (head s 0) ⌝ }
@@ -69,7 +69,7 @@ pub(crate) fn put_head(s: Settings, buf: &mut [u8])
 
 // ---- reading
 
-// The number of the n bytes at a place.
+// The number in the n bytes at a place.
 pub(crate) fn count_at(j: &[u8], at: usize, n: usize) -> usize
     requires { ⌜ (n ≤ 4) × (at + n ≤ length (now j)) ⌝ }
     ensures { λ r. ⌜ (r ≡ countAt (now (j .entry)) at n) × (r < 4294967296) ⌝ }
@@ -80,7 +80,7 @@ pub(crate) fn count_at(j: &[u8], at: usize, n: usize) -> usize
     }
 }
 
-// The place after the section at a place, where it is all there.
+// The place after the section at a place; the section must be complete.
 fn section_end(j: &[u8], at: usize) -> usize
     requires { ⌜ sectionEnd (now j) at ≤ length (now j) ⌝ }
     ensures { λ r. ⌜ r ≡ sectionEnd (now (j .entry)) at ⌝ }
@@ -88,7 +88,7 @@ fn section_end(j: &[u8], at: usize) -> usize
     at + 4 + count_at(j, at, 4)
 }
 
-// The first count is 3, and the head is all there.
+// The first count is 3, and the head is complete.
 pub(crate) fn head_whole(j: &[u8]) -> bool
     ensures { λ r. ⌜ r ≡ eqb (countAt (now (j .entry)) 0 4) 3 && leb (countPlaceIn (now (j .entry)) + 4) (length (now (j .entry))) ⌝ }
 {
@@ -107,7 +107,7 @@ pub(crate) fn head_whole(j: &[u8]) -> bool
     serial <= len - 19 - id
 }
 
-// The settings in a whole head.
+// The settings in a complete head.
 pub(crate) fn head_settings(j: &[u8]) -> Settings
     requires { ⌜ (countAt (now j) 0 4 ≡ 3) × (countPlaceIn (now j) + 4 ≤ length (now j)) ⌝ }
     ensures { λ r. ⌜ r ≡ headSettings (now (j .entry)) ⌝ }
@@ -124,7 +124,7 @@ pub(crate) fn head_settings(j: &[u8]) -> Settings
     }
 }
 
-// 15: the length and the bytes are all there.
+// 15: the entry's length and bytes are complete.
 pub(crate) fn there(j: &[u8], at: usize) -> bool
     ensures { λ r. ⌜ r ≡ there (now (j .entry)) at ⌝ }
 {

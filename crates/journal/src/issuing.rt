@@ -1,4 +1,4 @@
-// A receipt after the journal.
+// Issuing a receipt: its entry, appended to the journal.
 use super::head::put_count;
 use super::state::Issued;
 use super::state::State;
@@ -15,7 +15,7 @@ ghost use mathlib.Core.Path.{_≡_};
 ghost use mathlib.Core.Bool.{true};
 ghost use lib.ListN.{length};
 ghost use Rattle.primitives.specs.Questions.{ask};
-ghost use Rattle.primitives.specs.Place.{placed, behind};
+ghost use Rattle.primitives.specs.Place.{placed, placeAfter};
 ghost use Rattle.receipt.specs.Compact.{compact, spellable};
 ghost use Rattle.journal.specs.Head.{entryText};
 ghost use Rattle.journal.specs.Step.{sound, detailsNumber};
@@ -67,11 +67,11 @@ fn entry_of(st: State, d: Details, signature: &[u8]) -> Entry
 
 // ---- issuing
 
-// The compact form with its length before it, after the journal; the place after it. Nothing where there is no room.
+// Writes the entry, a length and the compact form, after the journal; returns the place after it. Writes nothing if there is no room.
 fn put_entry(st: State, e: Entry, buf: &mut [u8]) -> usize
     requires { ⌜ spellable (settingsNow st) (st .width) e ≡ true ⌝ }
     ensures { λ r. let text : _ = entryText (compact (settingsNow st) (st .width) e) in
-        ⌜ (r ≡ behind (now (buf .entry)) (st .length) text) × (now (buf .exit) ≡ placed (now (buf .entry)) (st .length) text) ⌝ }
+        ⌜ (r ≡ placeAfter (now (buf .entry)) (st .length) text) × (now (buf .exit) ≡ placed (now (buf .entry)) (st .length) text) ⌝ }
 {
     let at = st.length;
     let settings = settings_now(st);
@@ -87,7 +87,7 @@ fn put_entry(st: State, e: Entry, buf: &mut [u8]) -> usize
     end
 }
 
-// The receipt after the journal, where the questions 6 to 12 have the answer yes: question 13.
+// Appends the receipt once questions 6 to 12 are answered yes: question 13.
 fn append(st: State, d: Details, signature: &[u8], buf: &mut [u8]) -> Issued
     requires { ⌜ (sound st (length (now buf)) ≡ true) × (detailsNumber st d 0 ≡ 0) × (signatureSized (now signature) ≡ true) ⌝ }
     ensures { λ r. let given : _ = now (signature .entry) in

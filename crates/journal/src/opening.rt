@@ -23,7 +23,7 @@ fn open_number(s: Settings, n: usize, room: usize) -> u32
     0
 }
 
-// Writes a head to the buffer where questions 1 to 5 have the answer yes.
+// Writes a head to the buffer if questions 1 to 5 are answered yes.
 pub fn open(s: Settings, key: [u8; 32], n: usize, buf: &mut [u8]) -> Opened
     ensures { λ r. ⌜ (r ≡ opened s key n (length (now (buf .entry)))) × (now (buf .exit) ≡ openBuffer s n (now (buf .entry))) ⌝ }
 {

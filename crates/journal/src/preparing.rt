@@ -1,4 +1,4 @@
-// The text that a device signs, before the receipt is issued.
+// Preparing a receipt: the text that the device signs before it is issued.
 use super::state::State;
 use super::state::settings_now;
 use super::step::details_number;

@@ -16,7 +16,7 @@ pub struct State {
     pub length: usize,
 }
 
-// The number is 0, or that of the first question with the answer no.
+// The number is 0, or that of the first question answered no.
 pub struct Opened {
     pub number: u32,
     pub state: State,
@@ -27,7 +27,7 @@ pub struct Issued {
     pub state: State,
 }
 
-// The index is that of the entry which was refused.
+// The index is that of the refused entry.
 pub struct TakenOver {
     pub number: u32,
     pub index: u32,
@@ -60,7 +60,7 @@ pub fn unopened() -> State
     }
 }
 
-// The settings in force: with them the next receipt is spelled.
+// The settings in force: the next receipt is spelled with them.
 pub(crate) fn settings_now(st: State) -> Settings
     ensures { λ r. ⌜ r ≡ settingsNow st ⌝ }
 {

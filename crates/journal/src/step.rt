@@ -1,4 +1,4 @@
-// One receipt more: what is asked of the state and of the details, the fields that the receipt gets, and the state after it.
+// One more receipt: what is asked of the state and of the details, the fields that the receipt gets, and the state after it.
 use super::head::count_place;
 use super::head::head_length;
 use super::state::State;
@@ -80,7 +80,7 @@ fn counter_good(st: State) -> bool
     receipt::counter_fits(st.width, st.counter)
 }
 
-// Question 6, as far as it asks nothing of a buffer.
+// Question 6, without its part about the buffer.
 pub(crate) fn sound_alone(st: State) -> bool
     ensures { λ r. ⌜ r ≡ soundAlone st ⌝ }
 {
@@ -120,7 +120,7 @@ pub(crate) fn first_good(st: State, d: Details) -> bool
     receipt::start_good(d)
 }
 
-// The counter behind a receipt.
+// The counter after a receipt.
 pub(crate) fn new_counter(st: State, d: Details) -> After
     ensures { λ r. ⌜ r ≡ newCounter st d ⌝ }
 {
@@ -154,7 +154,7 @@ pub(crate) fn details_number(st: State, d: Details) -> u32
 
 // ---- the fields of the receipt
 
-// The counter behind a receipt, encrypted.
+// The counter after a receipt, encrypted.
 fn encrypted(st: State, d: Details) -> [u8; 8]
     ensures { λ r. ⌜ r ≡ encryptedCounter (keySchedule (st .key)) (settingsNow st .id) (d .number) (st .width) (newCounter st d .counter) ⌝ }
 {
@@ -192,7 +192,7 @@ pub(crate) fn fields_of(st: State, d: Details) -> PayloadFields
 
 // ---- the state after it
 
-// The state behind a receipt with this compact form.
+// The state after a receipt with this compact form.
 pub(crate) fn next(st: State, d: Details, text: &[u8]) -> State
     requires { ⌜ (st .issued + 1 < 4294967296) × (st .length + 2 + length (now text) < 18446744073709551616) ⌝ }
     ensures { λ r. ⌜ r ≡ next st d (now (text .entry)) ⌝ }

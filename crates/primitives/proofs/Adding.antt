@@ -25,7 +25,7 @@ module _ (a b : ℤ) where
   unfolding checkedSum
   sum-over e = rw (fits-64 (a +ℤ b) ∙ e)
 
-  -- a sum that was found is the sum, and fits
+  -- a sum that was returned is the right one, and fits
   pub summed : {v : ℤ} → checkedSum a b ≡ Is v → (v ≡ a +ℤ b) × SFits w64 v
   summed {v} e = go (ltb (mag (a +ℤ b)) (2 ^ 63)) refl
     where
@@ -41,7 +41,7 @@ abbrev back : ℤ → ℤ
 back z = toZ w64 (ofZ w64 z)
 
 module _ {a b : ℤ} (fa : SFits w64 a) (fb : SFits w64 b) where
-  -- a test of a against what stands at a limit less b, for a limit m
+  -- a test of a against m less b, for a limit m
   module _ (m : ℤ) (fd : SFits w64 (m -ℤ b)) where
     limit : back (m -ℤ back b) ≡ m -ℤ b
     limit = op1-is (λ v. m -ℤ v) fb fd

@@ -9,7 +9,7 @@ use Rattle.primitives.specs.Place.{room}
 use Rattle.primitives.specs.Answers.{written}
 use Rattle.primitives.proofs.Over.{room-true, room-false}
 
--- what a call answers that writes a text at the start of its output
+-- the answer of a call that writes a text at the start of its output
 module _ (out text : List ℕ) where
   pub written-room : length text ≤ length out → written out text ≡ record { number = 0; length = length text }
   unfolding written
@@ -19,7 +19,7 @@ module _ (out text : List ℕ) where
   unfolding written
   written-full h = rw (room-false out 0 text (omega arith))
 
-  -- by its room
+  -- depending on whether there is room
   pub written-is : written out text ≡ cond (room out 0 text) (record { number = 0; length = length text }) (record { number = 23; length = 0 })
   unfolding written
   written-is = refl

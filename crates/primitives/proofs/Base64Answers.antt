@@ -9,13 +9,13 @@ use borrow.Author.Tests.{eq-eqb, ne-eqb}
 use lib.Dec.{eqb}
 use lib.ListN.{length, getD, take, replicate}
 use lib.Seq.{length-take-le}
-use Rattle.primitives.specs.Place.{overwrite, placed, behind}
+use Rattle.primitives.specs.Place.{overwrite, placed, placeAfter}
 use Rattle.primitives.specs.declared.base64.Alphabet.{Alphabet}
 use Rattle.primitives.specs.declared.base64.Alphabet.the-variants.{Standard, UrlSafe}
 use Rattle.primitives.specs.declared.base64.Decoded.the-variants.{Upto, Refused, NoRoom}
 use Rattle.primitives.specs.Base64.{letters, pad, paddingCount, padding, encoding, encodedLength, bytes, known, ended, whole, unmarked, letterCount, unpadded, accepted, decoding, decodeAnswer, decodeBuffer}
 use Rattle.primitives.proofs.Base64Lengths.{length-bytes, length-encoding, length-parts}
-use Rattle.primitives.proofs.Over.{then, length-over, placed-room, placed-full, behind-room, behind-full, room-true, room-false}
+use Rattle.primitives.proofs.Over.{then, length-over, placed-room, placed-full, after-room, after-full, room-true, room-false}
 
 -- ---- the writer's answer
 
@@ -32,10 +32,10 @@ marks (suc (suc (suc n))) h = absurd (omega arith)
 
 -- k is the length of the text
 module _ (a : Alphabet) (s out : List ℕ) (at : ℕ) {k : ℕ} (long : k ≡ encodedLength a (length s)) where
-  pub encode-full : length out < at + k → (at ≡ behind out at (encoding a s)) × (out ≡ placed out at (encoding a s))
+  pub encode-full : length out < at + k → (at ≡ placeAfter out at (encoding a s)) × (out ≡ placed out at (encoding a s))
   encode-full e =
       let h : length out < at + length (encoding a s) = omega (arith, long, length-encoding a s) in
-      (sym (behind-full out at (encoding a s) h), sym (placed-full out at (encoding a s) h))
+      (sym (after-full out at (encoding a s) h), sym (placed-full out at (encoding a s) h))
 
   module _ (fitting : at + k ≤ length out) where
     pub letters-room : at + length (letters a s) ≤ length out
@@ -47,13 +47,13 @@ module _ (a : Alphabet) (s out : List ℕ) (at : ℕ) {k : ℕ} (long : k ≡ en
 
       pub encode-room : {o′ : ℕ} {out₁ out₂ : List ℕ} → out₁ ≡ overwrite out at (letters a s) → o′ ≡ o + n
           → out₂ ≡ overwrite out₁ o (take n (pad ∷ pad ∷ pad ∷ pad ∷ []))
-          → (o′ ≡ behind out at (encoding a s)) × (out₂ ≡ placed out at (encoding a s))
+          → (o′ ≡ placeAfter out at (encoding a s)) × (out₂ ≡ placed out at (encoding a s))
       unfolding encoding
       encode-room {o′} {out₁} {out₂} p q r =
           let h : at + length (encoding a s) ≤ length out = omega (arith, fitting, long, length-encoding a s) in
           let m : take n (pad ∷ pad ∷ pad ∷ pad ∷ []) ≡ padding a (length s) =
           marks n (omega (arith, few-marks a (length s))) ∙ ap (λ (k : ℕ). replicate k pad) count in (
-            omega (arith, length-parts a s, length-encoding a s, behind-room out at (encoding a s) h),
+            omega (arith, length-parts a s, length-encoding a s, after-room out at (encoding a s) h),
             then out (letters a s) (padding a (length s)) at o p (r ∙ ap (overwrite out₁ o) m) here letters-room
                 ∙ sym (placed-room out at (encoding a s) h),
           )

@@ -1,5 +1,5 @@
--- BASE64, what a caller may lean on: reading what was written gives it back, an accepted text is the writing of what it stands for,
--- and which bytes a text is made of.
+-- BASE64, what a caller may rely on: reading what was written gives it back, an accepted text is the encoding of its bytes,
+-- and which bytes a text consists of.
 use Prim.Native.Nat.{ℕ, zero, suc, _+_, _-_, _*_, _/_, _%_, _≤_, _<_}
 use mathlib.Core.Path.{_≡_, refl, sym, ap, _∙_, subst}
 use mathlib.Core.Bool.{Bool, true, false, cond, _&&_}
@@ -58,11 +58,11 @@ module _ (a : Alphabet) (P : ℕ → Type 0) (rule : (k : ℕ) → k < 64 → P 
 pub encoding-bytes : (a : Alphabet) (xs : List ℕ) → AllBytes (encoding a xs)
 encoding-bytes a xs = each-bytes (each-encoding a (λ b. b < 256) (letter-small a) (omega arith) xs)
 
--- a byte that is no letter and not '=' stands nowhere in a text
+-- a byte that is neither a letter nor '=' occurs in no text
 pub encoding-foreign : (a : Alphabet) (xs : List ℕ) (c : ℕ) → digit a c ≡ 64 → (pad ≡ c → ⊥) → Each (λ b. b ≡ c → ⊥) (encoding a xs)
 encoding-foreign a xs c f n = each-encoding a (λ b. b ≡ c → ⊥) (foreign a c f) n xs
 
--- '.' stands in no text, '_' in no padded one
+-- '.' occurs in no text, '_' in no padded one
 pub no-dot : (a : Alphabet) (xs : List ℕ) (i : ℕ) → i < length (encoding a xs) → getD (encoding a xs) i 0 ≡ 46 → ⊥
 no-dot a xs = each-at (encoding-foreign a xs 46 (dot-foreign a) (λ e. omega arith))
 
@@ -139,7 +139,7 @@ module _ (a : Alphabet) where
   known-letters : (xs : List ℕ) → known a (letters a xs) ≡ true
   known-letters xs = known-each (each-letters a (λ c. digit a c < 64) (λ k h. subst (λ (d : ℕ). d < 64) (sym (digit-letter a k h)) h) xs)
 
--- ---- the padding is taken off
+-- ---- the padding is removed
 
 Plain : List ℕ → Type 0
 Plain u = Each (λ b. b ≡ pad → ⊥) u
@@ -158,7 +158,7 @@ stays (x ∷ u) v p =
     not-marked (x ∷ (u ++ v)) (suc (length u))
     (λ q. each-at p (length u) (omega arith) (sym (List·getD-append (x ∷ u) v 0 (length u) (omega arith)) ∙ ap (λ (n : ℕ). getD (x ∷ (u ++ v)) n 0) (sym e) ∙ q))
 
--- none, one or two '=' behind letters
+-- zero, one or two '=' after letters
 stripped : (u : List ℕ) (n : ℕ) → n ≤ 2 → Plain u → letterCount Standard (u ++ replicate n pad) ≡ length u
 stripped u zero h p =
     let e : length (u ++ []) ≡ length u = ap length (append-nil u) in
@@ -310,7 +310,7 @@ module _ (a : Alphabet) where
       let kz = known-head z rest (bytes-head (bytes-tail (bytes-tail (bytes-tail p)))) (ky .1) in
       λ i. four-back (kw .0) (kx .0) (ky .0) (kz .0) i ++ letters-bytes rest (bytes-tail (bytes-tail (bytes-tail (bytes-tail p)))) (kz .1) e i
 
--- ---- the padding is what it must be
+-- ---- the padding is as required
 
 module _ (t : List ℕ) (m : ℕ) where
   one-mark : length t ≡ m + 1 → getD t m 0 ≡ pad → drop m t ≡ pad ∷ []
@@ -323,7 +323,7 @@ module _ (t : List ℕ) (m : ℕ) where
       let n : length t ≤ m + 2 = omega arith in
       drop-two t m (omega arith) ∙ (λ i. e i ∷ f i ∷ drop-of-length-le t n i)
 
--- as many bytes as m letters stand for
+-- the number of bytes that m letters encode
 abbrev size : ℕ → ℕ
 size m = m / 4 * 3 + m % 4 * 3 / 4
 
@@ -362,7 +362,7 @@ padding-is Standard t w = ends (eqb (getD t (n - 1) 0) pad) refl
     groups : n % 4 ≡ 0
     groups = eqb-true (n % 4) 0 w
 
-    -- m letters, and k times '=' behind them
+    -- m letters, then k times '='
     so : (m k : ℕ) → letterCount Standard t ≡ m → k ≤ 2 → m + k ≡ n → drop m t ≡ replicate k pad → drop (letterCount Standard t) t ≡ padding Standard (size (letterCount Standard t))
     so m k c h l d =
         let g : (m + k) % 4 ≡ 0 = ap (λ (x : ℕ). x % 4) l ∙ groups in
@@ -387,7 +387,7 @@ padding-is Standard t w = ends (eqb (getD t (n - 1) 0) pad) refl
     ends true e = some-there (eqb-true (getD t (n - 1) 0) pad e) (eqb (getD t (n - 1 - 1) 0) pad) refl
 
 module _ (a : Alphabet) (t : List ℕ) where
-  -- what a text that is accepted stands for
+  -- the bytes of an accepted text
   decoding-some : (xs : List ℕ) → decoding a t ≡ some xs → (accepted a t ≡ true) × (bytes a (unpadded a t) ≡ xs)
   unfolding decoding
   decoding-some xs e = go (accepted a t) refl e
@@ -411,7 +411,7 @@ module _ (a : Alphabet) (t : List ℕ) where
       ∙ (λ i. sym l i ++ padding-is a t w i)
       ∙ ap (λ (m : ℕ). letters a (bytes a (unpadded a t)) ++ padding a m) (sym n)
 
-  -- an accepted text is the writing of what it stands for: bytes have one text
+  -- an accepted text is the encoding of its bytes, so bytes have one text
   pub encode-decode : (xs : List ℕ) → AllBytes t → decoding a t ≡ some xs → t ≡ encoding a xs
   encode-decode xs p e = restored p (decoding-some xs e .0) ∙ ap (encoding a) (decoding-some xs e .1)
 
@@ -426,6 +426,6 @@ each-read a (w ∷ x ∷ []) = one-more (eight _) none-left
 each-read a (w ∷ x ∷ y ∷ []) = one-more (eight _) (one-more (eight _) none-left)
 each-read a (w ∷ x ∷ y ∷ z ∷ rest) = one-more (eight _) (one-more (eight _) (one-more (eight _) (each-read a rest)))
 
--- what a text stands for is bytes
+-- a text decodes to bytes
 pub decoded-bytes : (a : Alphabet) (t xs : List ℕ) → decoding a t ≡ some xs → AllBytes xs
 decoded-bytes a t xs e = subst AllBytes (decoding-some a t xs e .1) (each-bytes (each-read a (unpadded a t)))

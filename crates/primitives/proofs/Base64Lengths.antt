@@ -1,4 +1,4 @@
--- BASE64: the lengths of a text and of what it stands for.
+-- BASE64: the lengths of a text and of the bytes it encodes.
 use Prim.Native.Nat.{ℕ, zero, suc, _+_, _-_, _*_, _/_, _%_}
 use mathlib.Core.Path.{_≡_, refl, _∙_}
 use mathlib.Core.List.{List, [], _∷_}
@@ -39,7 +39,7 @@ padded-length Standard n = go (n % 3) refl
 padded-length UrlSafe n = omega arith
 
 module _ (a : Alphabet) (xs : List ℕ) where
-  -- the text's length, of the number of bytes alone
+  -- the text's length, from the number of bytes alone
   pub length-encoding : length (encoding a xs) ≡ encodedLength a (length xs)
   unfolding encoding
   length-encoding =

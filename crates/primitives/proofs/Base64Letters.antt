@@ -1,4 +1,4 @@
--- BASE64: letters and numbers are each other's, and a group of 24 bits is its bytes and its numbers.
+-- BASE64: letters and numbers determine each other, and so do a group of 24 bits, its bytes and its numbers.
 use Prim.Native.Nat.{ℕ, _+_, _*_, _/_, _%_, _≤_, _<_}
 use mathlib.Core.Path.{_≡_, refl, sym, ap, subst}
 use mathlib.Core.Bool.{Bool, true, false, not, _&&_, _||_}
@@ -68,7 +68,7 @@ module _ (a : Alphabet) where
       eqb→eq (digit a (letter a k)) k
       (both-1 (ltb (letter a k) 256) (eqb (digit a (letter a k)) k) (at (back a) (replicate 64 0) (all-back a) k h))
 
-  -- a foreign byte is no letter
+  -- a foreign byte is not a letter
   pub foreign : (c : ℕ) → digit a c ≡ 64 → (k : ℕ) → k < 64 → letter a k ≡ c → ⊥
   foreign c f k h e = omega (arith, digit-letter k h, ap (digit a) e, f)
 

@@ -171,7 +171,7 @@ module _ (a : Alphabet) {s out₀ out : List ℕ} {at i o : ℕ} (e : Pass (lett
 
 -- ---- the pieces of the reader
 
--- what is stored of a group: its bytes, and a byte behind them
+-- what is stored of a group: its bytes, and one byte after them
 abbrev pub four : ℕ → List ℕ
 four g = triple g ++ (0 ∷ [])
 
@@ -195,7 +195,7 @@ module _ (a : Alphabet) (s : List ℕ) (i : ℕ) where
       ∙ ap (λ (l : List ℕ). getD s i 0 ∷ getD s (i + 1) 0 ∷ getD s (i + 2) 0 ∷ l)
       (drop-one s (i + 3) h ∙ ap (λ (n : ℕ). getD s (i + 3) 0 ∷ drop n s) (add-assoc i 3 1))
 
-  -- the group of the letters from i on, y and z where there are fewer
+  -- the group of the two letters at i, with y and z as the third and the fourth
   abbrev pub groupAt : ℕ → ℕ → ℕ
   groupAt y z = fromDigits (digit a (getD s i 0)) (digit a (getD s (i + 1) 0)) (digit a y) (digit a z)
 
@@ -307,7 +307,7 @@ known-append a (x ∷ xs) ys = go (ltb (digit a x) 64) (known-append a xs ys)
     go true e = e
     go false e = refl
 
--- by fours
+-- in fours
 module _ (a : Alphabet) (s : List ℕ) (i : ℕ) (h : 3 < length s - i) where
   abbrev pub fourAt : List ℕ
   fourAt = getD s i 0 ∷ getD s (i + 1) 0 ∷ getD s (i + 2) 0 ∷ getD s (i + 3) 0 ∷ []
@@ -329,7 +329,7 @@ pub known-end : (a : Alphabet) (s : List ℕ) (i : ℕ) → length s ≤ i → k
 unfolding known
 known-end a s i h = ap (known a) (drop-of-length-le s h)
 
--- what the end of a text says, by the number of letters behind whole groups and the last letter's number
+-- the test of a text's end, by the number of letters after whole groups and the last letter's number
 abbrev endOf : ℕ → ℕ → Bool
 endOf zero d = true
 endOf (suc zero) d = false

@@ -1,4 +1,4 @@
--- Laws of the cipher for whoever uses it: what it gives is 16 bytes.
+-- Laws of the cipher for its callers: its result is 16 bytes.
 use mathlib.Core.Path.{_≡_, refl, ap, _∙_}
 use mathlib.Core.Bool.{Bool, true, false, cond}
 use mathlib.Core.List.{List, [], _∷_, _++_}
@@ -143,7 +143,7 @@ last-bytes s k q = grid-bytes (λ r c. bitXor (cell shifted r c) (cell k r c)) (
     inside : AllWords shifted
     inside = grid-bytes (λ r c. cell (subBytes s) r ((c + r) % 4)) (λ r c. subbed .at ((c + r) % 4) .at r)
 
--- what the cipher gives under words of bytes are bytes, whatever the block holds
+-- under words of bytes the cipher gives bytes, whatever the block holds
 pub cipher-bytes : {w : List (List ℕ)} (b : List ℕ) → AllWords w → AllBytes (cipher w b)
 unfolding cipher
 cipher-bytes {w} b h =

@@ -1,5 +1,5 @@
--- Laws of SHA-256 up to the hash value of many blocks: the lists that loops fill, rounds that follow on rounds, and
--- blocks that agree.
+-- Laws of SHA-256 up to the hash value of many blocks: the lists that loops fill, rounds after rounds, and blocks
+-- that agree.
 use mathlib.Core.Path.{_≡_, refl, sym, ap, ap₂, _∙_}
 use mathlib.Core.List.{List, [], _∷_, _++_}
 use Prim.Native.Nat.{ℕ, zero, suc, _+_, _-_, _*_, _<_, _≤_}
@@ -11,7 +11,7 @@ use lib.Seq.{take-suc-set, getD-take}
 use Rattle.primitives.specs.declared.hash.HashValue.{HashValue}
 use Rattle.primitives.specs.Sha256.{_⊞_, Ch, Maj, Σ₀, Σ₁, σ₀, σ₁, wordAt, words, nextWord, schedule, round, K, rounds, sums, compress, blocks}
 
--- one more element stored behind the first i
+-- one more element stored after the first i
 put-next : (w : List ℕ) (i : ℕ) (p : List ℕ) (x y : ℕ) → i < length w → take i w ≡ p → x ≡ y → take (i + 1) (set w i x) ≡ p ++ y ∷ []
 put-next w i p x y h e f =
     ap (λ (k : ℕ). take k (set w i x)) (add-one i) ∙ take-suc-set w i x h ∙ ap₂ (λ (l : List ℕ) (z : ℕ). l ++ z ∷ []) e f
@@ -70,11 +70,11 @@ pub round-one : (v r : HashValue) (W k : List ℕ) (t : ℕ) → k ≡ K → r �
 unfolding rounds
 round-one v r W k t e f = rw (add-zero, ← e) f
 
--- k rounds behind n rounds
+-- k rounds after n rounds
 pub rounds-then : (v u r : HashValue) (W : List ℕ) (t n k : ℕ) → u ≡ rounds v W t n → r ≡ rounds u W (t + n) k → r ≡ rounds v W t (n + k)
 rounds-then v u r W t n k e f = f ∙ ap (λ (x : HashValue). rounds x W (t + n) k) e ∙ rounds-add v W t n k
 
--- k rounds behind the first t
+-- k rounds after the first t
 pub rounds-more : (v u r : HashValue) (W : List ℕ) (t k : ℕ) → u ≡ rounds v W 0 t → r ≡ rounds u W t k → r ≡ rounds v W 0 (t + k)
 rounds-more v u r W t k e f = rounds-then v u r W 0 t k e (f ∙ ap (λ (i : ℕ). rounds u W i k) (sym (zero-add t)))
 
@@ -111,7 +111,7 @@ module _ (m m′ : List ℕ) (k k′ : ℕ) (same : (j : ℕ) → j < 64 → get
   unfolding compress
   compress-agree s = ap (λ (ws : List ℕ). sums (rounds s (schedule ws 48) 0 64) s) (words-agree 16 (le-refl 16))
 
--- n blocks of b behind q blocks of p, where b goes on as p does
+-- n blocks of b after q blocks of p, where b continues as p does
 pub blocks-then : (s : HashValue) (p b : List ℕ) (q n : ℕ) → ((j : ℕ) → j < n * 64 → getD b j 0 ≡ getD p (q * 64 + j) 0) → blocks (blocks s p q) b n ≡ blocks s p (q + n)
 unfolding blocks
 blocks-then s p b q zero same = ap (blocks s p) (sym (add-zero q))

@@ -73,7 +73,7 @@ module _ (n v : ℕ) {h : ℕ} (e : h ≡ half n) (w : n ≤ 8) where
         let m : h - 1 - (v - h) ≡ 256 ^ n - suc v = omega (arith, half-twice n p) in
         not-is (pos (h - 1 - (v - h))) upper-fits ∙ ap negsuc m ∙ sym (of-upper n v (omega arith) l)
 
--- the bytes of a width are all there
+-- under a valid width no byte is missing
 pub never-missing : {X : Type 0} (n : ℕ) (b : List ℕ) → widthGood n ≡ true → length b ≡ 8 → numberAt b 0 n ≡ Missing → X
 never-missing n b e l q =
     let w = width-true n e in

@@ -1,4 +1,4 @@
--- Counts at a place of a list of bytes.
+-- Counts at a place in a list of bytes.
 use Prim.Native.Nat.{ℕ, _+_, _^_, _≤_, _<_}
 use mathlib.Core.Path.{_≡_, refl, sym, ap, _∙_, subst}
 use mathlib.Core.List.{List, _++_}
@@ -23,7 +23,7 @@ pub count-in : (p q : List ℕ) (at n v : ℕ) → length p ≡ at → v < 256 ^
 unfolding countAt
 count-in p q at n v e h = ap valueOf (part-at p (bytesOf n v) q at n e (length-bytesOf n v)) ∙ value-bytesOf n v h
 
--- the rest from a place on, cut
+-- the rest from a place on, cut in two
 pub cut : (j : List ℕ) (at n : ℕ) → drop at j ≡ take n (drop at j) ++ drop (at + n) j
 cut j at n = sym (take-append-drop n (drop at j)) ∙ ap (λ (l : List ℕ). take n (drop at j) ++ l) (drop-drop n at j)
 

@@ -1,4 +1,4 @@
--- Laws of the field and of its substitution: the inverse is one, doubling is the product by 2. Each is one test, computed at every byte.
+-- Laws of the field and of its substitution: b times its inverse is 1, doubling is the product by 2. Each is one test, computed at every byte.
 use mathlib.Core.Path.{_≡_, refl, ap}
 use mathlib.Core.Bool.{Bool, true, false, cond, _||_}
 use mathlib.Core.List.{List}

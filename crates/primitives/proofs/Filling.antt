@@ -1,4 +1,4 @@
--- Loops that fill a part of a buffer: a copy from the front, a number's bytes from the end. And the two answers of a writer.
+-- Loops that fill a part of a buffer: a copy from the front, a number's bytes from the end. Also the two answers of a writer.
 use Prim.Native.Nat.{ℕ, zero, suc, _+_, _-_, _/_, _%_, _≤_, _<_}
 use mathlib.Core.Path.{_≡_, refl, sym, ap, _∙_}
 use mathlib.Core.Bool.{Bool, true, false}
@@ -10,14 +10,14 @@ use borrow.Author.Tests.{le-leb, lt-leb, leb-true, leb-false}
 use lib.Dec.{leb}
 use lib.ListN.{length, getD, take, set}
 use lib.Seq.{take-suc, length-take-le, take-all}
-use Rattle.primitives.specs.Place.{overwrite, placed, behind}
+use Rattle.primitives.specs.Place.{overwrite, placed, placeAfter}
 use Rattle.primitives.specs.Number.{bytesOf}
-use Rattle.primitives.proofs.Over.{over-nil, over-snoc, over-cons, length-over, placed-room, placed-full, behind-room, behind-full}
+use Rattle.primitives.proofs.Over.{over-nil, over-snoc, over-cons, length-over, placed-room, placed-full, after-room, after-full}
 use Rattle.primitives.proofs.Numbers.{bytesOf-suc}
 
 -- ---- the question whether there is room, and the answers
 
--- n bytes from a place on, asked without a sum
+-- room for n bytes from a place on, computed without a sum
 pub reach-test : (len at n : ℕ) → at ≤ len → leb n (len - at) ≡ leb (at + n) len
 reach-test len at n h = go (leb n (len - at)) refl
   where
@@ -27,16 +27,16 @@ reach-test len at n h = go (leb n (len - at)) refl
 
 -- all of a text was written, or nothing
 module _ (out : List ℕ) (at : ℕ) (ys : List ℕ) where
-  pub wrote : {out′ : List ℕ} {n : ℕ} → out′ ≡ overwrite out at ys → length ys ≡ n → at + n ≤ length out → (at + n ≡ behind out at ys) × (out′ ≡ placed out at ys)
+  pub wrote : {out′ : List ℕ} {n : ℕ} → out′ ≡ overwrite out at ys → length ys ≡ n → at + n ≤ length out → (at + n ≡ placeAfter out at ys) × (out′ ≡ placed out at ys)
   wrote {n = n} e l h =
       let k : at + length ys ≤ length out = omega arith in
       let m : at + n ≡ at + length ys = omega arith in
-      (m ∙ sym (behind-room out at ys k), e ∙ sym (placed-room out at ys k))
+      (m ∙ sym (after-room out at ys k), e ∙ sym (placed-room out at ys k))
 
-  pub wrote-nothing : {n : ℕ} → length ys ≡ n → length out < at + n → (at ≡ behind out at ys) × (out ≡ placed out at ys)
+  pub wrote-nothing : {n : ℕ} → length ys ≡ n → length out < at + n → (at ≡ placeAfter out at ys) × (out ≡ placed out at ys)
   wrote-nothing l h =
       let k : length out < at + length ys = omega arith in
-      (sym (behind-full out at ys k), sym (placed-full out at ys k))
+      (sym (after-full out at ys k), sym (placed-full out at ys k))
 
 -- ---- a copy: i bytes of s are written
 

@@ -18,7 +18,7 @@ use Rattle.primitives.proofs.Twos.{of-twos, fits-of, twos-of, counter-b
 use Rattle.primitives.proofs.Xors.{xorFirst-back}
 use Rattle.primitives.proofs.Field.{inverse-is, times-two, times-three}
 use Rattle.primitives.proofs.Over.{read-over, placed-room, length-placed}
-use Rattle.primitives.proofs.Rewrites.{getD-before, getD-behind}
+use Rattle.primitives.proofs.Rewrites.{getD-before, getD-after}
 
 -- ---- BASE64
 
@@ -87,7 +87,7 @@ module _ (xs : List ℕ) (at : ℕ) (ys : List ℕ) where
 
 pub writing-touches-no-other : WritingTouchesNoOther
 writing-touches-no-other xs at ys i =
-    (λ h. elsewhere xs at ys i (λ r. getD-before xs at ys i h (omega arith)), λ h. elsewhere xs at ys i (getD-behind xs at ys i h))
+    (λ h. elsewhere xs at ys i (λ r. getD-before xs at ys i h (omega arith)), λ h. elsewhere xs at ys i (getD-after xs at ys i h))
 
 pub writing-keeps-length : WritingKeepsLength
 writing-keeps-length = length-placed

@@ -43,7 +43,7 @@ bytesOf-low (suc n) q v =
     let m : (q * 256 ^ suc n + v) % 256 ≡ v % 256 = omega (arith, e) in
     (λ i. bytesOf n (d i) ++ (m i ∷ [])) ∙ ap (λ (l : List ℕ). l ++ (v % 256 ∷ [])) (bytesOf-low n q (v / 256))
 
--- ---- the number of bytes
+-- ---- the value of bytes
 
 after-append : (v : ℕ) (xs ys : List ℕ) → valueAfter v (xs ++ ys) ≡ valueAfter (valueAfter v xs) ys
 unfolding valueAfter
@@ -132,7 +132,7 @@ number-in p q n v h l =
     number-there (p ++ t) (length p) n h (omega (arith, length-append p t, length-append (bytesOf n v) q))
     ∙ ap Is (ap valueOf (ap (take n) (drop-at p t (length p) refl) ∙ take-at (bytesOf n v) q n e) ∙ value-bytesOf n v l)
 
--- what it says that a number was found
+-- what holds if a number was found
 pub record Found (s : List ℕ) (at n v : ℕ) : Type 0 where
   pub wide : n ≤ 8
   pub room : at + n ≤ length s
@@ -174,7 +174,7 @@ unfolding valueOf valueAfter
 read-start s at n w h = record { inside = omega arith; wide = w; room = h; is = refl; low = lit< tt }
 
 module _ {s : List ℕ} {at n v i : ℕ} (p : Reading s at n v i) where
-  -- a byte more does not leave 64 bits
+  -- one more byte still fits 64 bits
   pub read-small : i < n → v < 2 ^ 56
   read-small h =
       let l : i ≤ 7 = omega (arith, p .wide) in

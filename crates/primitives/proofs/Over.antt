@@ -1,4 +1,4 @@
--- Laws of writing at a place: `overwrite`, and the writers' answers `placed` and `behind`.
+-- Laws of writing at a place: `overwrite`, and the writers' answers `placed` and `placeAfter`.
 use Prim.Native.Nat.{ℕ, suc, _+_, _-_, _≤_, _<_}
 use mathlib.Core.Path.{_≡_, refl, sym, ap, _∙_}
 use mathlib.Core.Bool.{Bool, true, false, cond}
@@ -10,7 +10,7 @@ use borrow.Author.Tests.{le-leb, lt-leb, leb-true}
 use lib.Dec.{leb}
 use lib.ListN.{length, getD, take, drop, set, length-append, length-drop, take-append-drop}
 use lib.Seq.{take-suc, drop-cons, set-at, take-at, drop-at, length-take-le, drop-drop, sets, sets-eq}
-use Rattle.primitives.specs.Place.{overwrite, room, placed, behind}
+use Rattle.primitives.specs.Place.{overwrite, room, placed, placeAfter}
 
 pub over-nil : (xs : List ℕ) (at : ℕ) → overwrite xs at [] ≡ xs
 unfolding overwrite
@@ -30,7 +30,7 @@ module _ (xs : List ℕ) (at : ℕ) (ys : List ℕ) where
       ap length split ∙ length-append (take at xs ++ ys) (drop (at + length ys) xs)
       ∙ omega (arith, front (omega arith), length-drop (at + length ys) xs)
 
-  -- one more byte behind
+  -- one more byte after it
   pub over-snoc : (b : ℕ) → at + length ys < length xs → set (overwrite xs at ys) (at + length ys) b ≡ overwrite xs at (ys ++ (b ∷ []))
   unfolding overwrite
   over-snoc b h =
@@ -48,7 +48,7 @@ module _ (xs : List ℕ) (at : ℕ) (ys : List ℕ) where
       e : suc (at + length ys) ≡ at + length (ys ++ (b ∷ []))
       e = omega (arith, length-append ys (b ∷ []))
 
-  -- one more byte in front
+  -- one more byte before it
   pub over-cons : (b : ℕ) → at < length xs → set (overwrite xs (at + 1) ys) at b ≡ overwrite xs at (b ∷ ys)
   unfolding overwrite
   over-cons b h =
@@ -93,7 +93,7 @@ module _ (xs : List ℕ) (at : ℕ) (ys : List ℕ) where
       ap (take (length ys)) (drop-at (take at xs) (ys ++ drop (at + length ys) xs) at (length-take-le at xs (omega arith)))
       ∙ take-at ys (drop (at + length ys) xs) (length ys) refl
 
-  -- what stands before is as it was
+  -- what stands before it is unchanged
   pub before-over : at ≤ length xs → take at (overwrite xs at ys) ≡ take at xs
   unfolding overwrite
   before-over h = take-at (take at xs) (ys ++ drop (at + length ys) xs) at (length-take-le at xs h)
@@ -137,13 +137,13 @@ module _ (xs : List ℕ) (at : ℕ) (ys : List ℕ) where
   unfolding placed room
   placed-full h = rw (lt-leb (at + length ys) (length xs) h)
 
-  pub behind-room : at + length ys ≤ length xs → behind xs at ys ≡ at + length ys
-  unfolding behind room
-  behind-room h = rw (le-leb (at + length ys) (length xs) h)
+  pub after-room : at + length ys ≤ length xs → placeAfter xs at ys ≡ at + length ys
+  unfolding placeAfter room
+  after-room h = rw (le-leb (at + length ys) (length xs) h)
 
-  pub behind-full : length xs < at + length ys → behind xs at ys ≡ at
-  unfolding behind room
-  behind-full h = rw (lt-leb (at + length ys) (length xs) h)
+  pub after-full : length xs < at + length ys → placeAfter xs at ys ≡ at
+  unfolding placeAfter room
+  after-full h = rw (lt-leb (at + length ys) (length xs) h)
 
   pub room-true : at + length ys ≤ length xs → room xs at ys ≡ true
   unfolding room
@@ -162,7 +162,7 @@ module _ (xs : List ℕ) (at : ℕ) (ys : List ℕ) where
       go true e = length-over xs at ys (leb-true (at + length ys) (length xs) e)
       go false e = refl
 
--- two writes in a row, the second behind the first
+-- two writes in a row, the second after the first
 pub then : (b ys zs : List ℕ) (at at′ : ℕ) {b₁ b₂ : List ℕ} → b₁ ≡ overwrite b at ys → b₂ ≡ overwrite b₁ at′ zs → at′ ≡ at + length ys
     → at + length ys ≤ length b → b₂ ≡ overwrite b at (ys ++ zs)
 then b ys zs at at′ p q e h = q ∙ (λ i. overwrite (p i) (e i) zs) ∙ over-over b at ys zs h

@@ -1,4 +1,4 @@
--- Laws of writing over a part of a buffer that holds more: the parts outside are as they were, and writes at two places commute.
+-- Laws of writing over a part of a larger buffer: the parts outside are unchanged, and writes at two places commute.
 use Prim.Native.Nat.{ℕ, _+_, _-_, _≤_, _<_}
 use mathlib.Core.Path.{_≡_, refl, sym, ap, _∙_}
 use mathlib.Core.List.{List, _++_, append-assoc}
@@ -58,21 +58,21 @@ module _ (xs : List ℕ) (at : ℕ) (ys : List ℕ) where
     long : length (overwrite (take n xs) at ys) ≡ n
     long = length-over (take n xs) at ys (omega (arith, length-take-le n xs l)) ∙ length-take-le n xs l
 
-    pub take-behind : take n (overwrite xs at ys) ≡ overwrite (take n xs) at ys
-    take-behind = ap (take n) cut′ ∙ take-at (overwrite (take n xs) at ys) (drop n xs) n long
+    pub take-after : take n (overwrite xs at ys) ≡ overwrite (take n xs) at ys
+    take-after = ap (take n) cut′ ∙ take-at (overwrite (take n xs) at ys) (drop n xs) n long
 
-    pub drop-behind : drop n (overwrite xs at ys) ≡ drop n xs
-    drop-behind = ap (drop n) cut′ ∙ drop-at (overwrite (take n xs) at ys) (drop n xs) n long
+    pub drop-after : drop n (overwrite xs at ys) ≡ drop n xs
+    drop-after = ap (drop n) cut′ ∙ drop-at (overwrite (take n xs) at ys) (drop n xs) n long
 
   pub getD-before : (i : ℕ) → i < at → at ≤ length xs → getD (overwrite xs at ys) i 0 ≡ getD xs i 0
   getD-before i h l = sym (getD-take at (overwrite xs at ys) i 0 h) ∙ ap (λ (k : List ℕ). getD k i 0) (before-over xs at ys l) ∙ getD-take at xs i 0 h
 
-  pub getD-behind : (i : ℕ) → at + length ys ≤ i → at + length ys ≤ length xs → getD (overwrite xs at ys) i 0 ≡ getD xs i 0
-  getD-behind i h l =
+  pub getD-after : (i : ℕ) → at + length ys ≤ i → at + length ys ≤ length xs → getD (overwrite xs at ys) i 0 ≡ getD xs i 0
+  getD-after i h l =
       let k = at + length ys in
       let e : k + (i - k) ≡ i = omega arith in
       sym (getD-drop k (overwrite xs at ys) (i - k) 0 ∙ ap (λ (j : ℕ). getD (overwrite xs at ys) j 0) e)
-      ∙ ap (λ (r : List ℕ). getD r (i - k) 0) (drop-behind k (omega arith) l)
+      ∙ ap (λ (r : List ℕ). getD r (i - k) 0) (drop-after k (omega arith) l)
       ∙ (getD-drop k xs (i - k) 0 ∙ ap (λ (j : ℕ). getD xs j 0) e)
 
   pub getD-inside : (j : ℕ) → j < length ys → at + length ys ≤ length xs → getD (overwrite xs at ys) (at + j) 0 ≡ getD ys j 0
@@ -93,7 +93,7 @@ module _ (xs : List ℕ) (at : ℕ) (ys : List ℕ) where
   -- at one place
   pub over-again : (zs : List ℕ) → length ys ≡ length zs → at + length ys ≤ length xs → overwrite (overwrite xs at ys) at zs ≡ overwrite xs at zs
   unfolding overwrite
-  over-again zs e l = λ i. before-over xs at ys (omega arith) i ++ (zs ++ drop-behind xs at ys (at + length zs) (omega arith) (omega arith) i)
+  over-again zs e l = λ i. before-over xs at ys (omega arith) i ++ (zs ++ drop-after xs at ys (at + length zs) (omega arith) (omega arith) i)
 
   -- at two places that do not meet
   pub over-comm : (at′ : ℕ) (zs : List ℕ) → at + length ys ≤ at′ → at′ + length zs ≤ length xs → overwrite (overwrite xs at ys) at′ zs ≡ overwrite (overwrite xs at′ zs) at ys
@@ -102,6 +102,6 @@ module _ (xs : List ℕ) (at : ℕ) (ys : List ℕ) where
       let m : length (overwrite xs at ys) ≡ length xs = length-over xs at ys (omega arith) in
       let m′ : length (overwrite xs at′ zs) ≡ length xs = length-over xs at′ zs l in
       cut (overwrite xs at ys) at′ zs k h (omega arith)
-      ∙ (λ i. take-behind xs at ys k (omega arith) (omega arith) i ++ overwrite (drop-behind xs at ys k (omega arith) (omega arith) i) (at′ - k) zs)
+      ∙ (λ i. take-after xs at ys k (omega arith) (omega arith) i ++ overwrite (drop-after xs at ys k (omega arith) (omega arith) i) (at′ - k) zs)
       ∙ sym (λ i. overwrite (take-before xs at′ zs k h (omega arith) i) at ys ++ drop-before xs at′ zs k h (omega arith) i)
       ∙ sym (cut′ (overwrite xs at′ zs) at ys k (omega arith) (omega arith))

@@ -36,7 +36,7 @@ pub ruleset asks = (and-no, and-yes, not-no, not-yes, lt-ltb, le-ltb, le-leb, lt
 
 -- ---- questions in a row
 
--- before a 0 every answer was yes
+-- if the number is 0, every answer was yes
 pub ask-zero : (b : Bool) (n rest : ℕ) → ask b (suc n) rest ≡ 0 → (b ≡ true) × (rest ≡ 0)
 unfolding ask
 ask-zero true n rest e = (refl, e)

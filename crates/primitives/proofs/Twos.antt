@@ -261,7 +261,7 @@ module _ (n : ℕ) {b : List ℕ} (e : widthGood n ≡ true) (p : AllBytes b) (l
       ∙ ap (bytesOf n) (ap (twos n) (value-wide n b e) ∙ twos-of n some (valueOf (take n b)) first-lt)
       ∙ rw length-first at (bytesOf-value (take n b) (bytes-take n p))
 
-  -- all of the bytes, where zeros stand behind the first ones
+  -- all of the bytes, if zeros follow the first n
   pub counter-whole : drop n b ≡ replicate (8 - n) 0 → counterBytes n (counterValue n b) ≡ b
   counter-whole d =
       counterBytes-is n (counterValue n b) fits-value

@@ -55,7 +55,7 @@ length-xorFirst (suc n) [] k h = refl
 length-xorFirst (suc n) (x ∷ b) [] h = absurd (omega arith)
 length-xorFirst (suc n) (x ∷ b) (y ∷ k) h = ap suc (length-xorFirst n b k (le-of-suc-le-suc h))
 
--- the first bytes, and those behind them
+-- the first bytes, and those after them
 pub take-xorFirst : (n : ℕ) (b k : List ℕ) → length b ≤ length k → take n (xorFirst n b k) ≡ xorList (take n b) k
 unfolding xorFirst xorList
 take-xorFirst zero b k h = refl
@@ -70,7 +70,7 @@ drop-xorFirst (suc n) [] k h = refl
 drop-xorFirst (suc n) (x ∷ b) [] h = absurd (omega arith)
 drop-xorFirst (suc n) (x ∷ b) (y ∷ k) h = drop-xorFirst n b k (le-of-suc-le-suc h)
 
--- combined twice, the bytes are as they were
+-- combined twice, the bytes are unchanged
 pub xorFirst-back : (n : ℕ) (b k : List ℕ) → length b ≤ length k → xorFirst n (xorFirst n b k) k ≡ b
 unfolding xorFirst xorList
 xorFirst-back zero b k h = refl
@@ -78,7 +78,7 @@ xorFirst-back (suc n) [] k h = refl
 xorFirst-back (suc n) (x ∷ b) [] h = absurd (omega arith)
 xorFirst-back (suc n) (x ∷ b) (y ∷ k) h = λ i. xor-back x y i ∷ xorFirst-back n b k (le-of-suc-le-suc h) i
 
--- all of the bytes, where n is no less than their count
+-- all of the bytes, if n is at least their count
 all : (n : ℕ) (b k : List ℕ) → length b ≤ n → xorFirst n b k ≡ xorList b k
 unfolding xorFirst
 all n b k h = (λ i. xorList (take-all n b h i) k ++ drop-of-length-le b h i) ∙ append-nil (xorList b k)

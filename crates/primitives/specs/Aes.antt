@@ -40,7 +40,7 @@ bit b i = b / 2 ^ (i % 8) % 2
 abbrev pub byteOf : (ℕ → ℕ) → ℕ
 byteOf f = f 0 + f 1 * 2 + f 2 * 4 + f 3 * 8 + f 4 * 16 + f 5 * 32 + f 6 * 64 + f 7 * 128
 
--- bit i of the affine map: a sum of bits modulo 2, with bit i of 63
+-- bit i of the affine map: a sum of bits modulo 2, among them bit i of 0x63
 abbrev pub affineBit : ℕ → ℕ → ℕ
 affineBit b i = (bit b i + bit b (i + 4) + bit b (i + 5) + bit b (i + 6) + bit b (i + 7) + bit 0x63 i) % 2
 
@@ -118,7 +118,7 @@ nextWord i prev back = addColumn back (turned i prev)
 abbrev pub keyWord : List ℕ → ℕ → List ℕ
 keyWord key i = getD key (i * 4) 0 ∷ getD key (i * 4 + 1) 0 ∷ getD key (i * 4 + 2) 0 ∷ getD key (i * 4 + 3) 0 ∷ []
 
--- word i, behind the i words ws
+-- word i, after the i words ws
 unfoldable pub wordAfter : List ℕ → List (List ℕ) → ℕ → List ℕ
 wordAfter key ws i = cond (ltb i 8) (keyWord key i) (nextWord i (getD ws (i - 1) []) (getD ws (i - 8) []))
 

@@ -1,4 +1,4 @@
--- What a call that writes a text answers, and the output after it.
+-- The answer of a call that writes a text, and the output after it.
 use Prim.Native.Nat.{ℕ}
 use mathlib.Core.Bool.{cond}
 use mathlib.Core.List.{List}
@@ -7,7 +7,7 @@ use lib.ListN.{length}
 use Rattle.primitives.specs.Place.{room, placed}
 use Rattle.primitives.specs.declared.answer.Answer.{Answer}
 
--- a text that is to be written: its length, or 23 where it doesn't fit
+-- a text to be written: its length, or 23 if it does not fit
 unfoldable pub written : List ℕ → List ℕ → Answer
 written out text = cond (room out 0 text) (record { number = 0; length = length text }) (record { number = 23; length = 0 })
 

@@ -57,7 +57,7 @@ triple g = g / 65536 % 256 ∷ g / 256 % 256 ∷ g % 256 ∷ []
 
 -- ---- writing
 
--- the letters of a list of bytes. At its end the bits that are missing are zero, and a letter of such bits alone is left out
+-- the letters of a list of bytes. Bits missing at its end are zero, and a letter of such bits alone is left out
 unfoldable pub letters : Alphabet → List ℕ → List ℕ
 letters a [] = []
 letters a (x ∷ []) = take 2 (quad a (fromBytes x 0 0))
@@ -68,7 +68,7 @@ letters a (x ∷ y ∷ z ∷ rest) = quad a (fromBytes x y z) ++ letters a rest
 abbrev pub pad : ℕ
 pad = code "="
 
--- section 4: padding makes the last letters a group of four; in UrlSafe there is none
+-- section 4: padding fills the last group up to four letters; UrlSafe has no padding
 abbrev pub paddingCount : Alphabet → ℕ → ℕ
 paddingCount Standard n = (3 - n % 3) % 3
 paddingCount UrlSafe n = 0
@@ -80,7 +80,7 @@ padding a n = replicate (paddingCount a n) pad
 unfoldable pub encoding : Alphabet → List ℕ → List ℕ
 encoding a xs = letters a xs ++ padding a (length xs)
 
--- how long the text of n bytes is
+-- the length of the text of n bytes
 abbrev pub encodedLength : Alphabet → ℕ → ℕ
 encodedLength Standard n = (n + 2) / 3 * 4
 encodedLength UrlSafe n = (n * 4 + 2) / 3
@@ -95,12 +95,12 @@ bytes a (w ∷ x ∷ []) = take 1 (triple (fromDigits (digit a w) (digit a x) 0 
 bytes a (w ∷ x ∷ y ∷ []) = take 2 (triple (fromDigits (digit a w) (digit a x) (digit a y) 0))
 bytes a (w ∷ x ∷ y ∷ z ∷ rest) = triple (fromDigits (digit a w) (digit a x) (digit a y) (digit a z)) ++ bytes a rest
 
--- section 3.3: every byte of the text is a letter; '=' is none
+-- section 3.3: every byte of the text is a letter; '=' is not a letter
 unfoldable pub known : Alphabet → List ℕ → Bool
 known a [] = true
 known a (c ∷ text) = ltb (digit a c) 64 && known a text
 
--- section 3.5: the bits behind the last byte are zero; a letter alone is no byte
+-- section 3.5: the bits after the last byte are zero; a single letter encodes no byte
 unfoldable pub ended : Alphabet → List ℕ → Bool
 ended a [] = true
 ended a (w ∷ []) = false
@@ -108,16 +108,16 @@ ended a (w ∷ x ∷ []) = eqb (digit a x % 16) 0
 ended a (w ∷ x ∷ y ∷ []) = eqb (digit a y % 4) 0
 ended a (w ∷ x ∷ y ∷ z ∷ rest) = ended a rest
 
--- section 3.2: a padded text is made of groups of four
+-- section 3.2: a padded text consists of groups of four
 abbrev pub whole : Alphabet → ℕ → Bool
 whole Standard n = eqb (n % 4) 0
 whole UrlSafe n = true
 
--- a length of the text, without a '=' that stands there at the end
+-- a length of the text, less one if a '=' stands at its end
 unfoldable pub unmarked : List ℕ → ℕ → ℕ
 unmarked text n = cond (eqb (getD text (n - 1) 0) pad) (n - 1) n
 
--- how many letters stand before the padding, which is at most two '='
+-- the number of letters before the padding, which is at most two '='
 abbrev pub letterCount : Alphabet → List ℕ → ℕ
 letterCount Standard text = unmarked text (unmarked text (length text))
 letterCount UrlSafe text = length text
@@ -125,7 +125,7 @@ letterCount UrlSafe text = length text
 abbrev pub unpadded : Alphabet → List ℕ → List ℕ
 unpadded a text = take (letterCount a text) text
 
--- the text is padded as it must be, ends as it must and has letters alone
+-- padding and end are as required, and every byte before the padding is a letter
 unfoldable pub accepted : Alphabet → List ℕ → Bool
 accepted a text = whole a (length text) && (ended a (unpadded a text) && known a (unpadded a text))
 

@@ -28,7 +28,7 @@ squares (suc n) b =
     let s = times b b in
     times s (squares n s)
 
--- 4.2: the inverse, as b^254, which is 0 for 0. That b times it is 1 for every other byte is the statement `InverseIsInverse`
+-- 4.2: the inverse, as b^254, which is 0 for 0. `InverseIsInverse` states that b times it is 1 for every other byte
 unfoldable pub inverse : ℕ → ℕ
 unfolding squares
 inverse b = squares 7 b

@@ -1,4 +1,4 @@
--- What holds of the primitives, and what the crates above them build on. Proved in proofs/Laws.antt.
+-- Laws of the primitives, which the crates above them build on. Proved in proofs/Laws.antt.
 use Prim.Native.Nat.{ℕ, _+_, _≤_, _<_, _^_}
 use mathlib.Core.Path.{_≡_}
 use mathlib.Core.Bool.{true}
@@ -22,7 +22,7 @@ use Rattle.primitives.specs.declared.base64.Alphabet.{Alphabet}
 abbrev pub DecodingUndoesEncoding : Type 0
 DecodingUndoesEncoding = (a : Alphabet) (xs : List ℕ) → AllBytes xs → decoding a (encoding a xs) ≡ some xs
 
--- a text stands for xs exactly when xs are bytes and the text is their encoding; so a text that no bytes encode is refused
+-- a text decodes to xs exactly if xs are bytes and the text is their encoding; so any other text is refused
 abbrev pub DecodingIsExact : Type 0
 DecodingIsExact =
     (a : Alphabet) (text xs : List ℕ) → AllBytes text
@@ -42,17 +42,17 @@ EncodedLengthIs = (a : Alphabet) (xs : List ℕ) → length (encoding a xs) ≡ 
 abbrev pub NumberIsReadBack : Type 0
 NumberIsReadBack = (n v : ℕ) → v < 256 ^ n → valueOf (bytesOf n v) ≡ v
 
--- bytes are the bytes of their number
+-- bytes that are read as a number are written back unchanged
 abbrev pub NumberBytesAreKept : Type 0
 NumberBytesAreKept = (bs : List ℕ) → AllBytes bs → bytesOf (length bs) (valueOf bs) ≡ bs
 
 -- ---- two's complement, for every count of bytes, and the counter's bytes, for every width
 
--- a number in the range of n bytes is what its two's complement stands for
+-- a number in the range of n bytes is read back from its two's complement
 abbrev pub ComplementIsReadBack : Type 0
 ComplementIsReadBack = (n : ℕ) (z : ℤ) → 0 < n → fitsIn n z ≡ true → ofTwos n (twos n z) ≡ z
 
--- what n bytes stand for is in their range, and they are its two's complement
+-- the signed value of n bytes is in their range, and they are its two's complement
 abbrev pub ComplementIsKept : Type 0
 ComplementIsKept = (n v : ℕ) → 0 < n → v < 256 ^ n → (fitsIn n (ofTwos n v) ≡ true) × (twos n (ofTwos n v) ≡ v)
 
@@ -60,13 +60,13 @@ ComplementIsKept = (n v : ℕ) → 0 < n → v < 256 ^ n → (fitsIn n (ofTwos n
 abbrev pub CounterIsReadBack : Type 0
 CounterIsReadBack = (n : ℕ) (z : ℤ) → counterFits n z ≡ true → counterValue n (counterBytes n z) ≡ z
 
--- what the first n of eight bytes stand for fits, and they are its bytes
+-- the signed value of the first n of eight bytes fits, and they are its bytes
 abbrev pub CounterBytesAreKept : Type 0
 CounterBytesAreKept =
     (n : ℕ) (b : List ℕ) → widthGood n ≡ true → AllBytes b → length b ≡ 8
     → (counterFits n (counterValue n b) ≡ true) × (take n (counterBytes n (counterValue n b)) ≡ take n b)
 
--- the exclusive or with one key stream, made twice, gives the bytes back
+-- exclusive or with the same key stream, applied twice, gives the bytes back
 abbrev pub ExclusiveOrTwice : Type 0
 ExclusiveOrTwice = (n : ℕ) (b k : List ℕ) → length b ≤ length k → xorFirst n (xorFirst n b k) k ≡ b
 
@@ -89,13 +89,13 @@ SubstitutionFollowsRule = (table : List ℕ) → SBox table → (k : ℕ) → k 
 
 -- ---- writing at a place
 
--- each byte before the place, and each one after what was written, is as it was
+-- every byte before the place and every byte after what was written is unchanged
 abbrev pub WritingTouchesNoOther : Type 0
 WritingTouchesNoOther =
     (xs : List ℕ) (at : ℕ) (ys : List ℕ) (i : ℕ)
     → (i < at → getD (placed xs at ys) i 0 ≡ getD xs i 0) × (at + length ys ≤ i → getD (placed xs at ys) i 0 ≡ getD xs i 0)
 
--- the buffer's length is as it was
+-- the buffer's length is unchanged
 abbrev pub WritingKeepsLength : Type 0
 WritingKeepsLength = (xs : List ℕ) (at : ℕ) (ys : List ℕ) → length (placed xs at ys) ≡ length xs
 

@@ -12,19 +12,19 @@ unfoldable pub bytesOf : ℕ → ℕ → List ℕ
 bytesOf zero v = []
 bytesOf (suc n) v = bytesOf n (v / 256) ++ (v % 256 ∷ [])
 
--- the number of bytes that stand behind those of the number v
+-- the value of bytes that follow bytes of the value v
 unfoldable pub valueAfter : ℕ → List ℕ → ℕ
 valueAfter v [] = v
 valueAfter v (b ∷ bs) = valueAfter (v * 256 + b) bs
 
--- the number of bytes, the highest first
+-- the value of bytes, the highest first
 unfoldable pub valueOf : List ℕ → ℕ
 valueOf bs = valueAfter 0 bs
 
--- the number of the n bytes at a place
+-- the value of the n bytes at a place
 unfoldable pub countAt : List ℕ → ℕ → ℕ → ℕ
 countAt s at n = valueOf (take n (drop at s))
 
--- the same, missing where n is above 8, or not all of the bytes are there
+-- the same; missing if n is above 8 or the list ends before the last of them
 unfoldable pub numberAt : List ℕ → ℕ → ℕ → Number
 numberAt s at n = cond (leb n 8 && leb (at + n) (length s)) (Is (valueOf (take n (drop at s)))) Missing

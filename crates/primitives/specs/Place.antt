@@ -5,7 +5,7 @@ use mathlib.Core.List.{List, _++_}
 use lib.Dec.{leb}
 use lib.ListN.{length, take, drop}
 
--- `xs` with `ys` over what stands from the place `at` on
+-- `xs` with `ys` written over its bytes from the place `at` on
 unfoldable pub overwrite : List ℕ → ℕ → List ℕ → List ℕ
 overwrite xs at ys = take at xs ++ (ys ++ drop (at + length ys) xs)
 
@@ -13,10 +13,10 @@ overwrite xs at ys = take at xs ++ (ys ++ drop (at + length ys) xs)
 unfoldable pub room : List ℕ → ℕ → List ℕ → Bool
 room xs at ys = leb (at + length ys) (length xs)
 
--- the buffer after a writer: `ys` stands at the place, or nothing was written where there is no room for all of it
+-- the buffer after a writer: `ys` stands at the place, or nothing was written because there is no room for all of it
 unfoldable pub placed : List ℕ → ℕ → List ℕ → List ℕ
 placed xs at ys = cond (room xs at ys) (overwrite xs at ys) xs
 
--- the place behind what a writer wrote: the place itself where it wrote nothing
-unfoldable pub behind : List ℕ → ℕ → List ℕ → ℕ
-behind xs at ys = cond (room xs at ys) (at + length ys) at
+-- the place after what a writer wrote; the place itself if it wrote nothing
+unfoldable pub placeAfter : List ℕ → ℕ → List ℕ → ℕ
+placeAfter xs at ys = cond (room xs at ys) (at + length ys) at

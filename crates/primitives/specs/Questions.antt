@@ -2,12 +2,12 @@
 use Prim.Native.Nat.{ℕ, zero, suc}
 use mathlib.Core.Bool.{Bool, true, false}
 
--- a question: the next ones where the answer is yes, and else its number
+-- a question: if the answer is yes, the questions after it decide; else its number is given
 unfoldable pub ask : Bool → ℕ → ℕ → ℕ
 ask true n rest = rest
 ask false n rest = n
 
--- the first of two where the number is 0, that is where no question got a no, and else the second
+-- the first of two if the number is 0, that is if no question was answered no; else the second
 unfoldable pub ifZero {ℓ} : {X : Type ℓ} → ℕ → X → X → X
 ifZero zero x y = x
 ifZero (suc n) x y = y

@@ -6,7 +6,7 @@ use lib.ListN.{length, getD, replicate}
 use Rattle.primitives.specs.Number.{bytesOf}
 use Rattle.primitives.specs.declared.hash.HashValue.{HashValue}
 
--- ---- 2.2.2, 3.1 and 3.2: words of 32 bits, whose bytes stand the highest first (`bytesOf`), and operations on them
+-- ---- 2.2.2, 3.1 and 3.2: words of 32 bits, the highest byte first (`bytesOf`), and operations on them
 
 -- addition modulo 2^32
 infixl 65 _⊞_
@@ -60,7 +60,7 @@ K =
 
 -- ---- 5.1.1: padding, in bytes
 
--- the least z with n + 1 + z equal to 56 modulo 64: how many zero bytes stand between the byte 0x80 and the length
+-- the least z with n + 1 + z equal to 56 modulo 64: the number of zero bytes between the byte 0x80 and the length
 abbrev pub zeros : ℕ → ℕ
 zeros n = (119 - n % 64) % 64
 

@@ -1,4 +1,4 @@
-// AES-256 encryption (FIPS 197). The block is worked on as four columns of four bytes.
+// AES-256 encryption (FIPS 197). A block is handled as four columns of four bytes.
 ghost use mathlib.Core.Path.{_≡_};
 ghost use Prim.Native.Nat.{_<_};
 ghost use Rattle.primitives.specs.Field.{xtime};
@@ -24,7 +24,7 @@ const SBOX: [u8; 256] = *b"\
     \x8c\xa1\x89\x0d\xbf\xe6\x42\x68\x41\x99\x2d\x0f\xb0\x54\xbb\x16\
 ";
 
-// The table, made once for a call and lent from there on: an indexed constant is built anew on the stack at each evaluation.
+// The table, built once per call and then lent: an indexed constant is rebuilt on the stack at each evaluation.
 fn sbox() -> [u8; 256]
     ensures { λ r. ⌜ SBox r ⌝ }
 {
@@ -84,7 +84,7 @@ fn double(x: u8) -> u8
     ((x >> 7) * 0x1b) ^ (x << 1)
 }
 
-// One byte of a mixed column, from the bytes of the column in turn.
+// One byte of a mixed column, from the bytes of the column, its own row first.
 fn mix_byte(a: u8, b: u8, c: u8, d: u8) -> u8
     ensures { λ r. ⌜ r ≡ mixByte a b c d ⌝ }
 {
@@ -134,7 +134,7 @@ fn add_round_key(s: [[u8; 4]; 4], k: [[u8; 4]; 4]) -> [[u8; 4]; 4]
     ]
 }
 
-// The round constants from 1 on; the entry at 0 is not used. Eight bytes that are read seven times for a key, so this table is indexed and not lent.
+// The round constants from 1 on; entry 0 is not used. Eight bytes that are read seven times per key, so this table is indexed and not lent.
 const RCON: [u8; 8] = [1, 1, 2, 4, 8, 16, 32, 64];
 
 fn round_constant(j: usize) -> u8
@@ -262,7 +262,7 @@ fn start(w: &[[u8; 4]; 60], block: [u8; 16]) -> [[u8; 4]; 4]
     add_round_key(load_block(block), round_key(w, 0))
 }
 
-// The rounds 1 to 13.
+// Rounds 1 to 13.
 fn rounds(t: &[u8; 256], w: &[[u8; 4]; 60], first: [[u8; 4]; 4]) -> [[u8; 4]; 4]
     requires { ⌜ SBox (now t) ⌝ }
     ensures { λ r. ⌜ r ≡ roundsOf (now (w .entry)) first 13 ⌝ }
@@ -278,7 +278,7 @@ fn rounds(t: &[u8; 256], w: &[[u8; 4]; 60], first: [[u8; 4]; 4]) -> [[u8; 4]; 4]
     s
 }
 
-// One block under a schedule. Any 60 words are taken as one.
+// Encrypts one block under a key schedule. Any 60 words are accepted as a schedule.
 pub fn encrypt_block(schedule: &[[u8; 4]; 60], block: [u8; 16]) -> [u8; 16]
     ensures { λ r. ⌜ r ≡ cipher (now (schedule .entry)) block ⌝ }
 {
@@ -287,7 +287,7 @@ pub fn encrypt_block(schedule: &[[u8; 4]; 60], block: [u8; 16]) -> [u8; 16]
     store_block(last_round(&t, schedule, s))
 }
 
-// One block under a key.
+// Encrypts one block under a key.
 pub fn aes256(key: [u8; 32], block: [u8; 16]) -> [u8; 16]
     ensures { λ r. ⌜ r ≡ aes256 key block ⌝ }
 {

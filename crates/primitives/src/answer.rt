@@ -1,4 +1,4 @@
-// What a call that writes a text answers: 0 and the text's length, or the number of the question and 0.
+// The answer of a call that writes a text: 0 and the text's length, or the number of the question answered "no" and 0.
 pub struct Answer {
     pub number: u32,
     pub length: usize,

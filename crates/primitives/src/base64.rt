@@ -1,9 +1,9 @@
-// RFC 4648: BASE64 with padding and BASE64-URL without, written into and read from a part of a buffer.
+// RFC 4648: BASE64 with padding and BASE64-URL without. Writer and reader put their result at a place in a buffer.
 ghost use mathlib.Core.Path.{_≡_};
 ghost use Prim.Native.Nat.{_+_, _<_, _≤_};
 ghost use mathlib.Core.List.{[], _∷_, _++_};
 ghost use lib.ListN.{length, take};
-ghost use Rattle.primitives.specs.Place.{overwrite, placed, behind};
+ghost use Rattle.primitives.specs.Place.{overwrite, placed, placeAfter};
 ghost use Rattle.primitives.specs.Base64.{LetterTable, DigitTable, quad, fromBytes, fromDigits, digit, triple, letters, paddingCount, encoding, encodedLength, bytes, known, ended, unmarked, letterCount, whole, accepted, decodeAnswer, decodeBuffer};
 use crate::buffer::has_room;
 
@@ -13,7 +13,7 @@ pub enum Alphabet {
     UrlSafe,
 }
 
-// What reading a text gives: the place behind the bytes, or why nothing was written.
+// The result of reading a text: the place after the bytes, or why nothing was written.
 pub enum Decoded {
     Upto(usize),
     Refused,
@@ -74,8 +74,8 @@ const URL_SAFE_DIGITS: [u8; 256] = *b"\
     \x40\x40\x40\x40\x40\x40\x40\x40\x40\x40\x40\x40\x40\x40\x40\x40\
 ";
 
-// The table of an alphabet is made once a call and lent from there on: an indexed constant is built anew on the stack at each evaluation.
-// The alphabet goes with its table; the contracts name it, and the code does not ask it again.
+// The table of an alphabet is built once per call and then lent: an indexed constant is rebuilt on the stack at each evaluation.
+// The alphabet is passed with its table because the contracts name it; the code does not look at it again.
 fn letter_table(alphabet: Alphabet) -> [u8; 64]
     ensures { λ r. ⌜ LetterTable alphabet r ⌝ }
 {
@@ -94,7 +94,7 @@ fn digit_table(alphabet: Alphabet) -> [u8; 256]
     }
 }
 
-// Writes the first n of four bytes; the place behind them.
+// Writes the first n of four bytes; returns the place after them.
 fn put(out: &mut [u8], at: usize, q: [u8; 4], n: usize) -> usize
     requires { ⌜ (n ≤ 4) × (at + n ≤ length (now out)) ⌝ }
     ensures { λ r. ⌜ (r ≡ at + n) × (now (out .exit) ≡ overwrite (now (out .entry)) at (take n q)) ⌝ }
@@ -123,7 +123,7 @@ fn quad_of(alphabet: Alphabet, table: &[u8; 64], x: u8, y: u8, z: u8) -> [u8; 4]
     ]
 }
 
-// Writes the letters of `s`, without padding; the place behind them.
+// Writes the letters of `s`, without padding; returns the place after them.
 fn put_letters(alphabet: Alphabet, table: &[u8; 64], s: &[u8], out: &mut [u8], at: usize) -> usize
     requires { ⌜ LetterTable alphabet (now table) × (at + length (letters alphabet (now s)) ≤ length (now out)) ⌝ }
     ensures { λ r. let text : _ = letters alphabet (now (s .entry)) in
@@ -147,7 +147,7 @@ fn put_letters(alphabet: Alphabet, table: &[u8; 64], s: &[u8], out: &mut [u8], a
     o
 }
 
-// How many '=' follow the letters of n bytes.
+// The number of '=' after the letters of n bytes.
 fn padding_count(alphabet: Alphabet, n: usize) -> usize
     ensures { λ r. ⌜ r ≡ paddingCount alphabet n ⌝ }
 {
@@ -157,7 +157,7 @@ fn padding_count(alphabet: Alphabet, n: usize) -> usize
     }
 }
 
-// The length of the text of `s`. No product is too large, since a slice has fewer than 2^63 bytes; four times the length would be.
+// The length of the text of `s`. A slice has fewer than 2^63 bytes, so no product overflows; four times the length could.
 pub fn base64_length(alphabet: Alphabet, s: &[u8]) -> usize
     ensures { λ r. ⌜ r ≡ encodedLength alphabet (length (now (s .entry))) ⌝ }
 {
@@ -168,10 +168,10 @@ pub fn base64_length(alphabet: Alphabet, s: &[u8]) -> usize
     }
 }
 
-// Writes the text of `s` at a place, or nothing where there is no room for all of it; the place behind what was written.
+// Writes the text of `s` at a place, or nothing if there is no room for all of it; returns the place after what was written.
 pub fn base64_encode(alphabet: Alphabet, s: &[u8], out: &mut [u8], at: usize) -> usize
     ensures { λ r. let text : _ = encoding alphabet (now (s .entry)) in
-        ⌜ (r ≡ behind (now (out .entry)) at text) × (now (out .exit) ≡ placed (now (out .entry)) at text) ⌝ }
+        ⌜ (r ≡ placeAfter (now (out .entry)) at text) × (now (out .exit) ≡ placed (now (out .entry)) at text) ⌝ }
 {
     if !has_room(out.len(), at, base64_length(alphabet, s)) {
         return at;
@@ -208,7 +208,7 @@ fn bytes_of(g: u32) -> [u8; 4]
     ]
 }
 
-// Writes the bytes of a text of letters; the place behind them. An 'A', which is 0, stands for a letter that is missing at the end.
+// Writes the bytes of a text of letters; returns the place after them. An 'A', which is 0, replaces each letter missing at the end.
 fn put_bytes(alphabet: Alphabet, table: &[u8; 256], s: &[u8], out: &mut [u8], at: usize) -> usize
     requires { ⌜ DigitTable alphabet (now table) × (at + length (bytes alphabet (now s)) ≤ length (now out)) ⌝ }
     ensures { λ r. let read : _ = bytes alphabet (now (s .entry)) in
@@ -232,7 +232,7 @@ fn put_bytes(alphabet: Alphabet, table: &[u8; 256], s: &[u8], out: &mut [u8], at
     o
 }
 
-// Four bytes are letters.
+// All four bytes are letters.
 fn four_known(alphabet: Alphabet, table: &[u8; 256], w: u8, x: u8, y: u8, z: u8) -> bool
     requires { ⌜ DigitTable alphabet (now table) ⌝ }
     ensures { λ r. ⌜ r ≡ known alphabet (w ∷ x ∷ y ∷ z ∷ []) ⌝ }
@@ -249,7 +249,7 @@ fn four_known(alphabet: Alphabet, table: &[u8; 256], w: u8, x: u8, y: u8, z: u8)
     table[z as usize] <= 63
 }
 
-// Every byte is a letter, asked one by one.
+// Every byte is a letter, tested one by one.
 fn each_known(alphabet: Alphabet, table: &[u8; 256], s: &[u8]) -> bool
     requires { ⌜ DigitTable alphabet (now table) ⌝ }
     ensures { λ r. ⌜ r ≡ known alphabet (now (s .entry)) ⌝ }
@@ -265,7 +265,7 @@ fn each_known(alphabet: Alphabet, table: &[u8; 256], s: &[u8]) -> bool
     true
 }
 
-// Every byte is a letter: by fours, and then those that are left.
+// Every byte is a letter: tested in fours, then those that are left.
 fn all_known(alphabet: Alphabet, table: &[u8; 256], s: &[u8]) -> bool
     requires { ⌜ DigitTable alphabet (now table) ⌝ }
     ensures { λ r. ⌜ r ≡ known alphabet (now (s .entry)) ⌝ }
@@ -311,7 +311,7 @@ fn without_mark(s: &[u8], n: usize) -> usize
     if s[n - 1] == b'=' { n - 1 } else { n }
 }
 
-// How many letters stand before the padding.
+// The number of letters before the padding.
 fn count_letters(alphabet: Alphabet, s: &[u8]) -> usize
     ensures { λ r. ⌜ (r ≡ letterCount alphabet (now (s .entry))) × (r ≤ length (now (s .entry))) ⌝ }
 {
@@ -321,7 +321,7 @@ fn count_letters(alphabet: Alphabet, s: &[u8]) -> usize
     }
 }
 
-// A padded text is made of groups of four.
+// A padded text consists of groups of four.
 fn is_whole(alphabet: Alphabet, n: usize) -> bool
     ensures { λ r. ⌜ r ≡ whole alphabet n ⌝ }
 {
@@ -331,7 +331,7 @@ fn is_whole(alphabet: Alphabet, n: usize) -> bool
     }
 }
 
-// The text s, with n letters before its padding, stands for bytes.
+// The text `s`, with n letters before its padding, encodes bytes.
 fn is_text(alphabet: Alphabet, table: &[u8; 256], s: &[u8], n: usize) -> bool
     requires { ⌜ DigitTable alphabet (now table) × (n ≡ letterCount alphabet (now s)) × (n ≤ length (now s)) ⌝ }
     ensures { λ r. ⌜ r ≡ accepted alphabet (now (s .entry)) ⌝ }
@@ -346,8 +346,8 @@ fn is_text(alphabet: Alphabet, table: &[u8; 256], s: &[u8], n: usize) -> bool
     all_known(alphabet, table, letters)
 }
 
-// Strict reader: writes the bytes that the text stands for at a place.
-// Refused (wrong padding, foreign letter, unused bits not zero) or no room: the buffer stays as it was.
+// Strict reader: writes the bytes of a text at a place.
+// If the text is refused (wrong padding, foreign letter, unused bits not zero) or there is no room, the buffer is unchanged.
 pub fn base64_decode(alphabet: Alphabet, s: &[u8], out: &mut [u8], at: usize) -> Decoded
     ensures { λ r. let text : _ = now (s .entry) in
         ⌜ (r ≡ decodeAnswer alphabet text (now (out .entry)) at) × (now (out .exit) ≡ decodeBuffer alphabet text (now (out .entry)) at) ⌝ }

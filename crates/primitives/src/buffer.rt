@@ -1,13 +1,13 @@
-// Bytes and numbers at a place of a buffer.
+// Bytes and numbers at a place in a buffer.
 ghost use mathlib.Core.Path.{_≡_};
 ghost use Prim.Native.Nat.{_+_, _≤_};
 ghost use lib.Dec.{leb};
 ghost use lib.ListN.{length};
-ghost use Rattle.primitives.specs.Place.{overwrite, placed, behind};
+ghost use Rattle.primitives.specs.Place.{overwrite, placed, placeAfter};
 ghost use Rattle.primitives.specs.Bytes.{same};
 ghost use Rattle.primitives.specs.Number.{bytesOf, numberAt};
 
-// There is room for n bytes from a place on, in a buffer of this length; asked without a sum.
+// A buffer of this length has room for n bytes from a place on; computed without a sum, which could overflow.
 pub fn has_room(len: usize, at: usize, n: usize) -> bool
     ensures { λ r. ⌜ r ≡ leb (at + n) len ⌝ }
 {
@@ -17,9 +17,9 @@ pub fn has_room(len: usize, at: usize, n: usize) -> bool
     n <= len - at
 }
 
-// Copies all of `s` to a place, or nothing where there is no room; the place behind what was written.
+// Copies all of `s` to a place, or nothing if there is no room; returns the place after what was written.
 pub fn put(out: &mut [u8], at: usize, s: &[u8]) -> usize
-    ensures { λ r. ⌜ (r ≡ behind (now (out .entry)) at (now (s .entry))) × (now (out .exit) ≡ placed (now (out .entry)) at (now (s .entry))) ⌝ }
+    ensures { λ r. ⌜ (r ≡ placeAfter (now (out .entry)) at (now (s .entry))) × (now (out .exit) ≡ placed (now (out .entry)) at (now (s .entry))) ⌝ }
 {
     if !has_room(out.len(), at, s.len()) {
         return at;
@@ -32,7 +32,7 @@ pub fn put(out: &mut [u8], at: usize, s: &[u8]) -> usize
     at + s.len()
 }
 
-// The n low bytes of a number, the highest first, at a place.
+// Writes the n low bytes of a number at a place, the highest first.
 pub(crate) fn put_be(out: &mut [u8], at: usize, n: usize, x: u64)
     requires { ⌜ at + n ≤ length (now out) ⌝ }
     ensures { λ _. ⌜ now (out .exit) ≡ overwrite (now (out .entry)) at (bytesOf n x) ⌝ }
@@ -46,9 +46,9 @@ pub(crate) fn put_be(out: &mut [u8], at: usize, n: usize, x: u64)
     }
 }
 
-// The same, or nothing where there is no room; the place behind what was written.
+// The same, or nothing if there is no room; returns the place after what was written.
 pub fn put_number(out: &mut [u8], at: usize, n: usize, x: u64) -> usize
-    ensures { λ r. ⌜ (r ≡ behind (now (out .entry)) at (bytesOf n x)) × (now (out .exit) ≡ placed (now (out .entry)) at (bytesOf n x)) ⌝ }
+    ensures { λ r. ⌜ (r ≡ placeAfter (now (out .entry)) at (bytesOf n x)) × (now (out .exit) ≡ placed (now (out .entry)) at (bytesOf n x)) ⌝ }
 {
     if !has_room(out.len(), at, n) {
         return at;
@@ -57,13 +57,13 @@ pub fn put_number(out: &mut [u8], at: usize, n: usize, x: u64) -> usize
     at + n
 }
 
-// A number that may not be there.
+// A number that may be missing.
 pub enum Number {
     Is(u64),
     Missing,
 }
 
-// The number of the n bytes at a place, the highest first: missing where n is above 8, or not all of the bytes are there.
+// The number in the n bytes at a place, the highest first; missing if n is above 8 or the slice ends before the last of them.
 pub fn number_at(s: &[u8], at: usize, n: usize) -> Number
     ensures { λ r. ⌜ r ≡ numberAt (now (s .entry)) at n ⌝ }
 {

@@ -1,4 +1,4 @@
-// The counter: a signed number as bytes, exclusive or with a key stream, and a sum that is checked.
+// The counter: a signed number as bytes, exclusive or with a key stream, and a checked sum.
 ghost use mathlib.Core.Path.{_≡_};
 ghost use mathlib.Core.Bool.{true};
 ghost use Prim.Native.Nat.{_<_, _≤_, _^_};
@@ -22,14 +22,14 @@ pub fn width_good(n: usize) -> bool
     n <= 8
 }
 
-// k, of k and of -(k + 1): the numbers of n bytes are those whose fold is below half of 256^n.
+// Maps both k and -(k + 1) to k. A number is in the range of n bytes exactly when this is below half of 256^n.
 fn folded(z: i64) -> u64
     ensures { λ r. ⌜ r ≡ mag z ⌝ }
 {
     if z < 0 { (!z) as u64 } else { z as u64 }
 }
 
-// A number without its sign.
+// The absolute value.
 pub fn absolute(z: i64) -> u64
     ensures { λ r. ⌜ r ≡ natAbs z ⌝ }
 {
@@ -45,7 +45,7 @@ fn bits_of(z: i64) -> u64
     if z < 0 { !m } else { m }
 }
 
-// Half of the 256^n numbers of n bytes.
+// Half of 256^n.
 fn half_of(n: usize) -> u64
     requires { ⌜ (0 < n) × (n ≤ 8) ⌝ }
     ensures { λ r. ⌜ r ≡ half n ⌝ }
@@ -53,7 +53,7 @@ fn half_of(n: usize) -> u64
     1 << (8 * n - 1)
 }
 
-// The number is in the range of n bytes, and n is a width.
+// n is a valid width, and the number is in the range of n bytes.
 pub fn counter_fits(n: usize, z: i64) -> bool
     ensures { λ r. ⌜ r ≡ counterFits n z ⌝ }
 {
@@ -64,8 +64,8 @@ pub fn counter_fits(n: usize, z: i64) -> bool
     m < half_of(n)
 }
 
-// The n bytes of a number, big-endian two's complement, and zeros after them up to eight.
-// Eight zeros come out for a number that does not fit into n bytes, and for an n that is no width (below 5 or above 8); `counter_fits` asks for both.
+// The n bytes of a number in big-endian two's complement, then zeros up to eight bytes.
+// Eight zeros if the number does not fit n bytes, or if n is not a valid width (5 to 8); `counter_fits` tests both.
 pub fn counter_bytes(n: usize, z: i64) -> [u8; 8]
     ensures { λ r. ⌜ r ≡ counterBytes n z ⌝ }
 {
@@ -78,7 +78,7 @@ pub fn counter_bytes(n: usize, z: i64) -> [u8; 8]
     b
 }
 
-// What n bytes of the number v stand for.
+// The signed value of n bytes whose unsigned value is v.
 fn signed(n: usize, v: u64) -> i64
     requires { ⌜ (0 < n) × ((n ≤ 8) × (v < 256 ^ n)) ⌝ }
     ensures { λ r. ⌜ r ≡ ofTwos n v ⌝ }
@@ -90,7 +90,7 @@ fn signed(n: usize, v: u64) -> i64
     !((h - 1 - (v - h)) as i64)
 }
 
-// What the first n of eight bytes stand for.
+// The signed value of the first n of eight bytes.
 fn first_value(n: usize, s: &[u8]) -> i64
     requires { ⌜ (widthGood n ≡ true) × (length (now s) ≡ 8) ⌝ }
     ensures { λ r. ⌜ r ≡ counterValue n (now (s .entry)) ⌝ }
@@ -101,7 +101,7 @@ fn first_value(n: usize, s: &[u8]) -> i64
     }
 }
 
-// What the first n bytes stand for. 0 comes out for an n that is no width; any n bytes of a width stand for a number that fits.
+// The signed value of the first n bytes; 0 if n is not a valid width. With a valid width, any n bytes give a number that fits.
 pub fn counter_value(n: usize, b: [u8; 8]) -> i64
     ensures { λ r. ⌜ r ≡ counterValue n b ⌝ }
 {
@@ -111,9 +111,9 @@ pub fn counter_value(n: usize, b: [u8; 8]) -> i64
     first_value(n, &b)
 }
 
-// The first n bytes combined by exclusive or with those of the key stream, the bytes after them as they are.
-// n need not be a width: no byte is combined where n is 0, all eight are where n is above 8.
-// Of the eight zeros that stand for a number that does not fit, the first n bytes of the key stream itself come out.
+// Combines the first n bytes with those of the key stream by exclusive or; the bytes after them stay as they are.
+// n need not be a valid width: 0 combines no byte, and any n above 8 combines all eight.
+// Eight zeros, which stand for a number that does not fit, give the first n bytes of the key stream itself.
 pub fn xor_first(n: usize, b: [u8; 8], stream: [u8; 16]) -> [u8; 8]
     ensures { λ r. ⌜ r ≡ xorFirst n b stream ⌝ }
 {
@@ -135,7 +135,7 @@ pub enum Sum {
     Over,
 }
 
-// The sum, where it is in the range of 64 bits.
+// The sum, if it is in the range of 64 bits.
 pub fn checked_add(a: i64, b: i64) -> Sum
     ensures { λ r. ⌜ r ≡ checkedSum a b ⌝ }
 {

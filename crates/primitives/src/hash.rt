@@ -202,7 +202,7 @@ fn round(v: HashValue, k: u32, w: u32) -> HashValue
     }
 }
 
-// Round t, with its constant and its word read.
+// Round t: reads its constant and its word of the schedule.
 fn round_at(v: HashValue, w: &[u32; 64], k: &[u32; 64], t: usize) -> HashValue
     requires { ⌜ (now k ≡ S.K) × (t < 64) ⌝ }
     ensures { λ r. ⌜ r ≡ S.rounds v (now (w .entry)) t 1 ⌝ }
@@ -241,7 +241,7 @@ fn rounds(v: HashValue, w: &[u32; 64], k: &[u32; 64]) -> HashValue
     u
 }
 
-// Word by word, the sums of two hash values (6.2.2, step 4).
+// The sums of two hash values, word by word (6.2.2, step 4).
 fn sums(v: HashValue, s: HashValue) -> HashValue
     ensures { λ r. ⌜ r ≡ S.sums v s ⌝ }
 {
@@ -296,7 +296,7 @@ fn initial() -> HashValue
     }
 }
 
-// What is left of m from byte k on, and zeros behind it.
+// The rest of m from byte k on, then zeros.
 fn rest(m: &[u8], k: usize) -> [u8; 128]
     requires { ⌜ (k ≤ length (now m)) × (length (now m) < k + 64) ⌝ }
     ensures { λ r. ⌜ r ≡ drop k (now (m .entry)) ++ replicate (128 - (length (now (m .entry)) - k)) 0 ⌝ }
@@ -345,14 +345,14 @@ fn digest(s: HashValue) -> [u8; 32]
     d
 }
 
-// The round constants, made once for a call and lent to the rounds: an indexed constant is built anew on the stack at each evaluation.
+// The round constants, built once per call and lent to the rounds: an indexed constant is rebuilt on the stack at each evaluation.
 fn constants() -> [u32; 64]
     ensures { λ r. ⌜ r ≡ S.K ⌝ }
 {
     K
 }
 
-// The message digest of m: its whole blocks, and then the one or two that padding ends.
+// The message digest of m: over its whole blocks, then over the one or two blocks that end with the padding.
 pub fn sha256(m: &[u8]) -> [u8; 32]
     ensures { λ r. ⌜ r ≡ S.sha256 (now (m .entry)) ⌝ }
 {

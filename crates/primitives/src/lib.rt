@@ -1,4 +1,4 @@
-// The primitives of the receipt journal: SHA-256, AES-256, BASE64, counter bytes, and writing at a place of a buffer.
+// The primitives of the receipt journal: SHA-256, AES-256, BASE64, counter bytes, and writing at a place in a buffer.
 mod aes;
 mod answer;
 mod base64;

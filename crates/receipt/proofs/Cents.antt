@@ -91,7 +91,7 @@ first-cents m rest q =
     first-digits (m / 100) ((44 ∷ []) ++ (fixed 2 m ++ (95 ∷ rest)))
     (ap (λ (l : List ℕ). getD l 0 0) (sym (append-assoc (digits (m / 100)) (44 ∷ []) (fixed 2 m ++ (95 ∷ rest))) ∙ sym (append-assoc (digits (m / 100) ++ (44 ∷ [])) (fixed 2 m) (95 ∷ rest))) ∙ q)
 
--- what is spelled is read, whatever stands behind its '_'
+-- what is spelled is read back, whatever follows its '_'
 pub read-amount : (z : ℤ) (rest : List ℕ) → withinLimit z ≡ true → readAmount (amount z ++ (95 ∷ rest)) ≡ z
 unfolding readAmount amount valueOf
 read-amount (pos m) rest e =

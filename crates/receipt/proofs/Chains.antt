@@ -10,12 +10,12 @@ use lib.Seq.{length-take-le, drop-append-seam}
 use mir.Syntax.{w64}
 use mir.Val.{SFits, toZ, ofZ}
 use mir.Facts.{toZ-ofZ}
-use Rattle.primitives.specs.Place.{overwrite, placed, behind}
+use Rattle.primitives.specs.Place.{overwrite, placed, placeAfter}
 use Rattle.primitives.specs.Bytes.{AllBytes}
 use Rattle.primitives.specs.Sha256.{sha256}
 use Rattle.primitives.specs.Counter.{counterFits, counterBytes, counterValue, xorFirst}
 use Rattle.primitives.proofs.ByteLists.{bytes-take}
-use Rattle.primitives.proofs.Over.{placed-room, behind-room, length-over, read-over, then}
+use Rattle.primitives.proofs.Over.{placed-room, after-room, length-over, read-over, then}
 use Rattle.primitives.proofs.Digest.{length-sha256, bytes-sha256}
 use Rattle.primitives.proofs.Cipher.{AllWords, length-cipher, cipher-bytes}
 use Rattle.primitives.proofs.Twos.{counterBytes-none, length-counterBytes, bytes-counterBytes, counter-back}
@@ -24,7 +24,7 @@ use Rattle.receipt.specs.Decimal.{digits}
 use Rattle.receipt.specs.Settings.{nameText}
 use Rattle.receipt.specs.Chain.{chainValue, hashInput, iv, keyStream, encryptedCounter, NothingToEncrypt, decryptedCounter, DecryptionUndoesEncryption, OneHashInput}
 use Rattle.receipt.specs.declared.settings.Name.{Name}
-use Rattle.receipt.proofs.Missing.{filled, behind-counter, behind-xorFirst}
+use Rattle.receipt.proofs.Missing.{filled, after-counter, after-xorFirst}
 use Rattle.receipt.proofs.Digits.{length-digits, width-short, digits-same}
 use Rattle.receipt.proofs.Names.{text-short, take-lesser}
 
@@ -50,7 +50,7 @@ unfolding hashInput
 input-short id number l k = omega (arith, length-append (nameText id) (digits number), text-short id l, number-short number k)
 
 module _ (id : Name) (number : ℕ) (out : List ℕ) {n p : ℕ} {out₁ : List ℕ} (l : length (id .bytes) ≡ 32) (k : number < 2 ^ 32)
-    (room : 42 ≤ length out) (e : n ≡ min (id .len) 32) (q : p ≡ behind out 0 (take (n - 0) (id .bytes)))
+    (room : 42 ≤ length out) (e : n ≡ min (id .len) 32) (q : p ≡ placeAfter out 0 (take (n - 0) (id .bytes)))
     (w : out₁ ≡ placed out 0 (take (n - 0) (id .bytes))) where
   -- what is copied is the name's text
   copied : take (n - 0) (id .bytes) ≡ nameText id
@@ -61,7 +61,7 @@ module _ (id : Name) (number : ℕ) (out : List ℕ) {n p : ℕ} {out₁ : List 
   fits = omega (arith, text-short id l)
 
   place : p ≡ 0 + length (nameText id)
-  place = q ∙ ap (behind out 0) copied ∙ behind-room out 0 (nameText id) fits
+  place = q ∙ ap (placeAfter out 0) copied ∙ after-room out 0 (nameText id) fits
 
   written : out₁ ≡ overwrite out 0 (nameText id)
   written = w ∙ ap (placed out 0) copied ∙ placed-room out 0 (nameText id) fits
@@ -129,17 +129,17 @@ module _ (schedule : List (List ℕ)) (id : Name) (number n : ℕ) where
     unfolding encryptedCounter keyStream
     bytes-encrypted w = bytes-xorFirst n (bytes-counterBytes n z) (cipher-bytes (iv id number) w)
 
-    -- zeros behind the n bytes
-    pub behind-encrypted : drop n (encryptedCounter schedule id number n z) ≡ replicate (8 - n) 0
+    -- zeros after the n bytes
+    pub after-encrypted : drop n (encryptedCounter schedule id number n z) ≡ replicate (8 - n) 0
     unfolding encryptedCounter
-    behind-encrypted = behind-xorFirst n (counterBytes n z) (keyStream schedule id number) (long-enough z) ∙ behind-counter n z
+    after-encrypted = after-xorFirst n (counterBytes n z) (keyStream schedule id number) (long-enough z) ∙ after-counter n z
 
     -- what was encrypted is decrypted
     pub decrypt-back : counterFits n z ≡ true → decryptedCounter schedule id number n (encryptedCounter schedule id number n z) ≡ z
     unfolding encryptedCounter decryptedCounter
     decrypt-back e = ap (counterValue n) (xorFirst-back n (counterBytes n z) (keyStream schedule id number) (long-enough z)) ∙ counter-back n z e
 
--- ---- a counter that has no n bytes
+-- ---- a counter that does not fit n bytes
 
 pub nothing-to-encrypt : NothingToEncrypt
 unfolding encryptedCounter

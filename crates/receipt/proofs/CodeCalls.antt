@@ -10,10 +10,10 @@ use borrow.Author.Tests.{lt-ltb, le-ltb, leb-true, leb-false}
 use lib.Dec.{ltb, leb}
 use lib.ListN.{length, take, drop, length-append}
 use lib.Seq.{length-take-le}
-use Rattle.primitives.specs.Place.{overwrite, placed, behind}
+use Rattle.primitives.specs.Place.{overwrite, placed, placeAfter}
 use Rattle.primitives.specs.Base64.{encoding, decoding}
 use Rattle.primitives.specs.declared.base64.Alphabet.the-variants.{Standard}
-use Rattle.primitives.proofs.Over.{placed-room, placed-full, behind-room, behind-full}
+use Rattle.primitives.proofs.Over.{placed-room, placed-full, after-room, after-full}
 use Rattle.primitives.proofs.Questions.{yes, no}
 use Rattle.primitives.specs.declared.answer.Answer.{Answer}
 use Rattle.receipt.specs.declared.machine_code.Part.{Part}
@@ -79,15 +79,15 @@ module _ (p s out : List ℕ) where
       let w₂ : out₂ ≡ overwrite out 0 (p ++ (95 ∷ [])) = put-next out p (95 ∷ []) 0 w₁ e₂ (omega arith) (omega arith) in
       put-next out (p ++ (95 ∷ [])) (encoding Standard s) 0 w₂ e₃ (omega arith) (omega arith)
 
--- a form is not empty, so the place behind it is 0 where it was not written at 0
-module _ (out text : List ℕ) (n : ℕ) (is : n ≡ behind out 0 text) where
+-- a form is not empty, so the place after it is 0 exactly if it was not written at 0
+module _ (out text : List ℕ) (n : ℕ) (is : n ≡ placeAfter out 0 text) where
   pub wrote-none : n ≡ 0 → 1 ≤ length text → record { number = 23; length = 0 } ≡ written out text
   wrote-none z h = go (leb (length text) (length out)) refl
     where
       go : (t : Bool) → leb (length text) (length out) ≡ t → record { number = 23; length = 0 } ≡ written out text
       go true q =
           let k : 0 + length text ≤ length out = omega (arith, leb-true (length text) (length out) q) in
-          absurd (omega (arith, is, behind-room out 0 text k))
+          absurd (omega (arith, is, after-room out 0 text k))
       go false q =
           let k : length out < 0 + length text = omega (arith, leb-false (length text) (length out) q) in
           sym (written-full out text (omega arith))
@@ -98,11 +98,11 @@ module _ (out text : List ℕ) (n : ℕ) (is : n ≡ behind out 0 text) where
       go : (t : Bool) → leb (length text) (length out) ≡ t → record { number = 0; length = n } ≡ written out text
       go true q =
           let k : 0 + length text ≤ length out = omega (arith, leb-true (length text) (length out) q) in
-          let m : n ≡ length text = omega (arith, is, behind-room out 0 text k) in
+          let m : n ≡ length text = omega (arith, is, after-room out 0 text k) in
           rw m (sym (written-room out text (omega arith)))
       go false q =
           let k : length out < 0 + length text = omega (arith, leb-false (length text) (length out) q) in
-          absurd (z (is ∙ behind-full out 0 text k))
+          absurd (z (is ∙ after-full out 0 text k))
 
 -- ---- the calls
 
@@ -134,7 +134,7 @@ module _ (code out sig : List ℕ) (r : Reading) (e : found (r .good) (take (r .
   uncode-refused t = let q : none ≡ partsOfCode code = found-none (r .good) (take (r .payload) code) (take (r .signature) sig) e t in (rw (sym q), rw (sym q))
 
   module _ {a : ℕ} {out′ : List ℕ} (t : not (r .good) ≡ false)
-      (h : (a ≡ behind out 0 (signedForm (parts (take (r .payload - 0) code) (take (r .signature - 0) sig)))) × (out′ ≡ placed out 0 (signedForm (parts (take (r .payload - 0) code) (take (r .signature - 0) sig))))) where
+      (h : (a ≡ placeAfter out 0 (signedForm (parts (take (r .payload - 0) code) (take (r .signature - 0) sig)))) × (out′ ≡ placed out 0 (signedForm (parts (take (r .payload - 0) code) (take (r .signature - 0) sig))))) where
     taken : some (parts (take (r .payload - 0) code) (take (r .signature - 0) sig)) ≡ partsOfCode code
     taken = rw (lent-front code (r .payload), lent-front sig (r .signature)) (found-some (r .good) (take (r .payload) code) (take (r .signature) sig) e t)
 
@@ -157,7 +157,7 @@ module _ (code out sig : List ℕ) (r : Reading) (e : found (r .good) (take (r .
 abbrev pub Placed : List ℕ → Part → Type 0
 Placed code x = (x ≡ idPlace code) × (x .start ≤ x .end) × (x .end ≤ length code)
 
--- nowhere is right where there is no field
+-- `nowhere` is right if there is no field
 none-placed : (code : List ℕ) {x : Part} → x ≡ nowhere → nowhere ≡ idPlace code → Placed code x
 none-placed code h k = rw (h) (k, omega arith, omega arith)
 

@@ -75,7 +75,7 @@ module _ (p : Parts) (g : partsGood p ≡ true) where
   pub good-signature : length (p .signature) ≤ 64
   good-signature = signature-most (p .signature) (both (payloadGood (p .payload)) (signatureGood (p .signature)) g .1)
 
--- ---- parts from two texts that may stand for nothing
+-- ---- parts from two texts that may be refused
 
 pub good-some : (p : Parts) → partsGood p ≡ true → goodParts (some (p .payload)) (some (p .signature)) ≡ some p
 unfolding goodParts

@@ -115,7 +115,7 @@ code-short = code-short-of
 
 -- ---- the calls: Uncode undoes Code, and Code undoes Uncode
 
--- a call that answers no number had parts, and its text fits
+-- a call that was not refused had parts, and its text fits
 record Took (o : Option Parts) (f : Parts → List ℕ) (out : List ℕ) : Type 0 where
   parts : Parts
   is : o ≡ some parts

@@ -1,4 +1,4 @@
--- The counter behind a receipt: the sum of its amounts, and what fits.
+-- The counter after a receipt: the sum of its amounts, and what fits.
 use Prim.Native.Nat.{ℕ, suc, _+_, _-_, _*_, _<_, _≤_}
 use mathlib.Core.Path.{_≡_, refl, sym, ap, _∙_, subst}
 use mathlib.Core.Bool.{Bool, true, false, cond, _&&_}
@@ -129,7 +129,7 @@ module _ (zs : List ℤ) (i : ℕ) where
   unfolding allZero
   zero-end h = ap allZero (drop-of-length-le zs h)
 
--- ---- the counter behind a receipt
+-- ---- the counter after a receipt
 
 pub counted-of : (d : Details) {k : Kind} → d .kind ≡ k → countedOf k (d .amounts) ≡ counted d
 unfolding counted

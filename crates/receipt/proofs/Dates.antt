@@ -35,7 +35,7 @@ put-date t b at room e₁ e₂ e₃ e₄ e₅ e₆ =
     let q₅ = then _ _ _ _ _ q₄ e₅ (simp (length-append, length-fixed, length-pair)) (simp (length-append, length-fixed, length-pair) (omega arith)) in
     then _ _ _ _ _ q₅ e₆ (simp (length-append, length-fixed, length-pair)) (simp (length-append, length-fixed, length-pair) (omega arith))
 
--- ---- reading, whatever stands behind
+-- ---- reading, whatever follows
 
 pub record Small (t : DateTime) : Type 0 where
   pub year : t .year < 10000

@@ -127,7 +127,7 @@ width-some n = go (ltb n 10) (widthUp 18 (n / 10))
     go true r = omega arith
     go false r = omega arith
 
--- and it has no more than its digits
+-- and it fits in that many digits
 widthUp-holds : (k n : ℕ) → n < 10 ^ suc k → n < 10 ^ widthUp k n
 unfolding widthUp
 widthUp-holds zero n h = h
@@ -190,7 +190,7 @@ from-onto (suc w) n rest h l =
     ∙ from-digit (n / 10) (n % 10) rest (omega arith) (omega arith)
     ∙ ap (λ (k : ℕ). valueFrom k rest) e
 
--- digits that were written are read, whatever stands behind them
+-- digits that were written are read back, whatever follows them
 pub from-digits : (n : ℕ) (rest : List ℕ) → n < readLimit → valueFrom 0 (digits n ++ rest) ≡ valueFrom n rest
 unfolding digits fixed
 from-digits n rest l =
@@ -200,7 +200,7 @@ pub value-digits : (n : ℕ) (rest : List ℕ) → n < readLimit → valueOf (di
 unfolding valueOf
 value-digits n rest l = from-digits n (95 ∷ rest) l ∙ from-mark n rest
 
--- digits begin with no '-', and have no '_'
+-- digits do not begin with '-', and contain no '_'
 first-onto : (w n : ℕ) (rest : List ℕ) → 1 ≤ w → getD (fixedOnto w n rest) 0 0 ≡ 45 → ⊥
 unfolding fixedOnto
 first-onto zero n rest h e = absurd (omega arith)

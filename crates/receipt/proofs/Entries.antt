@@ -98,13 +98,13 @@ module _ (s : Settings) (n : ℕ) (e : Entry) where
 -- ---- zeros
 
 module _ (n : ℕ) where
-  pub counter-behind : (counter : List ℕ) → length counter ≡ 8 → counterGood n Standard counter ≡ true → drop n counter ≡ replicate (8 - n) 0
+  pub counter-after : (counter : List ℕ) → length counter ≡ 8 → counterGood n Standard counter ≡ true → drop n counter ≡ replicate (8 - n) 0
   unfolding counterGood
-  counter-behind counter l g = zeros-are (drop n counter) g ∙ ap (λ (k : ℕ). replicate k 0) (length-drop n counter ∙ ap (λ (k : ℕ). k - n) l)
+  counter-after counter l g = zeros-are (drop n counter) g ∙ ap (λ (k : ℕ). replicate k 0) (length-drop n counter ∙ ap (λ (k : ℕ). k - n) l)
 
-  pub behind-counter : (counter : List ℕ) → drop n counter ≡ replicate (8 - n) 0 → counterGood n Standard counter ≡ true
+  pub after-counter : (counter : List ℕ) → drop n counter ≡ replicate (8 - n) 0 → counterGood n Standard counter ≡ true
   unfolding counterGood
-  behind-counter counter e = ap zeros e ∙ zeros-good (8 - n)
+  after-counter counter e = ap zeros e ∙ zeros-good (8 - n)
 
   pub counter-none : (kind : Kind) (counter : List ℕ) → standard kind ≡ false → length counter ≡ 8 → counterGood n kind counter ≡ true → counter ≡ replicate 8 0
   unfolding counterGood

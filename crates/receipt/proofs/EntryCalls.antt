@@ -9,10 +9,10 @@ use borrow.Author.Tests.{leb-true, leb-false, eq-eqb, ne-eqb}
 use lib.Dec.{leb}
 use lib.ListN.{length, take, replicate}
 use lib.Seq.{take-all, length-take-le}
-use Rattle.primitives.specs.Place.{overwrite, placed, behind}
+use Rattle.primitives.specs.Place.{overwrite, placed, placeAfter}
 use Rattle.primitives.specs.Bytes.{same}
 use Rattle.primitives.specs.Counter.{widthGood}
-use Rattle.primitives.proofs.Over.{over-nil, read-over, placed-room, placed-full, behind-room, behind-full}
+use Rattle.primitives.proofs.Over.{over-nil, read-over, placed-room, placed-full, after-room, after-full}
 use Rattle.receipt.specs.Settings.{every, sized, SettingsLengths}
 use Rattle.receipt.specs.Payload.{payload, fieldsGood}
 use Rattle.receipt.specs.PayloadReading.{readFields}
@@ -123,46 +123,46 @@ module _ (s : Settings) (n : ℕ) (f : PayloadFields) where
 -- ---- writing
 
 -- nothing is written
-empty : (out : List ℕ) (at : ℕ) → (at ≡ behind out at []) × (out ≡ placed out at [])
+empty : (out : List ℕ) (at : ℕ) → (at ≡ placeAfter out at []) × (out ≡ placed out at [])
 empty out at = go (leb at (length out)) refl
   where
-    go : (t : Bool) → leb at (length out) ≡ t → (at ≡ behind out at []) × (out ≡ placed out at [])
+    go : (t : Bool) → leb at (length out) ≡ t → (at ≡ placeAfter out at []) × (out ≡ placed out at [])
     go true q =
         let k : at + 0 ≤ length out = omega (arith, leb-true at (length out) q) in
-        (omega (arith, behind-room out at [] k), sym (placed-room out at [] k ∙ over-nil out at))
+        (omega (arith, after-room out at [] k), sym (placed-room out at [] k ∙ over-nil out at))
     go false q =
         let k : length out < at + 0 = omega (arith, leb-false at (length out) q) in
-        (sym (behind-full out at [] k), sym (placed-full out at [] k))
+        (sym (after-full out at [] k), sym (placed-full out at [] k))
 
 module _ (out : List ℕ) (at : ℕ) where
   -- by an entry that can't be spelled
   module _ (s : Settings) (n : ℕ) (e : Entry) where
-    unspelled : spellable s n e ≡ false → (at ≡ behind out at (spelled s n e)) × (out ≡ placed out at (spelled s n e))
+    unspelled : spellable s n e ≡ false → (at ≡ placeAfter out at (spelled s n e)) × (out ≡ placed out at (spelled s n e))
     unfolding spelled
     unspelled q = rw q (empty out at)
 
-    pub no-payload : preparable s n (e .fields) ≡ false → (at ≡ behind out at (spelled s n e)) × (out ≡ placed out at (spelled s n e))
+    pub no-payload : preparable s n (e .fields) ≡ false → (at ≡ placeAfter out at (spelled s n e)) × (out ≡ placed out at (spelled s n e))
     no-payload q = unspelled (spellable-is s n e ∙ ap (λ (t : Bool). t && signatureZero (e .signature)) q)
 
-    pub stray-bytes : signatureZero (e .signature) ≡ false → (at ≡ behind out at (spelled s n e)) × (out ≡ placed out at (spelled s n e))
+    pub stray-bytes : signatureZero (e .signature) ≡ false → (at ≡ placeAfter out at (spelled s n e)) × (out ≡ placed out at (spelled s n e))
     stray-bytes q = unspelled (spellable-is s n e ∙ ap (λ (t : Bool). preparable s n (e .fields) && t) q ∙ and-false (preparable s n (e .fields)))
 
     pub wrote-compact : {r : ℕ} {out₁ p : List ℕ} → preparable s n (e .fields) ≡ true → signatureZero (e .signature) ≡ true → p ≡ payload s n (e .fields)
-        → (r ≡ behind out at (signedForm (parts p (signatureText (e .signature))))) × (out₁ ≡ placed out at (signedForm (parts p (signatureText (e .signature)))))
-        → (r ≡ behind out at (spelled s n e)) × (out₁ ≡ placed out at (spelled s n e))
+        → (r ≡ placeAfter out at (signedForm (parts p (signatureText (e .signature))))) × (out₁ ≡ placed out at (signedForm (parts p (signatureText (e .signature)))))
+        → (r ≡ placeAfter out at (spelled s n e)) × (out₁ ≡ placed out at (spelled s n e))
     unfolding spelled compact
     wrote-compact {p = p} a b q h =
         let w : spellable s n e ≡ true = spellable-is s n e ∙ rw (a, b) in
         rw (w, sym q) h
 
   module _ (s : Settings) (n : ℕ) (f : PayloadFields) where
-    pub no-input : preparable s n f ≡ false → (at ≡ behind out at (prepared s n f)) × (out ≡ placed out at (prepared s n f))
+    pub no-input : preparable s n f ≡ false → (at ≡ placeAfter out at (prepared s n f)) × (out ≡ placed out at (prepared s n f))
     unfolding prepared
     no-input q = rw q (empty out at)
 
     pub wrote-input : {r : ℕ} {out₁ p : List ℕ} → preparable s n f ≡ true → p ≡ payload s n f
-        → (r ≡ behind out at (signedInput p)) × (out₁ ≡ placed out at (signedInput p))
-        → (r ≡ behind out at (prepared s n f)) × (out₁ ≡ placed out at (prepared s n f))
+        → (r ≡ placeAfter out at (signedInput p)) × (out₁ ≡ placed out at (signedInput p))
+        → (r ≡ placeAfter out at (prepared s n f)) × (out₁ ≡ placed out at (prepared s n f))
     unfolding prepared signingInput
     wrote-input a q h = rw (a, sym q) h
 
@@ -186,8 +186,8 @@ module _ (g : Signature) where
   text-failed e = rw e
 
 module _ (p out : List ℕ) (at : ℕ) {t u : List ℕ} (e : t ≡ u) {r : ℕ} {out₁ : List ℕ} where
-  pub signed-as : (r ≡ behind out at (signedForm (parts p t))) × (out₁ ≡ placed out at (signedForm (parts p t)))
-      → (r ≡ behind out at (signedForm (parts p u))) × (out₁ ≡ placed out at (signedForm (parts p u)))
+  pub signed-as : (r ≡ placeAfter out at (signedForm (parts p t))) × (out₁ ≡ placed out at (signedForm (parts p t)))
+      → (r ≡ placeAfter out at (signedForm (parts p u))) × (out₁ ≡ placed out at (signedForm (parts p u)))
   signed-as h = rw (sym e) h
 
 module _ (bytes : List ℕ) (m : ℕ) (long : length bytes ≡ 64) where

@@ -100,7 +100,7 @@ part-without b s from =
     let n : ℕ = from + firstAt b t - from in
     record { at = λ i h q. first-before b t i (omega (arith, length-take n t)) (sym (getD-take n t i 0 (omega (arith, length-take n t))) ∙ q) }
 
--- behind a front and a list without it, the next b is the one that follows
+-- after a front and a list without it, the next b is the one that follows
 pub next-without : (b : ℕ) (front xs ys : List ℕ) (from : ℕ) → length front ≡ from → Without b xs
     → nextAt b (front ++ (xs ++ (b ∷ ys))) from ≡ from + length xs
 unfolding nextAt
@@ -153,21 +153,21 @@ module _ (b : ℕ) (s : List ℕ) where
       go k true = omega arith
       go k false = k
 
--- behind the last b stands a list without it
+-- the last b is followed by a list without it
 module _ (b : ℕ) (xs ys : List ℕ) (w : Without b ys) where
   text : List ℕ
   text = xs ++ (b ∷ ys)
 
-  behind : (n : ℕ) → n ≤ length ys → lastBefore b text (suc (length xs + n)) ≡ length xs
+  after-last : (n : ℕ) → n ≤ length ys → lastBefore b text (suc (length xs + n)) ≡ length xs
   unfolding lastBefore text
-  behind zero h = rw (add-zero (length xs), getD-at xs b ys 0 (length xs) refl, eq-eqb b b refl)
-  behind (suc n) h =
+  after-last zero h = rw (add-zero (length xs), getD-at xs b ys 0 (length xs) refl, eq-eqb b b refl)
+  after-last (suc n) h =
       let e : length xs + suc n ≡ suc (length xs + n) = omega arith in
       let g : getD text (length xs + suc n) 0 ≡ getD ys n 0 = getD-append-add xs (b ∷ ys) (suc n) 0 in
-      rw (g, ne-eqb (getD ys n 0) b (w .at n (omega arith)), e) (behind n (omega arith))
+      rw (g, ne-eqb (getD ys n 0) b (w .at n (omega arith)), e) (after-last n (omega arith))
 
   pub last-without : lastAt b (xs ++ (b ∷ ys)) ≡ length xs
   unfolding lastAt text
   last-without =
       let e : length (xs ++ (b ∷ ys)) ≡ suc (length xs + length ys) = omega (arith, length-append xs (b ∷ ys)) in
-      rw e (behind (length ys) (omega arith))
+      rw e (after-last (length ys) (omega arith))

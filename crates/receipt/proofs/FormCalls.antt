@@ -9,13 +9,13 @@ use borrow.Author.Tests.{lt-ltb, le-ltb, leb-true, leb-false, not-true, not-fals
 use lib.Dec.{leb}
 use lib.ListN.{length, take, drop, length-append, length-drop}
 use lib.Seq.{take-all}
-use Rattle.primitives.specs.Place.{overwrite, placed, room, behind}
+use Rattle.primitives.specs.Place.{overwrite, placed, room, placeAfter}
 use Rattle.primitives.specs.Bytes.{same}
 use Rattle.primitives.specs.Base64.{answerOf, bufferOf, encoding, decoding}
 use Rattle.primitives.specs.declared.base64.Decoded.the-variants.{Upto, Refused, NoRoom}
 use Rattle.primitives.specs.declared.base64.Alphabet.{Alphabet}
 use Rattle.primitives.specs.declared.base64.Alphabet.the-variants.{UrlSafe}
-use Rattle.primitives.proofs.Over.{placed-room, behind-room, room-true, room-false, length-placed, length-over, read-over, then}
+use Rattle.primitives.proofs.Over.{placed-room, after-room, room-true, room-false, length-placed, length-over, read-over, then}
 use Rattle.primitives.proofs.ByteLists.{same-length}
 use Rattle.primitives.proofs.Questions.{yes, no}
 use Rattle.primitives.proofs.Base64Lengths.{length-encoding}
@@ -156,7 +156,7 @@ module _ (g : Bool) (x y : List ℕ) {o : Option Parts} (e : found g x y ≡ o) 
 
 -- ---- writing
 
--- one more text behind what was written
+-- one more text after what was written
 pub put-next : (b ys zs : List ℕ) (at : ℕ) {at′ : ℕ} {b₁ b₂ : List ℕ} → b₁ ≡ overwrite b at ys → b₂ ≡ placed b₁ at′ zs → at′ ≡ at + length ys
     → at + length ys + length zs ≤ length b → b₂ ≡ overwrite b at (ys ++ zs)
 put-next b ys zs at {at′} {b₁} p q e h =
@@ -166,11 +166,11 @@ put-next b ys zs at {at′} {b₁} p q e h =
 -- "." and an element
 module _ (s out : List ℕ) where
   pub put-element : (at : ℕ) {r : ℕ} {out₁ out₂ : List ℕ} → at + length ((46 ∷ []) ++ encoding UrlSafe s) ≤ length out → out₁ ≡ placed out at (46 ∷ [])
-      → r ≡ behind out₁ (at + 1) (encoding UrlSafe s) → out₂ ≡ placed out₁ (at + 1) (encoding UrlSafe s)
+      → r ≡ placeAfter out₁ (at + 1) (encoding UrlSafe s) → out₂ ≡ placed out₁ (at + 1) (encoding UrlSafe s)
       → (r ≡ at + length ((46 ∷ []) ++ encoding UrlSafe s)) × (out₂ ≡ overwrite out at ((46 ∷ []) ++ encoding UrlSafe s))
   put-element at {r} {out₁} h e₁ f e₂ =
       let l : length out₁ ≡ length out = ap length e₁ ∙ length-placed out at (46 ∷ []) in
-      (f ∙ behind-room out₁ (at + 1) (encoding UrlSafe s) (omega arith) ∙ omega arith, put-next out (46 ∷ []) (encoding UrlSafe s) at (e₁ ∙ placed-room out at (46 ∷ []) (omega arith)) e₂ refl (omega arith))
+      (f ∙ after-room out₁ (at + 1) (encoding UrlSafe s) (omega arith) ∙ omega arith, put-next out (46 ∷ []) (encoding UrlSafe s) at (e₁ ∙ placed-room out at (46 ∷ []) (omega arith)) e₂ refl (omega arith))
 
 -- ---- writing a compact form
 
@@ -179,20 +179,20 @@ length-input p =
     omega (arith, length-append firstElement (encoding UrlSafe p), first-long, length-encoding UrlSafe p)
 
 module _ (p out : List ℕ) (at : ℕ) (h : at + (21 + (length p * 4 + 2) / 3) ≤ length out) {out₁ out₂ : List ℕ} {r : ℕ} where
-  pub put-signed-input : {f : List ℕ} → f ≡ firstElement → out₁ ≡ placed out at f → r ≡ behind out₁ (at + 21) (encoding UrlSafe p) → out₂ ≡ placed out₁ (at + 21) (encoding UrlSafe p)
-      → (r ≡ behind out at (signedInput p)) × (out₂ ≡ placed out at (signedInput p))
+  pub put-signed-input : {f : List ℕ} → f ≡ firstElement → out₁ ≡ placed out at f → r ≡ placeAfter out₁ (at + 21) (encoding UrlSafe p) → out₂ ≡ placed out₁ (at + 21) (encoding UrlSafe p)
+      → (r ≡ placeAfter out at (signedInput p)) × (out₂ ≡ placed out at (signedInput p))
   put-signed-input e e₁ f e₂ =
       let l : length (signedInput p) ≡ 21 + (length p * 4 + 2) / 3 = length-input p in
       let m : length (encoding UrlSafe p) ≡ (length p * 4 + 2) / 3 = length-encoding UrlSafe p in
       let k : at + length (signedInput p) ≤ length out = omega arith in
       let w₁ : out₁ ≡ overwrite out at firstElement = e₁ ∙ ap (placed out at) e ∙ placed-room out at firstElement (omega (arith, first-long)) in
       let n : length out₁ ≡ length out = ap length w₁ ∙ length-over out at firstElement (omega (arith, first-long)) in (
-        f ∙ behind-room out₁ (at + 21) (encoding UrlSafe p) (omega arith) ∙ omega arith ∙ sym (behind-room out at (signedInput p) k),
+        f ∙ after-room out₁ (at + 21) (encoding UrlSafe p) (omega arith) ∙ omega arith ∙ sym (after-room out at (signedInput p) k),
         put-next out firstElement (encoding UrlSafe p) at w₁ e₂ (omega (arith, first-long)) (omega (arith, first-long)) ∙ sym (placed-room out at (signedInput p) k),
       )
 
 module _ (p s out : List ℕ) (at : ℕ) (h : at + (22 + (length p * 4 + 2) / 3 + (length s * 4 + 2) / 3) ≤ length out) {r : ℕ} {out₁ : List ℕ}
-    (e₁ : (r ≡ behind out at (signedInput p)) × (out₁ ≡ placed out at (signedInput p))) where
+    (e₁ : (r ≡ placeAfter out at (signedInput p)) × (out₁ ≡ placed out at (signedInput p))) where
   fits : at + length (signedInput p) ≤ length out
   fits = omega (arith, length-input p)
 
@@ -202,7 +202,7 @@ module _ (p s out : List ℕ) (at : ℕ) (h : at + (22 + (length p * 4 + 2) / 3 
       omega (
         arith,
         e₁ .0,
-        behind-room out at (signedInput p) fits,
+        after-room out at (signedInput p) fits,
         length-input p,
         length-encoding UrlSafe s,
         ap length (e₁ .1),
@@ -211,15 +211,15 @@ module _ (p s out : List ℕ) (at : ℕ) (h : at + (22 + (length p * 4 + 2) / 3 
 
   pub put-form : {r₂ : ℕ} {out₂ : List ℕ}
       → (r₂ ≡ r + length ((46 ∷ []) ++ encoding UrlSafe s)) × (out₂ ≡ overwrite out₁ r ((46 ∷ []) ++ encoding UrlSafe s))
-      → (r₂ ≡ behind out at (signedForm (parts p s))) × (out₂ ≡ placed out at (signedForm (parts p s)))
+      → (r₂ ≡ placeAfter out at (signedForm (parts p s))) × (out₂ ≡ placed out at (signedForm (parts p s)))
   unfolding signedForm
   put-form {r₂} {out₂} e₂ =
       let t : List ℕ = signedInput p in
       let a : List ℕ = (46 ∷ []) ++ encoding UrlSafe s in
       let k : at + length (signedForm (parts p s)) ≤ length out = omega (arith, length-form (parts p s)) in
-      let q : r ≡ at + length t = e₁ .0 ∙ behind-room out at t fits in
+      let q : r ≡ at + length t = e₁ .0 ∙ after-room out at t fits in
       let w₁ : out₁ ≡ overwrite out at t = e₁ .1 ∙ placed-room out at t fits in
       let w₂ : out₂ ≡ overwrite out at (t ++ a) = then out t a at r w₁ (e₂ .1) q fits in (
-        omega (arith, e₂ .0, q, length-input p, length-form (parts p s), length-encoding UrlSafe s, behind-room out at (signedForm (parts p s)) k),
+        omega (arith, e₂ .0, q, length-input p, length-form (parts p s), length-encoding UrlSafe s, after-room out at (signedForm (parts p s)) k),
         w₂ ∙ ap (overwrite out at) (sym (append-assoc t (46 ∷ []) (encoding UrlSafe s))) ∙ sym (placed-room out at (signedForm (parts p s)) k),
       )

@@ -35,18 +35,18 @@ module _ (f x y : List ℕ) (long : length f ≡ 21) where
   spread : length (f ++ (x ++ (46 ∷ y))) ≡ 21 + length x + 1 + length y
   spread = omega (arith, long, length-append f (x ++ (46 ∷ y)), length-append x (46 ∷ y))
 
-  behind : drop 21 (f ++ (x ++ (46 ∷ y))) ≡ x ++ (46 ∷ y)
-  behind = drop-at f (x ++ (46 ∷ y)) 21 long
+  after-header : drop 21 (f ++ (x ++ (46 ∷ y))) ≡ x ++ (46 ∷ y)
+  after-header = drop-at f (x ++ (46 ∷ y)) 21 long
 
   second : (e : ℕ) → e ≡ 21 + length x → part 21 e (f ++ (x ++ (46 ∷ y))) ≡ x
-  second e q = rw behind (take-at x (46 ∷ y) (e - 21) (omega arith))
+  second e q = rw after-header (take-at x (46 ∷ y) (e - 21) (omega arith))
 
   third : (e : ℕ) → e ≡ 21 + length x → drop (e + 1) (f ++ (x ++ (46 ∷ y))) ≡ y
   third e q =
       let d : e + 1 ≡ 21 + suc (length x) = omega arith in
       ap (λ (n : ℕ). drop n (f ++ (x ++ (46 ∷ y)))) d
       ∙ sym (drop-drop (suc (length x)) 21 (f ++ (x ++ (46 ∷ y))))
-      ∙ ap (drop (suc (length x))) (behind ∙ sym (append-snoc x 46 y))
+      ∙ ap (drop (suc (length x))) (after-header ∙ sym (append-snoc x 46 y))
       ∙ drop-at (x ++ (46 ∷ [])) y (suc (length x)) (omega (arith, length-append x (46 ∷ [])))
 
 dotless : (xs : List ℕ) → Without 46 (encoding UrlSafe xs)
@@ -69,7 +69,7 @@ module _ (p : Parts) where
       rw (take-at firstElement (x ++ (46 ∷ y)) 21 first-long, same-refl firstElement)
       (next-without 46 firstElement x y 21 first-long (dotless (p .payload)))
 
-  -- the second "." stands behind the payload's element
+  -- the second "." stands after the payload's element
   pub form-dot : secondDot (signedForm p) ≡ 21 + length (encoding UrlSafe (p .payload))
   unfolding x
   form-dot = ap secondDot form-is ∙ dot-is

@@ -16,7 +16,7 @@ use Rattle.receipt.specs.Separated.{after, skip, At, readAmounts}
 use Rattle.receipt.specs.Details.{amountsGood}
 use Rattle.primitives.proofs.Over.{then}
 
--- ---- behind the next '_'
+-- ---- after the next '_'
 
 pub after-mark : (bs : List ℕ) → after (95 ∷ bs) ≡ bs
 unfolding after
@@ -54,7 +54,7 @@ module _ {text : List ℕ} {at i : ℕ} (s : Seeking text at i) where
       let e : drop i text ≡ [] = drop-of-length-le text h in
       record { inside = s .inside; is = e ∙ sym (ap after e) ∙ s .is }
 
--- ---- behind n fields
+-- ---- after n fields
 
 pub record Skipping (text : List ℕ) (at n p k : ℕ) : Type 0 where
   pub inside : p ≤ length text

@@ -1,4 +1,4 @@
--- Texts without a '_': the fields of a payload, and what stands behind each.
+-- Texts without a '_': the fields of a payload, and what follows each.
 use mathlib.Core.Path.{_≡_, refl, ap, _∙_}
 use mathlib.Core.Bool.{true}
 use mathlib.Core.List.{List, [], _∷_, _++_, append-assoc}
@@ -36,7 +36,7 @@ no-mark =
       letter = λ e. omega arith;
     }
 
--- ---- what stands behind each
+-- ---- what follows each
 
 pub after-digits : (n : ℕ) (rest : List ℕ) → after (digits n ++ (95 ∷ rest)) ≡ rest
 after-digits n rest = after-plain rest (each-digits no-mark n)
@@ -57,7 +57,7 @@ skip-amounts (z ∷ zs) rest =
     ∙ ap (skip (length zs)) (after-plain (amountsText zs ++ rest) (each-amount no-mark z))
     ∙ skip-amounts zs rest
 
--- amounts that were spelled are read, whatever stands behind them
+-- amounts that were spelled are read back, whatever follows them
 pub read-amounts : (zs : List ℤ) (rest : List ℕ) → amountsGood zs ≡ true → readAmounts (length zs) (amountsText zs ++ rest) ≡ zs
 unfolding readAmounts amountsGood
 read-amounts [] rest e = refl

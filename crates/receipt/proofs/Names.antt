@@ -91,7 +91,7 @@ between-true : (low high b : ℕ) → between low high b ≡ true → (low ≤ b
 unfolding between
 between-true low high b e = let p = both (leb low b) (leb b high) e in (leb-true low b (p .0), leb-true b high (p .1))
 
--- a byte of a class is below 128, and no '_'
+-- a byte of a class is below 128 and not '_'
 letter-is : (class : Letters) (b : ℕ) → letterGood class b ≡ true → (b < 128) × (b ≡ 95 → ⊥)
 unfolding idLetter serialLetter
 letter-is Id b e =

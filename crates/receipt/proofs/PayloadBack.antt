@@ -1,4 +1,4 @@
--- What is spelled is read: reading a payload gives back its fields, so no two fields have one spelling.
+-- What is spelled is read back: reading a payload gives its fields, so different fields are spelled differently.
 use mathlib.Core.Path.{_≡_, refl, sym, ap, _∙_}
 use mathlib.Core.Bool.{Bool, true, false, cond, _&&_}
 use mathlib.Core.List.{List, [], _∷_, _++_, append-assoc}
@@ -59,7 +59,7 @@ small t e =
 -- ---- the body, from the front
 
 module _ (s : Settings) (n : ℕ) (f : PayloadFields) (w : widthGood n ≡ true) (a : TypedFields f) (g : Good n f) where
-  -- what stands behind the counter field's '_'
+  -- what follows the counter field's '_'
   ending : List ℕ
   ending = nameText (s .serial) ++ (95 ∷ base64 (f .chain))
 
@@ -153,16 +153,16 @@ module _ (s : Settings) (n : ℕ) (f : PayloadFields) (w : widthGood n ≡ true)
 
 -- ---- the whole
 
-behind-register : (s : Settings) (n : ℕ) (f : PayloadFields) → SettingsLengths s → sized s ≡ true → drop (9 + s .id .len) (payload s n f) ≡ body s n f
+after-register : (s : Settings) (n : ℕ) (f : PayloadFields) → SettingsLengths s → sized s ≡ true → drop (9 + s .id .len) (payload s n f) ≡ body s n f
 unfolding payload
-behind-register s n f t z = drop-at (registerPart s) (body s n f) (9 + s .id .len) (length-register s (t .csp) (t .id) (sized-short s z .id))
+after-register s n f t z = drop-at (registerPart s) (body s n f) (9 + s .id .len) (length-register s (t .csp) (t .id) (sized-short s z .id))
 
 -- reading what was spelled gives it back
 pub payload-back : (s : Settings) (n : ℕ) (f : PayloadFields) → SettingsLengths s → sized s ≡ true → widthGood n ≡ true → TypedFields f → fieldsGood n f ≡ true
     → readFields s n (payload s n f) ≡ f
 unfolding readFields
 payload-back s n f t z w a g =
-    rw (behind-register s n f t z, readable-back s n f w a (good n f g)) (found-back s n f w a (good n f g))
+    rw (after-register s n f t z, readable-back s n f w a (good n f g)) (found-back s n f w a (good n f g))
 
 -- different fields are spelled differently
 pub payload-injective : (s : Settings) (n : ℕ) (f h : PayloadFields) → SettingsLengths s → sized s ≡ true → widthGood n ≡ true

@@ -105,13 +105,13 @@ pub content : (n : ℕ) (kind : Kind) (counter bytes : List ℕ) (m : ℕ) → t
 unfolding counterField
 content n kind counter bytes m e = ap base64 (lent m bytes ∙ e)
 
-pub record Behind (text b b′ : List ℕ) (at p : ℕ) : Type 0 where
+pub record Marked (text b b′ : List ℕ) (at p : ℕ) : Type 0 where
   pub place : p ≡ at + length text + 1
   pub is : b′ ≡ overwrite b at (text ++ (95 ∷ []))
 
--- a text and a '_' behind it
+-- a text and a '_' after it
 pub marked : (text b : List ℕ) (at p : ℕ) {t b₁ b₂ : List ℕ} → t ≡ text → at + length text + 1 ≤ length b → p ≡ at + length t
-    → b₁ ≡ overwrite b at t → b₂ ≡ overwrite b₁ p (95 ∷ []) → Behind text b b₂ at (p + 1)
+    → b₁ ≡ overwrite b at t → b₂ ≡ overwrite b₁ p (95 ∷ []) → Marked text b b₂ at (p + 1)
 marked text b at p q room e e₁ e₂ =
     let l = ap length q in
     record { place = omega arith; is = then _ _ _ _ _ (e₁ ∙ ap (overwrite b at) q) e₂ (omega arith) (omega arith) }
@@ -158,7 +158,7 @@ module _ (s : Settings) (n : ℕ) (f : PayloadFields) where
   unfolding payload
   put-payload b at p q room e₁ e₂ = then _ _ _ _ _ e₁ e₂ q (omega (arith, length-payload))
 
--- ---- how long it is at the most
+-- ---- its greatest length
 
 amounts-short : (zs : List ℤ) → amountsGood zs ≡ true → length (amountsText zs) ≤ 13 * length zs
 unfolding amountsText amountsGood

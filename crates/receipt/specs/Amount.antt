@@ -17,7 +17,7 @@ unfoldable pub amount : ℤ → List ℕ
 amount (pos m) = cents m
 amount (negsuc m) = (code "-" ∷ []) ++ cents (suc m)
 
--- amounts, each with a '_' behind it
+-- amounts, each followed by a '_'
 unfoldable pub amountsText : List ℤ → List ℕ
 amountsText [] = []
 amountsText (z ∷ zs) = (amount z ++ (separator ∷ [])) ++ amountsText zs
@@ -29,7 +29,7 @@ amountLimit = 9999999999
 unfoldable pub withinLimit : ℤ → Bool
 withinLimit z = leb (natAbs z) amountLimit
 
--- ---- the loose reader: the digits are the cents, ',' and '-' count for nothing
+-- ---- the loose reader: the digits are the cents; ',' and '-' are skipped
 
 unfoldable pub readAmount : List ℕ → ℤ
 readAmount bs = cond (eqb (getD bs 0 0) (code "-")) (negℤ (pos (valueOf bs))) (pos (valueOf bs))

@@ -29,17 +29,17 @@ unfoldable pub keyStream : List (List ℕ) → Name → ℕ → List ℕ
 keyStream schedule id number = cipher schedule (iv id number)
 
 -- "N bytes, big-endian two's complement, combined by exclusive or with the first N bytes of AES-256 of the IV".
--- `counterBytes` are eight zeros where n is no width or the counter does not fit n bytes: then the key stream's own bytes come out, and no counter field
+-- `counterBytes` is eight zeros if n is not a valid width or the counter does not fit n bytes: then the key stream's own bytes come out, not a counter field
 unfoldable pub encryptedCounter : List (List ℕ) → Name → ℕ → ℕ → ℤ → List ℕ
 encryptedCounter schedule id number n counter = xorFirst n (counterBytes n counter) (keyStream schedule id number)
 
--- what comes out then, as a statement
+-- what comes out in that case, as a statement
 abbrev pub NothingToEncrypt : Type 0
 NothingToEncrypt =
     (schedule : List (List ℕ)) (id : Name) (number n : ℕ) (counter : ℤ) → counterFits n counter ≡ false
     → encryptedCounter schedule id number n counter ≡ xorFirst n (replicate 8 0) (keyStream schedule id number)
 
--- the same, back
+-- decryption, the way back
 unfoldable pub decryptedCounter : List (List ℕ) → Name → ℕ → ℕ → List ℕ → ℤ
 decryptedCounter schedule id number n bytes = counterValue n (xorFirst n bytes (keyStream schedule id number))
 

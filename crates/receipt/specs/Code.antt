@@ -15,12 +15,12 @@ use Rattle.receipt.specs.declared.machine_code.Part.{Part}
 
 -- ---- the text
 
--- the place of the last b among the first n bytes; the length where there is none
+-- the place of the last b among the first n bytes; the length if there is none
 unfoldable pub lastBefore : ℕ → List ℕ → ℕ → ℕ
 lastBefore b text zero = length text
 lastBefore b text (suc n) = cond (eqb (getD text n 0) b) n (lastBefore b text n)
 
--- the place of the last b; the length where there is none
+-- the place of the last b; the length if there is none
 unfoldable pub lastAt : ℕ → List ℕ → ℕ
 lastAt b text = lastBefore b text (length text)
 
@@ -59,7 +59,7 @@ formMade code out = take (uncodeAnswer code out .length) (uncodeBuffer code out)
 
 -- ---- the ID field
 
--- of a payload, whose first "_" stands at 0: the ID starts behind the second "_" and ends before the third
+-- of a payload, whose first "_" stands at 0: the ID starts after the second "_" and ends before the third
 unfoldable pub idStart : List ℕ → ℕ
 idStart p = nextAt separator p 1 + 1
 
@@ -70,7 +70,7 @@ idEnd p = nextAt separator p (idStart p)
 unfoldable pub idThere : List ℕ → Bool
 idThere p = ltb (idEnd p) (length p) && ltb (idStart p) (idEnd p)
 
--- where a code has its ID field: at its start stands the payload. 0 and 0 where the code is refused or has no such field
+-- the place of the ID field in a code, which starts with the payload; 0 and 0 if the code is refused or has no such field
 abbrev pub nowhere : Part
 nowhere = record { start = 0; end = 0 }
 

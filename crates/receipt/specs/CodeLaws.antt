@@ -1,4 +1,4 @@
--- What holds of compact form, code and ID field, as statements; the proofs are in proofs/Forms.antt, proofs/Codes.antt and proofs/IdFields.antt.
+-- Laws of compact form, code and ID field, as statements; the proofs are in proofs/Forms.antt, proofs/Codes.antt and proofs/IdFields.antt.
 use Prim.Native.Nat.{ℕ, _+_, _≤_, _<_}
 use mathlib.Core.Path.{_≡_}
 use mathlib.Core.Bool.{true}
@@ -23,7 +23,7 @@ pub record MadeOf (write : Parts → List ℕ) (text : List ℕ) (p : Parts) : T
   pub bytes : PartsOfBytes p
   pub is : text ≡ write p
 
--- what a reader finds in a text: these parts exactly where the text is made of them, and nothing exactly where it is made of none
+-- what a reader finds in a text: parts exactly if the text is made of them, and nothing exactly if there are no such parts
 pub record Exactly (write : Parts → List ℕ) (text : List ℕ) (found : Option Parts) : Type 0 where
   pub only : (p : Parts) → found ≡ some p → MadeOf write text p
   pub all : (p : Parts) → MadeOf write text p → found ≡ some p
@@ -56,11 +56,11 @@ pub record HasId (code : List ℕ) : Type 0 where
   pub is : IdPart code before id after
 
 pub record IdExactly (code : List ℕ) : Type 0 where
-  -- the place of an ID part is found: behind the two "_" and what stands between them
+  -- the place of an ID part is found: after the two "_" and what stands between them
   pub place : (x id z : List ℕ) → IdPart code x id z → idPlace code ≡ record { start = 2 + length x; end = 2 + length x + length id }
   -- and what stands there in the code is the ID
   pub stands : (x id z : List ℕ) → IdPart code x id z → idField code ≡ id
-  -- a place with something between its ends is that of an ID part
+  -- a place whose end is after its start is that of an ID part
   pub only : idPlace code .start < idPlace code .end → HasId code
   -- in all other cases the place is 0 and 0, and the part is empty
   pub nothing : (HasId code → ⊥) → (idPlace code ≡ nowhere) × (idField code ≡ [])
@@ -79,13 +79,13 @@ CodeIsShort = (p : Parts) → partsGood p ≡ true → length (codeText p) ≤ l
 
 -- ---- the calls undo each other
 
--- Uncode, of the code that Code made of a compact form, writes that compact form
+-- Uncode turns the code that Code made from a compact form back into that compact form
 abbrev pub UncodeAfterCode : Type 0
 UncodeAfterCode =
     (form out again : List ℕ) → AllBytes form → codeAnswer form out .number ≡ 0 → length form ≤ length again
     → (uncodeAnswer (codeMade form out) again ≡ record { number = 0; length = length form }) × (uncodeBuffer (codeMade form out) again ≡ overwrite again 0 form)
 
--- Code, of the compact form that Uncode made of a code, writes that code
+-- Code turns the compact form that Uncode made from a code back into that code
 abbrev pub CodeAfterUncode : Type 0
 CodeAfterUncode =
     (code out again : List ℕ) → AllBytes code → uncodeAnswer code out .number ≡ 0 → length code ≤ length again

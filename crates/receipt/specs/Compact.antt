@@ -42,21 +42,21 @@ pub record TypedEntry (e : Entry) : Type 0 where
   pub signature : length (e .signature .bytes) ≡ 64
   pub signatureBytes : AllBytes (e .signature .bytes)
 
--- ---- which entries have one
+-- ---- which entries have a compact form
 
--- where the device has failed, there are no other bytes than zeros
+-- if the device has failed, all bytes are zero
 unfoldable pub signatureZero : Signature → Bool
 signatureZero g = not (g .failed) || zeros (g .bytes)
 
--- these fields have a payload
+-- these fields can be spelled as a payload
 unfoldable pub preparable : Settings → ℕ → PayloadFields → Bool
 preparable s n f = sized s && (widthGood n && fieldsGood n f)
 
--- and with this signature a compact form
+-- and, with this signature, as a compact form
 unfoldable pub spellable : Settings → ℕ → Entry → Bool
 spellable s n e = preparable s n (e .fields) && signatureZero (e .signature)
 
--- ---- what the writers write: nothing, where there is nothing to spell
+-- ---- what the writers write: nothing if there is nothing to spell
 
 unfoldable pub prepared : Settings → ℕ → PayloadFields → List ℕ
 prepared s n f = cond (preparable s n f) (signingInput s n f) []

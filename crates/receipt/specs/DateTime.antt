@@ -13,7 +13,7 @@ use Rattle.receipt.specs.declared.datetime.DateTime.{DateTime}
 unfoldable pub leap : ℕ → Bool
 leap y = cond (eqb (y % 400) 0) true (cond (eqb (y % 100) 0) false (eqb (y % 4) 0))
 
--- the days of a month from 1 to 12
+-- the number of days of a month from 1 to 12
 unfoldable pub daysIn : ℕ → ℕ → ℕ
 daysIn y m =
     cond (eqb m 2) (cond (leap y) 29 28)

@@ -15,12 +15,12 @@ fixedOnto (suc w) n acc = fixedOnto w (n / 10) ((code "0" + n % 10) ∷ acc)
 unfoldable pub fixed : ℕ → ℕ → List ℕ
 fixed w n = fixedOnto w n []
 
--- how many digits n has, k + 1 at the most
+-- the number of digits of n, at most k + 1
 unfoldable pub widthUp : ℕ → ℕ → ℕ
 widthUp zero n = 1
 widthUp (suc k) n = cond (ltb n 10) 1 (suc (widthUp k (n / 10)))
 
--- how many digits n has: a number of 64 bits is below 10 ^ 20
+-- the number of digits of n: a number of 64 bits is below 10 ^ 20
 unfoldable pub width : ℕ → ℕ
 width n = widthUp 19 n
 
@@ -30,11 +30,11 @@ digits n = fixed (width n) n
 
 -- ---- the loose reader, up to a '_' or the end
 
--- no number that is read is as large
+-- every number that is read is below this
 abbrev pub readLimit : ℕ
 readLimit = 1000000000000
 
--- one byte more: one below '0' (as ',' and '-') counts for nothing, and any other for a digit
+-- one byte more: a byte below '0' (such as ',' and '-') is skipped, any other counts as a digit
 unfoldable pub more : ℕ → ℕ → ℕ
 more v b = cond (ltb b (code "0")) v ((v * 10 + b % 16) % readLimit)
 

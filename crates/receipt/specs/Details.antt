@@ -1,4 +1,4 @@
--- The details of a receipt: what the questions ask of them, and the counter behind it.
+-- The details of a receipt: what the questions ask of them, and the counter after it.
 use Prim.Native.Nat.{ℕ}
 use mathlib.Core.Bool.{Bool, true, false, _&&_, cond}
 use mathlib.Core.List.{List, [], _∷_}
@@ -45,8 +45,8 @@ unfoldable pub counted : Details → ℤ
 counted d = countedOf (d .kind) (d .amounts)
 
 -- question 11: "New counter fits N bytes?", asked of the counter after all five amounts.
--- The counter before the receipt where it does not fit, or where an amount is beyond its limit: question 9 is asked before, so that
--- answer is none of a call, and it keeps the sum within the code's numbers
+-- If it does not fit, or an amount is beyond its limit, the counter stays as it was. Question 9 is asked first, so no call gets this far
+-- with such an amount; refusing it here keeps the sum within the code's numbers
 unfoldable pub counterAfter : ℕ → ℤ → Details → After
 counterAfter n z d =
     cond (amountsGood (d .amounts) && counterFits n (z +ℤ counted d)) (record { fits = true; counter = z +ℤ counted d })

@@ -1,4 +1,4 @@
--- What holds of entries and their compact forms, as statements; the proofs are in proofs/ExactEntry.antt.
+-- Laws of entries and their compact forms, as statements; the proofs are in proofs/ExactEntry.antt.
 use Prim.Native.Nat.{ℕ, _≤_, _<_}
 use mathlib.Core.Path.{_≡_}
 use mathlib.Core.Bool.{true, false}
@@ -23,7 +23,7 @@ pub record Spelled (s : Settings) (n : ℕ) (text : List ℕ) : Type 0 where
   pub spellable : spellable s n entry ≡ true
   pub is : text ≡ compact s n entry
 
--- question 16 is exact: the reader accepts the texts that are the compact form of an entry, and finds the entry; it accepts no other text, and then finds nothing
+-- question 16 is exact: the reader accepts the texts that are the compact form of an entry, and finds that entry; in a refused text it finds nothing
 abbrev pub Exact : Type 0
 Exact =
     (s : Settings) (n : ℕ) (text : List ℕ) → SettingsLengths s → SettingsBytes s → AllBytes text
@@ -35,7 +35,7 @@ EntryIsReadBack =
     (s : Settings) (n : ℕ) (e : Entry) → SettingsLengths s → SettingsBytes s → TypedEntry e → spellable s n e ≡ true
     → readEntry s n (compact s n e) ≡ record { ok = true; entry = e }
 
--- no two entries have one spelling
+-- no two entries have the same spelling
 abbrev pub OneSpelling : Type 0
 OneSpelling =
     (s : Settings) (n : ℕ) (e f : Entry) → SettingsLengths s → SettingsBytes s → TypedEntry e → TypedEntry f → spellable s n e ≡ true → spellable s n f ≡ true
@@ -66,6 +66,6 @@ CompactIsSigned =
 abbrev pub InputBeforeDot : Type 0
 InputBeforeDot = (s : Settings) (n : ℕ) (e : Entry) → take (secondDot (compact s n e)) (compact s n e) ≡ signingInput s n (e .fields)
 
--- what is found is of the code's types, accepted or not
+-- what is found has the code's types, accepted or not
 abbrev pub FoundIsTyped : Type 0
 FoundIsTyped = (s : Settings) (n : ℕ) (text : List ℕ) → TypedEntry (readEntry s n text .entry)

@@ -29,12 +29,12 @@ firstElement = encoding UrlSafe header ++ (dot ∷ [])
 
 -- ---- finding a byte
 
--- how many bytes stand before the first b, all of them where there is none
+-- the number of bytes before the first b; the length if there is none
 unfoldable pub firstAt : ℕ → List ℕ → ℕ
 firstAt b [] = 0
 firstAt b (x ∷ xs) = cond (eqb x b) 0 (suc (firstAt b xs))
 
--- the place of the first b from a place on; where there is none the length, or the place itself if it is behind the end
+-- the place of the first b from a place on; if there is none, the length, or the place itself if it is beyond the end
 unfoldable pub nextAt : ℕ → List ℕ → ℕ → ℕ
 nextAt b text from = from + firstAt b (drop from text)
 
@@ -91,13 +91,13 @@ signedForm p = signedInput (p .payload) ++ (dot ∷ []) ++ encoding UrlSafe (p .
 
 -- ---- reading it
 
--- parts, where there are both and they are good
+-- the two parts, if both are given and good
 unfoldable pub goodParts : Option (List ℕ) → Option (List ℕ) → Option Parts
 goodParts (some p) (some s) = cond (partsGood (parts p s)) (some (parts p s)) none
 goodParts (some p) none = none
 goodParts none s = none
 
--- the place of the "." behind the second element, where the first is the header's and a "." follows it; the length where there is none
+-- the place of the "." after the second element, if the first is the header's and a "." follows it; the length if there is none
 unfoldable pub secondDot : List ℕ → ℕ
 secondDot text = cond (same (take 21 text) firstElement) (nextAt dot text 21) (length text)
 

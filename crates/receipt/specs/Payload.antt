@@ -49,7 +49,7 @@ unfoldable pub closing : Settings → ℕ → PayloadFields → List ℕ
 closing s n f =
     (counterField n (f .details .kind) (f .counter) ++ (separator ∷ [])) ++ (nameText (s .serial) ++ (separator ∷ [])) ++ base64 (f .chain)
 
--- what stands behind the register part
+-- what follows the register part
 unfoldable pub body : Settings → ℕ → PayloadFields → List ℕ
 body s n f = moment (f .details .number) (f .details .date) ++ amountsText (f .details .amounts) ++ closing s n f
 
@@ -60,9 +60,9 @@ payload s n f = registerPart s ++ body s n f
 abbrev pub longestPayload : ℕ
 longestPayload = 195
 
--- ---- which fields it may have
+-- ---- which fields a payload may have
 
--- no byte of the counter stands where its field does not spell it
+-- every byte of the counter that its field does not spell is zero
 unfoldable pub counterGood : ℕ → Kind → List ℕ → Bool
 counterGood n Standard counter = zeros (drop n counter)
 counterGood n Cancellation counter = zeros counter

@@ -19,11 +19,11 @@ use Rattle.receipt.specs.declared.settings.Settings.{Settings}
 use Rattle.receipt.specs.declared.payload.PayloadFields.{PayloadFields}
 use Rattle.receipt.specs.declared.payload.Places.{Places}
 
--- the bytes that a text of BASE64 stands for, with zeros behind them up to eight; eight zeros where it stands for none, or for more
+-- the bytes of a BASE64 text, then zeros up to eight bytes; eight zeros if the text is refused or has more than eight bytes
 unfoldable pub eight : List ℕ → List ℕ
 eight text = decodeBuffer alphabet.Standard text (replicate 8 0) 0
 
--- how many letters the counter field of a standard receipt has: BASE64 of 5 to 8 bytes
+-- the number of letters in the counter field of a standard receipt: BASE64 of 5 to 8 bytes
 unfoldable pub fieldWidth : ℕ → ℕ
 fieldWidth n = cond (leb n 6) 8 12
 
@@ -40,7 +40,7 @@ readCounter n Training bs = replicate 8 0
 unfoldable pub readChain : List ℕ → List ℕ
 readChain text = eight (drop (length text - 12) text)
 
--- the details, from what stands behind the register part
+-- the details, from what follows the register part
 unfoldable pub readDetails : List ℕ → Details
 readDetails bs =
     record {
@@ -60,12 +60,12 @@ pub record Placed (text bs : List ℕ) (p : Places) : Type 0 where
   pub amounts : At text (p .amounts) (skip 2 bs)
   pub counter : At text (p .counter) (skip 7 bs)
 
--- the fields of a text, with what stands behind its register part
+-- the fields of a text, given what follows its register part
 unfoldable pub foundIn : ℕ → List ℕ → List ℕ → PayloadFields
 foundIn n text bs =
     record { details = readDetails bs; counter = readCounter n (kindOf (skip 7 bs)) (skip 7 bs); chain = readChain text }
 
--- fields of a text that is too short
+-- blank fields, for a text that is too short
 unfoldable pub blank : PayloadFields
 blank =
     record {
@@ -80,6 +80,6 @@ blank =
       chain = replicate 8 0;
     }
 
--- the ID is not searched: its length comes from the settings
+-- the ID is not searched for: its length comes from the settings
 unfoldable pub readFields : Settings → ℕ → List ℕ → PayloadFields
 readFields s n text = cond (readable (drop (9 + s .id .len) text)) (foundIn n text (drop (9 + s .id .len) text)) blank

@@ -9,12 +9,12 @@ use lib.ListN.{length, drop}
 use Rattle.receipt.specs.Amount.{readAmount}
 use Rattle.receipt.specs.Texts.{separator}
 
--- what stands behind the first '_'
+-- what follows the first '_'
 unfoldable pub after : List ℕ → List ℕ
 after [] = []
 after (b ∷ bs) = cond (eqb b separator) bs (after bs)
 
--- what stands behind the first k
+-- what follows the first k of them
 unfoldable pub skip : ℕ → List ℕ → List ℕ
 skip zero bs = bs
 skip (suc k) bs = skip k (after bs)

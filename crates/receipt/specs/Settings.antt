@@ -52,7 +52,7 @@ zeros bs = every Zero bs
 
 -- ---- names
 
--- the bytes of a name, without the zeros behind its end
+-- the bytes of a name, without the zeros after its end
 unfoldable pub nameText : Name → List ℕ
 nameText n = take (n .len) (n .bytes)
 
@@ -60,7 +60,7 @@ nameText n = take (n .len) (n .bytes)
 unfoldable pub nameGood : Letters → Name → Bool
 nameGood class n = leb 1 (n .len) && (leb (n .len) 32 && (every class (nameText n) && zeros (drop (n .len) (n .bytes))))
 
--- the name with this text; of a text over 32 bytes the array holds the first 32, and the length makes the name bad
+-- the name with this text; if the text is over 32 bytes long, the array holds the first 32, and the length makes the name bad
 unfoldable pub nameOf : List ℕ → Name
 nameOf text = record { bytes = take 32 text ++ replicate (32 - length text) 0; len = length text }
 
@@ -88,7 +88,7 @@ settingsNumber s n rest =
 unfoldable pub sized : Settings → Bool
 sized s = leb (s .id .len) 32 && leb (s .serial .len) 32
 
--- what the code's types say: arrays of so many elements, which are bytes
+-- what the code's types say: arrays of fixed lengths, whose elements are bytes
 pub record SettingsLengths (s : Settings) : Type 0 where
   pub csp : length (s .csp) ≡ 3
   pub id : length (s .id .bytes) ≡ 32

@@ -12,7 +12,7 @@ separator = code "_"
 abbrev pub dot : ℕ
 dot = code "."
 
--- every payload begins so
+-- the beginning of every payload
 unfoldable pub beginning : List ℕ
 unfolding ascii
 beginning = ascii "_R1-"

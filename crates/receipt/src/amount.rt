@@ -13,7 +13,7 @@ ghost use Rattle.receipt.specs.Amount.{cents, amount, withinLimit, readA
 // The largest amount, in cents.
 const AMOUNT_LIMIT: u64 = 9_999_999_999;
 
-// Cents without a sign, at a place; the place behind them.
+// Writes cents without a sign at a place; returns the place after them.
 fn put_cents(out: &mut [u8], at: usize, m: u64) -> usize
     requires { ⌜ at + length (cents m) ≤ length (now out) ⌝ }
     ensures { λ r. ⌜ (r ≡ at + length (cents m)) × (now (out .exit) ≡ overwrite (now (out .entry)) at (cents m)) ⌝ }
@@ -24,7 +24,7 @@ fn put_cents(out: &mut [u8], at: usize, m: u64) -> usize
     p + 3
 }
 
-// An amount, at a place; the place behind it.
+// Writes an amount at a place; returns the place after it.
 pub(crate) fn put_amount(out: &mut [u8], at: usize, z: i64) -> usize
     requires { ⌜ at + length (amount z) ≤ length (now out) ⌝ }
     ensures { λ r. ⌜ (r ≡ at + length (amount z)) × (now (out .exit) ≡ overwrite (now (out .entry)) at (amount z)) ⌝ }
@@ -37,7 +37,7 @@ pub(crate) fn put_amount(out: &mut [u8], at: usize, z: i64) -> usize
     put_cents(out, at, m)
 }
 
-// Neither above the limit nor as far below zero.
+// The amount is at most the limit, above or below zero.
 pub(crate) fn within_limit(z: i64) -> bool
     ensures { λ r. ⌜ r ≡ withinLimit z ⌝ }
 {

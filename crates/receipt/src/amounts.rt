@@ -12,7 +12,7 @@ ghost use Rattle.receipt.specs.Details.{amountsGood};
 ghost use Rattle.receipt.specs.Amount.{amountsText};
 ghost use Rattle.receipt.specs.Separated.{readAmounts};
 
-// Five amounts, each with a '_' behind it, at a place; the place behind them.
+// Writes five amounts, each followed by a '_', at a place; returns the place after them.
 pub(crate) fn put_amounts(out: &mut [u8], at: usize, a: [i64; 5]) -> usize
     requires { ⌜ at + length (amountsText a) ≤ length (now out) ⌝ }
     ensures { λ r. ⌜ (r ≡ at + length (amountsText a)) × (now (out .exit) ≡ overwrite (now (out .entry)) at (amountsText a)) ⌝ }
@@ -28,7 +28,7 @@ pub(crate) fn put_amounts(out: &mut [u8], at: usize, a: [i64; 5]) -> usize
     p
 }
 
-// All within the limit: question 9.
+// Every amount is within the limit: question 9.
 pub fn amounts_good(a: [i64; 5]) -> bool
     ensures { λ r. ⌜ r ≡ amountsGood a ⌝ }
 {

@@ -9,7 +9,7 @@ ghost use Rattle.primitives.specs.Place.{overwrite};
 ghost use Rattle.primitives.specs.Aes.{keySchedule};
 ghost use Rattle.receipt.specs.Chain.{chainValue, hashInput, iv, keyStream, encryptedCounter, decryptedCounter};
 
-// The first 8 bytes of SHA-256 of a text, the ID's or the previous receipt's.
+// The first 8 bytes of SHA-256 of a text: the ID, or the previous receipt's compact form.
 pub fn chain_value(text: &[u8]) -> [u8; 8]
     ensures { λ r. ⌜ r ≡ chainValue (now (text .entry)) ⌝ }
 {
@@ -26,7 +26,7 @@ pub fn counter_key(key: [u8; 32]) -> [[u8; 4]; 60]
     primitives::expand_key(key)
 }
 
-// ID then number as spelled, at the start of a buffer; the length.
+// Writes ID then number as spelled to the start of a buffer; returns the length.
 fn put_hash_input(out: &mut [u8], id: Name, number: u32) -> usize
     requires { ⌜ 42 ≤ length (now out) ⌝ }
     ensures { λ r. ⌜ (r ≡ length (hashInput id number)) × (now (out .exit) ≡ overwrite (now (out .entry)) 0 (hashInput id number)) ⌝ }
@@ -57,9 +57,9 @@ fn key_stream(schedule: &[[u8; 4]; 60], id: Name, number: u32) -> [u8; 16]
     primitives::encrypt_block(schedule, v)
 }
 
-// The n bytes of a counter, encrypted for the receipt with this number; zeros after them.
-// Where n is not 5 to 8, or the counter does not fit n bytes, there are no such bytes: eight zeros take their place, so the first n bytes
-// of the result are those of the key stream, and the result is no counter field. Callers ask questions 4 and 11 first.
+// The n bytes of a counter, encrypted for the receipt with this number, then zeros.
+// If n is not 5 to 8, or the counter does not fit n bytes, eight zeros take the place of its bytes: the first n bytes of the result are
+// those of the key stream, and the result is not a counter field. Callers ask questions 4 and 11 first.
 pub fn encrypt_counter(
     schedule: &[[u8; 4]; 60],
     id: Name,

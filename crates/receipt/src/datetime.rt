@@ -29,7 +29,7 @@ fn leap(year: u32) -> bool
     year % 4 == 0
 }
 
-// The days of a month from 1 to 12.
+// The number of days of a month from 1 to 12.
 fn days_in(year: u32, month: u32) -> u32
     requires { ⌜ month ≤ 12 ⌝ }
     ensures { λ r. ⌜ r ≡ daysIn year month ⌝ }
@@ -89,7 +89,7 @@ pub fn date_good(t: DateTime) -> bool
     time_good(t)
 }
 
-// A letter and two digits, at a place.
+// Writes a letter and two digits at a place.
 fn put_pair(out: &mut [u8], at: usize, letter: u8, n: u32)
     requires { ⌜ at + 3 ≤ length (now out) ⌝ }
     ensures { λ _. ⌜ now (out .exit) ≡ overwrite (now (out .entry)) at (pair letter n) ⌝ }
@@ -98,7 +98,7 @@ fn put_pair(out: &mut [u8], at: usize, letter: u8, n: u32)
     put_fixed(out, at + 1, 2, n as u64);
 }
 
-// A date and time, at a place.
+// Writes a date and time at a place.
 pub(crate) fn put_date(out: &mut [u8], at: usize, t: DateTime)
     requires { ⌜ at + 19 ≤ length (now out) ⌝ }
     ensures { λ _. ⌜ now (out .exit) ≡ overwrite (now (out .entry)) at (dateText t) ⌝ }

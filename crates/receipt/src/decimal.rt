@@ -5,7 +5,7 @@ ghost use lib.ListN.{length, drop};
 ghost use Rattle.primitives.specs.Place.{overwrite};
 ghost use Rattle.receipt.specs.Decimal.{fixed, width, digits, readLimit, more, valueOf};
 
-// The w last digits of n, at a place.
+// Writes the w last digits of n at a place.
 pub(crate) fn put_fixed(out: &mut [u8], at: usize, w: usize, n: u64)
     requires { ⌜ at + w ≤ length (now out) ⌝ }
     ensures { λ _. ⌜ now (out .exit) ≡ overwrite (now (out .entry)) at (fixed w n) ⌝ }
@@ -19,7 +19,7 @@ pub(crate) fn put_fixed(out: &mut [u8], at: usize, w: usize, n: u64)
     }
 }
 
-// How many digits a number has.
+// The number of digits of a number.
 fn width(n: u64) -> usize
     ensures { λ r. ⌜ r ≡ width n ⌝ }
 {
@@ -32,7 +32,7 @@ fn width(n: u64) -> usize
     w
 }
 
-// A number without leading zeros, at a place; the place behind it.
+// Writes a number without leading zeros at a place; returns the place after it.
 pub(crate) fn put_decimal(out: &mut [u8], at: usize, n: u64) -> usize
     requires { ⌜ at + length (digits n) ≤ length (now out) ⌝ }
     ensures { λ r. ⌜ (r ≡ at + length (digits n)) × (now (out .exit) ≡ overwrite (now (out .entry)) at (digits n)) ⌝ }
@@ -42,7 +42,7 @@ pub(crate) fn put_decimal(out: &mut [u8], at: usize, n: u64) -> usize
     at + w
 }
 
-// One byte more, read loosely: one below '0' counts for nothing, and a number stays below 10^12.
+// One byte more, read loosely: a byte below '0' is skipped, and the number stays below 10^12.
 fn more(v: u64, b: u8) -> u64
     requires { ⌜ v < readLimit ⌝ }
     ensures { λ r. ⌜ r ≡ more v b ⌝ }

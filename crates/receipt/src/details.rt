@@ -1,4 +1,4 @@
-// The details of a receipt, and the counter behind it.
+// The details of a receipt, and the counter after it.
 use super::amounts::amounts_good;
 use super::datetime::DateTime;
 use primitives::Sum;
@@ -21,7 +21,7 @@ pub struct Details {
     pub kind: Kind,
 }
 
-// The counter behind a receipt, and whether it fits; the counter before it where it does not.
+// The counter after a receipt, and whether it fits; if it does not, the counter before the receipt.
 pub struct After {
     pub fits: bool,
     pub counter: i64,
@@ -68,7 +68,7 @@ fn total(a: [i64; 5]) -> i64
     sum
 }
 
-// What a receipt adds to the counter: its amounts, and nothing where it is training.
+// What a receipt adds to the counter: its amounts, or nothing if it is training.
 fn counted(d: Details) -> i64
     requires { ⌜ amountsGood (d .amounts) ≡ true ⌝ }
     ensures { λ r. ⌜ r ≡ counted d ⌝ }
@@ -83,8 +83,8 @@ fn counted(d: Details) -> i64
 }
 
 // The counter after a receipt: question 11, asked of the counter after all five amounts.
-// An amount beyond its limit, the "no" of question 9, answers "does not fit" here: question 9 comes first, so no call gets as far with such
-// an amount, and the five amounts within their limits cannot overflow while they are added.
+// An amount beyond its limit, the "no" of question 9, gives "does not fit" here. Question 9 comes first, so no call gets this far with such
+// an amount, and five amounts within their limits cannot overflow while they are added.
 pub fn counter_after(n: usize, counter: i64, d: Details) -> After
     ensures { λ r. ⌜ r ≡ counterAfter n counter d ⌝ }
 {

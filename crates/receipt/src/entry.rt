@@ -19,13 +19,13 @@ ghost use mathlib.Core.Bool.{cond};
 ghost use Prim.Native.Nat.{_≤_};
 ghost use mathlib.Core.List.{[]};
 ghost use lib.ListN.{length, take};
-ghost use Rattle.primitives.specs.Place.{placed, behind};
+ghost use Rattle.primitives.specs.Place.{placed, placeAfter};
 ghost use Rattle.receipt.specs.Settings.{sized};
 ghost use Rattle.receipt.specs.Payload.{payload, longestPayload};
 ghost use Rattle.receipt.specs.Form.{parts, signedForm};
 ghost use Rattle.receipt.specs.Compact.{signatureText, signatureZero, preparable, prepared, spelled, signatureOf, spells, noEntry, readEntry};
 
-// The bytes are zero where the device has failed.
+// If the device has failed, the bytes are zero.
 pub struct Signature {
     pub failed: bool,
     pub bytes: [u8; 64],
@@ -36,7 +36,7 @@ pub struct Entry {
     pub signature: Signature,
 }
 
-// What a reader finds: whether the text spells an entry, and the entry; a blank one where it does not.
+// What a reader finds: whether the text spells an entry, and that entry, or a blank one if it does not.
 pub struct Found {
     pub ok: bool,
     pub entry: Entry,
@@ -56,7 +56,7 @@ fn sized(s: Settings) -> bool
     serial.len <= 32
 }
 
-// These fields have a payload.
+// These fields can be spelled as a payload.
 fn preparable(s: Settings, n: usize, f: PayloadFields) -> bool
     ensures { λ r. ⌜ r ≡ preparable s n f ⌝ }
 {
@@ -69,7 +69,7 @@ fn preparable(s: Settings, n: usize, f: PayloadFields) -> bool
     fields_good(n, f)
 }
 
-// Writes the payload to the start of a buffer; its length, 0 where the fields have none.
+// Writes the payload to the start of a buffer; returns its length, or 0 if the fields have no payload.
 fn write_payload(s: Settings, n: usize, f: PayloadFields, out: &mut [u8]) -> usize
     requires { ⌜ length (now out) ≡ longestPayload ⌝ }
     ensures { λ r. ⌜ (r ≤ longestPayload) × (take r (now (out .exit)) ≡ cond (preparable s n f) (payload s n f) []) ⌝ }
@@ -82,7 +82,7 @@ fn write_payload(s: Settings, n: usize, f: PayloadFields, out: &mut [u8]) -> usi
 
 // ---- writing
 
-// Where the device has failed, there are no other bytes than zeros.
+// If the device has failed, all bytes are zero.
 fn signature_zero(g: Signature) -> bool
     ensures { λ r. ⌜ r ≡ signatureZero g ⌝ }
 {
@@ -93,11 +93,11 @@ fn signature_zero(g: Signature) -> bool
     every(Letters::Zero, &bytes)
 }
 
-// The compact form of a payload with its signature, at a place; the place behind it.
+// Writes the compact form of a payload and its signature at a place; returns the place after it.
 fn put_signed(payload: &[u8], g: Signature, out: &mut [u8], at: usize) -> usize
     requires { ⌜ length (now payload) ≤ longestPayload ⌝ }
     ensures { λ r. let y : _ = signedForm (parts (now (payload .entry)) (signatureText g)) in
-        ⌜ (r ≡ behind (now (out .entry)) at y) × (now (out .exit) ≡ placed (now (out .entry)) at y) ⌝ }
+        ⌜ (r ≡ placeAfter (now (out .entry)) at y) × (now (out .exit) ≡ placed (now (out .entry)) at y) ⌝ }
 {
     let bytes = g.bytes;
     if g.failed {
@@ -107,9 +107,9 @@ fn put_signed(payload: &[u8], g: Signature, out: &mut [u8], at: usize) -> usize
     put_form(payload, &bytes, out, at)
 }
 
-// Writes the compact form of an entry at a place; nothing where the entry cannot be spelled or there is no room.
+// Writes the compact form of an entry at a place; nothing if the entry cannot be spelled or there is no room.
 pub fn put_compact(s: Settings, n: usize, e: Entry, out: &mut [u8], at: usize) -> usize
-    ensures { λ r. ⌜ (r ≡ behind (now (out .entry)) at (spelled s n e)) × (now (out .exit) ≡ placed (now (out .entry)) at (spelled s n e)) ⌝ }
+    ensures { λ r. ⌜ (r ≡ placeAfter (now (out .entry)) at (spelled s n e)) × (now (out .exit) ≡ placed (now (out .entry)) at (spelled s n e)) ⌝ }
 {
     let f = e.fields;
     let g = e.signature;
@@ -132,7 +132,7 @@ pub fn put_signing_input(
     out: &mut [u8],
     at: usize,
 ) -> usize
-    ensures { λ r. ⌜ (r ≡ behind (now (out .entry)) at (prepared s n f)) × (now (out .exit) ≡ placed (now (out .entry)) at (prepared s n f)) ⌝ }
+    ensures { λ r. ⌜ (r ≡ placeAfter (now (out .entry)) at (prepared s n f)) × (now (out .exit) ≡ placed (now (out .entry)) at (prepared s n f)) ⌝ }
 {
     let mut payload = [0u8; LONGEST_PAYLOAD];
     let m = write_payload(s, n, f, &mut payload);

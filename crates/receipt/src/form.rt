@@ -10,7 +10,7 @@ use primitives::same;
 ghost use mathlib.Core.Path.{_≡_};
 ghost use Prim.Native.Nat.{_+_, _≤_};
 ghost use lib.ListN.{length, take};
-ghost use Rattle.primitives.specs.Place.{overwrite, placed, behind};
+ghost use Rattle.primitives.specs.Place.{overwrite, placed, placeAfter};
 ghost use Rattle.primitives.specs.Base64.{decoding};
 ghost use Rattle.receipt.specs.Payload.{longestPayload};
 ghost use Rattle.receipt.specs.Texts.{beginning};
@@ -29,7 +29,7 @@ pub(crate) fn beginning() -> [u8; 4]
     *b"_R1-"
 }
 
-// What stands for the signature where the device has failed.
+// What stands for the signature if the device has failed.
 pub(crate) fn failure_text() -> [u8; 34]
     ensures { λ r. ⌜ r ≡ failureText ⌝ }
 {
@@ -45,7 +45,7 @@ fn first_element() -> [u8; 21]
 
 // ---- reading
 
-// The place of the first b from a place on; the slice's length where there is none.
+// The place of the first b from a place on; the slice's length if there is none.
 pub(crate) fn next_at(b: u8, s: &[u8], from: usize) -> usize
     ensures { λ r. ⌜ r ≡ nextAt b (now (s .entry)) from ⌝ }
 {
@@ -82,7 +82,7 @@ pub(crate) fn signature_good(signature: &[u8]) -> bool
     same(signature, &text)
 }
 
-// Writes the bytes of a text to the start of a buffer; how many. None where the text is refused or they have no room.
+// Writes the bytes of a text to the start of a buffer; returns how many: 0 if the text is refused or there is no room.
 pub(crate) fn decode(alphabet: Alphabet, text: &[u8], out: &mut [u8]) -> usize
     ensures { λ r. ⌜ (r ≤ length (now (out .entry)))
         × (take r (now (out .exit)) ≡ short (length (now (out .entry))) (decoding alphabet (now (text .entry)))) ⌝ }
@@ -111,7 +111,7 @@ pub(crate) fn nothing() -> Reading
     }
 }
 
-// The place of the '.' behind the second element; the length where the first is another or there is no such '.'.
+// The place of the '.' after the second element; the length if the first element is not the fixed one or there is no such '.'.
 fn second_dot(form: &[u8]) -> usize
     ensures { λ r. ⌜ r ≡ secondDot (now (form .entry)) ⌝ }
 {
@@ -125,7 +125,7 @@ fn second_dot(form: &[u8]) -> usize
     next_at(b'.', form, 21)
 }
 
-// The parts of a compact form, each at the start of a buffer.
+// Reads the parts of a compact form, each to the start of a buffer.
 pub(crate) fn read_form(form: &[u8], payload: &mut [u8], signature: &mut [u8]) -> Reading
     requires { ⌜ (length (now payload) ≡ longestPayload) × (length (now signature) ≡ 64) ⌝ }
     ensures { λ r. ⌜ (r .payload ≤ longestPayload) × (r .signature ≤ 64)
@@ -150,7 +150,7 @@ pub(crate) fn read_form(form: &[u8], payload: &mut [u8], signature: &mut [u8]) -
 
 // ---- writing
 
-// A '.' and an element, at a place; the place behind them.
+// Writes a '.' and an element at a place; returns the place after them.
 fn put_element(out: &mut [u8], at: usize, s: &[u8]) -> usize
     requires { ⌜ at + length (element (now s)) ≤ length (now out) ⌝ }
     ensures { λ r. ⌜ (r ≡ at + length (element (now (s .entry)))) × (now (out .exit) ≡ overwrite (now (out .entry)) at (element (now (s .entry)))) ⌝ }
@@ -159,11 +159,11 @@ fn put_element(out: &mut [u8], at: usize, s: &[u8]) -> usize
     base64_encode(Alphabet::UrlSafe, s, out, at + 1)
 }
 
-// What is signed of a compact form: the elements of header and payload with the '.' between them, at a place; the place behind them.
+// Writes what is signed of a compact form at a place: the elements of header and payload with the '.' between them; returns the place after them.
 pub(crate) fn put_signed_input(payload: &[u8], out: &mut [u8], at: usize) -> usize
     requires { ⌜ length (now payload) ≤ longestPayload ⌝ }
     ensures { λ r. let y : _ = signedInput (now (payload .entry)) in
-        ⌜ (r ≡ behind (now (out .entry)) at y) × (now (out .exit) ≡ placed (now (out .entry)) at y) ⌝ }
+        ⌜ (r ≡ placeAfter (now (out .entry)) at y) × (now (out .exit) ≡ placed (now (out .entry)) at y) ⌝ }
 {
     let element = base64_length(Alphabet::UrlSafe, payload);
     let total = 21 + element;
@@ -175,11 +175,11 @@ pub(crate) fn put_signed_input(payload: &[u8], out: &mut [u8], at: usize) -> usi
     base64_encode(Alphabet::UrlSafe, payload, out, at + 21)
 }
 
-// A compact form, at a place; the place behind it.
+// Writes a compact form at a place; returns the place after it.
 pub(crate) fn put_form(payload: &[u8], signature: &[u8], out: &mut [u8], at: usize) -> usize
     requires { ⌜ (length (now payload) ≤ longestPayload) × (length (now signature) ≤ 64) ⌝ }
     ensures { λ r. let y : _ = signedForm (parts (now (payload .entry)) (now (signature .entry))) in
-        ⌜ (r ≡ behind (now (out .entry)) at y) × (now (out .exit) ≡ placed (now (out .entry)) at y) ⌝ }
+        ⌜ (r ≡ placeAfter (now (out .entry)) at y) × (now (out .exit) ≡ placed (now (out .entry)) at y) ⌝ }
 {
     let second = base64_length(Alphabet::UrlSafe, payload);
     let third = base64_length(Alphabet::UrlSafe, signature);

@@ -1,4 +1,4 @@
-// What a receipt is on paper, as text, and back.
+// Receipts as text: how they are spelled, and how they are read back.
 mod amount;
 mod amounts;
 mod bytes;
@@ -49,7 +49,7 @@ pub use settings::serial_good;
 pub use settings::settings_good;
 pub use settings::settings_number;
 
-// What the journal needs of the primitives: answers, bytes and numbers at a place of a buffer, and the widths of a counter.
+// What the journal needs of the primitives: answers, bytes and numbers at a place in a buffer, and the widths of a counter.
 pub use primitives::Answer;
 pub use primitives::Number;
 pub use primitives::counter_fits;

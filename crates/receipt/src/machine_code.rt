@@ -1,4 +1,4 @@
-// The machine-readable code of a receipt: made of a compact form, turned back into one, and the ID field in it.
+// The machine-readable code of a receipt: made from a compact form, turned back into one, and the ID field in it.
 use super::form::LONGEST_PAYLOAD;
 use super::form::Reading;
 use super::form::decode;
@@ -25,7 +25,7 @@ ghost use Rattle.primitives.specs.Answers.{written};
 
 // ---- reading
 
-// The place of the last b; the slice's length where there is none.
+// The place of the last b; the slice's length if there is none.
 fn last_at(b: u8, s: &[u8]) -> usize
     ensures { λ r. ⌜ r ≡ lastAt b (now (s .entry)) ⌝ }
 {
@@ -39,7 +39,7 @@ fn last_at(b: u8, s: &[u8]) -> usize
     s.len()
 }
 
-// The parts of a code: the payload stands at its start, the signature at the start of a buffer.
+// Reads the parts of a code: the payload is its start, the signature is written to the start of a buffer.
 fn read_code(code: &[u8], signature: &mut [u8]) -> Reading
     requires { ⌜ length (now signature) ≡ 64 ⌝ }
     ensures { λ r. ⌜ (r .payload ≤ length (now (code .entry))) × (r .signature ≤ 64)
@@ -63,7 +63,7 @@ fn read_code(code: &[u8], signature: &mut [u8]) -> Reading
 
 // ---- writing
 
-// A code, at the start of the output.
+// Writes a code to the start of the output.
 fn put_code(payload: &[u8], signature: &[u8], out: &mut [u8]) -> Answer
     requires { ⌜ (length (now payload) ≤ longestPayload) × (length (now signature) ≤ 64) ⌝ }
     ensures { λ r. let y : _ = codeText (parts (now (payload .entry)) (now (signature .entry))) in
@@ -89,7 +89,7 @@ fn put_code(payload: &[u8], signature: &[u8], out: &mut [u8]) -> Answer
 
 // ---- the calls
 
-// The code of a compact form, at the start of the output. Good parts? 22. Output long enough? 23.
+// Writes the code of a compact form to the start of the output. Good parts? 22. Output long enough? 23.
 pub fn code(form: &[u8], out: &mut [u8]) -> Answer
     ensures { λ r. ⌜ (r ≡ codeAnswer (now (form .entry)) (now (out .entry))) × (now (out .exit) ≡ codeBuffer (now (form .entry)) (now (out .entry))) ⌝ }
 {
@@ -107,7 +107,7 @@ pub fn code(form: &[u8], out: &mut [u8]) -> Answer
     put_code(&payload[0..n], &signature[0..m], out)
 }
 
-// The compact form of a code, at the start of the output. Good parts? 24. Output long enough? 23.
+// Writes the compact form of a code to the start of the output. Good parts? 24. Output long enough? 23.
 pub fn uncode(code: &[u8], out: &mut [u8]) -> Answer
     ensures { λ r. ⌜ (r ≡ uncodeAnswer (now (code .entry)) (now (out .entry))) × (now (out .exit) ≡ uncodeBuffer (now (code .entry)) (now (out .entry))) ⌝ }
 {
@@ -136,7 +136,7 @@ pub fn uncode(code: &[u8], out: &mut [u8]) -> Answer
 
 // ---- the ID field
 
-// The bytes from a place up to another.
+// The bytes from one place up to another.
 pub struct Part {
     pub start: usize,
     pub end: usize,
@@ -148,7 +148,7 @@ fn nowhere() -> Part
     Part { start: 0, end: 0 }
 }
 
-// Where the ID field stands in a code; nowhere where uncode refuses the code or there is no such field.
+// The place of the ID field in a code; 0 and 0 if uncode refuses the code or there is no such field.
 pub fn id_place(code: &[u8]) -> Part
     ensures { λ r. ⌜ (r ≡ idPlace (now (code .entry))) × (r .start ≤ r .end) × (r .end ≤ length (now (code .entry))) ⌝ }
 {
@@ -170,8 +170,8 @@ pub fn id_place(code: &[u8]) -> Part
     Part { start: a, end: e }
 }
 
-// The ID field of a code, as a part of it; an empty part where uncode refuses the code or there is no such field.
-// The part is known by its bytes and by where it lies: in the code's own memory, at the place of the field.
+// The ID field of a code, as a part of it; an empty part if uncode refuses the code or there is no such field.
+// The contract gives the part's bytes and where it lies: in the code's own memory, at the place of the field.
 pub fn fields<'a>(code: &'a [u8]) -> &'a [u8]
     ensures { λ r. ⌜ (now r ≡ idField (now (code .entry))) × (r .ptr ≡ further (code .entry .ptr) (idPlace (now (code .entry)) .start)) ⌝ }
 {

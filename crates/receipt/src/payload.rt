@@ -33,7 +33,7 @@ ghost use Rattle.receipt.specs.Texts.{separator};
 ghost use Rattle.receipt.specs.Payload.{base64, registerPart, moment, counterContent, counterField, closing, body, payload, counterGood, fieldsGood};
 ghost use Rattle.receipt.specs.PayloadReading.{eight, fieldWidth, kindOf, readCounter, readChain, readDetails, readable, Placed, foundIn, blank, readFields};
 
-// What a payload spells. The counter: N bytes and zeros behind them; eight zeros where the kind is not Standard.
+// What a payload spells. The counter is N bytes, then zeros; eight zeros if the kind is not Standard.
 pub struct PayloadFields {
     pub details: Details,
     pub counter: [u8; 8],
@@ -42,7 +42,7 @@ pub struct PayloadFields {
 
 // ---- writing
 
-// BASE64 of a slice, at a place; the place behind it.
+// Writes BASE64 of a slice at a place; returns the place after it.
 fn put_base64(out: &mut [u8], at: usize, src: &[u8]) -> usize
     requires { ⌜ at + length (base64 (now src)) ≤ length (now out) ⌝ }
     ensures { λ r. ⌜ (r ≡ at + length (base64 (now (src .entry)))) × (now (out .exit) ≡ overwrite (now (out .entry)) at (base64 (now (src .entry)))) ⌝ }
@@ -50,7 +50,7 @@ fn put_base64(out: &mut [u8], at: usize, src: &[u8]) -> usize
     primitives::base64_encode(Alphabet::Standard, src, out, at)
 }
 
-// "_R1-", the CSP, '_', the ID, '_', at a place; the place behind them.
+// Writes "_R1-", the CSP, '_', the ID and '_' at a place; returns the place after them.
 fn put_register(out: &mut [u8], at: usize, s: Settings) -> usize
     requires { ⌜ (s .id .len ≤ 32) × (at + (9 + s .id .len) ≤ length (now out)) ⌝ }
     ensures { λ r. ⌜ (r ≡ at + (9 + s .id .len)) × (now (out .exit) ≡ overwrite (now (out .entry)) at (registerPart s)) ⌝ }
@@ -66,7 +66,7 @@ fn put_register(out: &mut [u8], at: usize, s: Settings) -> usize
     at + 9 + n
 }
 
-// Number and date, each with a '_' behind it, at a place; the place behind them.
+// Writes number and date, each followed by a '_', at a place; returns the place after them.
 fn put_moment(out: &mut [u8], at: usize, number: u32, date: DateTime) -> usize
     requires { ⌜ at + length (moment number date) ≤ length (now out) ⌝ }
     ensures { λ r. ⌜ (r ≡ at + length (moment number date)) × (now (out .exit) ≡ overwrite (now (out .entry)) at (moment number date)) ⌝ }
@@ -104,7 +104,7 @@ fn counter_content(n: usize, kind: Kind, counter: [u8; 8]) -> Content
     }
 }
 
-// The counter field and a '_', at a place; the place behind them.
+// Writes the counter field and a '_' at a place; returns the place after them.
 fn put_counter(out: &mut [u8], at: usize, n: usize, kind: Kind, counter: [u8; 8]) -> usize
     requires { ⌜ (n ≤ 8) × (at + length (counterField n kind counter) + 1 ≤ length (now out)) ⌝ }
     ensures { λ r. let y : _ = counterField n kind counter in
@@ -118,7 +118,7 @@ fn put_counter(out: &mut [u8], at: usize, n: usize, kind: Kind, counter: [u8; 8]
     p + 1
 }
 
-// Counter field, '_', serial, '_' and chain field, at a place; the place behind them.
+// Writes counter field, '_', serial, '_' and chain field at a place; returns the place after them.
 fn put_closing(out: &mut [u8], at: usize, s: Settings, n: usize, f: PayloadFields) -> usize
     requires { ⌜ (s .serial .len ≤ 32) × (n ≤ 8) × (at + length (closing s n f) ≤ length (now out)) ⌝ }
     ensures { λ r. ⌜ (r ≡ at + length (closing s n f)) × (now (out .exit) ≡ overwrite (now (out .entry)) at (closing s n f)) ⌝ }
@@ -135,7 +135,7 @@ fn put_closing(out: &mut [u8], at: usize, s: Settings, n: usize, f: PayloadField
     put_base64(out, p + m + 1, &chain)
 }
 
-// What stands behind the register part, at a place; the place behind it.
+// Writes what follows the register part at a place; returns the place after it.
 fn put_body(out: &mut [u8], at: usize, s: Settings, n: usize, f: PayloadFields) -> usize
     requires { ⌜ (s .serial .len ≤ 32) × (n ≤ 8) × (at + length (body s n f) ≤ length (now out)) ⌝ }
     ensures { λ r. ⌜ (r ≡ at + length (body s n f)) × (now (out .exit) ≡ overwrite (now (out .entry)) at (body s n f)) ⌝ }
@@ -148,7 +148,7 @@ fn put_body(out: &mut [u8], at: usize, s: Settings, n: usize, f: PayloadFields) 
     put_closing(out, q, s, n, f)
 }
 
-// A payload, at a place; the place behind it.
+// Writes a payload at a place; returns the place after it.
 pub(crate) fn put_payload(
     out: &mut [u8],
     at: usize,
@@ -163,7 +163,7 @@ pub(crate) fn put_payload(
     put_body(out, p, s, n, f)
 }
 
-// ---- which fields it may have
+// ---- which fields a payload may have
 
 // Every byte from a place on is zero.
 fn zero_from(b: [u8; 8], at: usize) -> bool
@@ -173,7 +173,7 @@ fn zero_from(b: [u8; 8], at: usize) -> bool
     every(Letters::Zero, &b[n..8])
 }
 
-// No byte of the counter stands where its field does not spell it.
+// Every byte of the counter that its field does not spell is zero.
 fn counter_good(n: usize, kind: Kind, counter: [u8; 8]) -> bool
     ensures { λ r. ⌜ r ≡ counterGood n kind counter ⌝ }
 {
@@ -184,7 +184,7 @@ fn counter_good(n: usize, kind: Kind, counter: [u8; 8]) -> bool
     }
 }
 
-// What a payload's fields have to be: number not 0, date and time, amounts within limits, no stray byte of the counter.
+// What a payload's fields must meet: number not 0, good date and time, amounts within limits, no stray byte in the counter.
 pub(crate) fn fields_good(n: usize, f: PayloadFields) -> bool
     ensures { λ r. ⌜ r ≡ fieldsGood n f ⌝ }
 {
@@ -228,7 +228,7 @@ fn find_places(text: &[u8], at: usize) -> Places
     }
 }
 
-// Long enough to be read.
+// The text is long enough to be read.
 fn readable(text: &[u8], at: usize, p: Places) -> bool
     requires { ⌜ Placed (now text) (drop at (now text)) p ⌝ }
     ensures { λ r. ⌜ r ≡ readable (drop at (now (text .entry))) ⌝ }
@@ -253,7 +253,7 @@ fn kind_at(text: &[u8], at: usize) -> Kind
     Kind::Standard
 }
 
-// The bytes of a text of BASE64, with zeros behind them.
+// The bytes of a BASE64 text, then zeros.
 fn eight(text: &[u8]) -> [u8; 8]
     ensures { λ r. ⌜ r ≡ eight (now (text .entry)) ⌝ }
 {
@@ -286,7 +286,7 @@ fn read_counter(text: &[u8], at: usize, n: usize, kind: Kind) -> [u8; 8]
     }
 }
 
-// The bytes of the chain field, the last twelve bytes.
+// The bytes of the chain field, which is the last twelve bytes of the text.
 fn read_chain(text: &[u8]) -> [u8; 8]
     requires { ⌜ 12 ≤ length (now text) ⌝ }
     ensures { λ r. ⌜ r ≡ readChain (now (text .entry)) ⌝ }
@@ -329,7 +329,7 @@ fn read_fields(text: &[u8], at: usize, n: usize, p: Places) -> PayloadFields
     }
 }
 
-// Fields of a text that is too short.
+// Blank fields, for a text that is too short.
 pub(crate) fn blank() -> PayloadFields
     ensures { λ r. ⌜ r ≡ blank ⌝ }
 {

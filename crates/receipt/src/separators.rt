@@ -1,9 +1,9 @@
-// Fields joined by '_': the places behind the next ones.
+// Fields joined by '_': finding the place after the next ones.
 ghost use Prim.Native.Nat.{_≤_};
 ghost use lib.ListN.{length, drop};
 ghost use Rattle.receipt.specs.Separated.{after, skip, At};
 
-// The place behind the next '_', or the end.
+// The place after the next '_', or the end.
 pub(crate) fn next_field(text: &[u8], at: usize) -> usize
     requires { ⌜ at ≤ length (now text) ⌝ }
     ensures { λ r. ⌜ At (now (text .entry)) r (after (drop at (now (text .entry)))) ⌝ }
@@ -18,7 +18,7 @@ pub(crate) fn next_field(text: &[u8], at: usize) -> usize
     i
 }
 
-// The place behind n fields.
+// The place after n fields.
 pub(crate) fn skip_fields(text: &[u8], at: usize, n: usize) -> usize
     requires { ⌜ at ≤ length (now text) ⌝ }
     ensures { λ r. ⌜ At (now (text .entry)) r (skip n (drop at (now (text .entry)))) ⌝ }

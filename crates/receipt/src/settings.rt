@@ -4,7 +4,7 @@ ghost use mathlib.Core.Path.{_≡_};
 ghost use Prim.Native.Nat.{min};
 ghost use Rattle.receipt.specs.Settings.{between, idLetter, serialLetter, letterGood, every, nameGood, cspGood, idGood, serialGood, settingsGood, settingsNumber, nameOf};
 
-// A register ID or a serial: its bytes up to its length, and zeros behind its end.
+// A register ID or a serial: its bytes up to its length, then zeros.
 pub struct Name {
     pub bytes: [u8; 32],
     pub len: usize,
@@ -16,7 +16,7 @@ pub struct Settings {
     pub serial: Name,
 }
 
-// What a byte of a name may be: a letter of an ID, a letter of a serial, or the zero behind the end.
+// What a byte of a name may be: a letter of an ID, a letter of a serial, or the zero after the end.
 pub enum Letters {
     Id,
     Serial,
@@ -76,7 +76,7 @@ pub(crate) fn every(class: Letters, s: &[u8]) -> bool
     true
 }
 
-// 1 to 32 bytes of the class, and zeros behind them.
+// 1 to 32 bytes of the class, then zeros.
 fn name_good(class: Letters, name: Name) -> bool
     ensures { λ r. ⌜ r ≡ nameGood class name ⌝ }
 {
@@ -136,7 +136,7 @@ pub fn settings_good(s: Settings) -> bool
     serial_good(serial)
 }
 
-// Questions 1 to 4, of settings and a counter's width; 0 where every answer is yes.
+// Questions 1 to 4, asked of settings and a counter's width; 0 if every answer is yes.
 pub fn settings_number(s: Settings, n: usize) -> u32
     ensures { λ r. ⌜ r ≡ settingsNumber s n 0 ⌝ }
 {
@@ -158,14 +158,14 @@ pub fn settings_number(s: Settings, n: usize) -> u32
     0
 }
 
-// The lesser of two numbers.
+// The smaller of two numbers.
 pub(crate) fn lesser(a: usize, b: usize) -> usize
     ensures { λ r. ⌜ r ≡ min a b ⌝ }
 {
     if a <= b { a } else { b }
 }
 
-// The name with this text. Of a text over 32 bytes the first 32 are copied, and its length makes the name bad.
+// The name with this text. If the text is over 32 bytes long, the first 32 are copied, and the length makes the name bad.
 pub fn name_of(text: &[u8]) -> Name
     ensures { λ r. ⌜ r ≡ nameOf (now (text .entry)) ⌝ }
 {

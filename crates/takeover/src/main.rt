@@ -1,6 +1,6 @@
-// Takes over the journal on standard input: one byte N, 32 of key, the journal. Prints one line: "accepted", receipts and the
-// counter in cents; or "refused", number and index. Input under 33 or over 65,536 bytes is refused with 25, and so is input
-// that cannot be read to its end.
+// Takes over the journal on standard input: one byte N, 32 bytes of key, then the journal. Prints one line: "accepted", receipts
+// and the counter in cents; or "refused", number and index. Input under 33 or over 65,536 bytes is refused with 25, and so is
+// input that cannot be read to its end.
 use journal::TakenOver;
 use libc::STDIN_FILENO;
 
@@ -32,9 +32,9 @@ fn answer(input: &[u8], n: usize) {
     print_answer(journal::take_over(&input[33..n], key, wide(input[0])));
 }
 
-// What came of reading the input.
+// The result of reading the input.
 enum Input {
-    // It ended after so many bytes.
+    // The input ended after this many bytes.
     Ended(usize),
     // A read failed, or the buffer is full: no end was seen.
     NoEnd,
@@ -57,7 +57,7 @@ fn read_input(buf: &mut [u8]) -> Input {
     Input::NoEnd
 }
 
-// The buffer has room for one byte more than the input may have, so that the end of the longest input is seen.
+// The buffer is one byte longer than the input may be, so that the end of the longest input is seen.
 fn main() {
     let mut input = [0u8; 65537];
     match read_input(&mut input) {

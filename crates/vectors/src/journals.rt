@@ -151,7 +151,7 @@ fn details_of(line: &[u8]) -> Details {
     }
 }
 
-// What the device is given to sign.
+// The text that the device is given to sign.
 fn print_prepared(name: &[u8], st: State, d: Details) {
     let mut out = [0u8; 368];
     let a = journal::prepare(st, d, &mut out);
@@ -179,7 +179,7 @@ fn issue(name: &[u8], st: State, d: Details, signature: &[u8], n: usize, buf: &m
     next
 }
 
-// A row without a signature is of a device that has failed.
+// A row without a signature is that of a failed device.
 fn issue_row(st: State, line: &[u8], buf: &mut [u8]) -> State {
     let d = details_of(line);
     let mut signature = [0u8; 64];

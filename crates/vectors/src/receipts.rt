@@ -25,7 +25,7 @@ pub(crate) fn chain_row(line: &[u8]) {
     print_first(field(line, 0), &text, n);
 }
 
-// A number below 2^32; 0 where it is none.
+// A number below 2^32; 0 if it is larger.
 pub(crate) fn number_of(text: &[u8]) -> u32 {
     let v = digits(text, 0);
     if 4294967295 < v {

@@ -20,7 +20,7 @@ fn wide(b: u8) -> usize {
     b as usize
 }
 
-// The first n bytes of an input: one byte N, 32 of key, the journal.
+// The first n bytes of an input: one byte N, 32 bytes of key, then the journal.
 fn print_input(name: &[u8], input: &[u8], n: usize) {
     let mut key = [0u8; 32];
     if n < 33 {

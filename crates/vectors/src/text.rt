@@ -1,4 +1,4 @@
-// The figures of a line: fields between tabs, hexadecimal and decimal.
+// The fields of a line: finding them between tabs, and reading hexadecimal and decimal ones.
 ghost use Prim.Native.Nat.{_≤_};
 ghost use lib.ListN.{length};
 
@@ -17,7 +17,7 @@ pub(crate) fn find(text: &[u8], from: usize, mark: u8) -> usize
     i
 }
 
-// The field after k tabs; nothing where there are fewer.
+// The field after k tabs; empty if there are fewer.
 pub(crate) fn field(line: &[u8], k: usize) -> &[u8] {
     let mut a: usize = 0;
     let mut left = k;
@@ -49,7 +49,7 @@ fn byte_of(a: u8, b: u8) -> u8 {
     nibble(a) * 16 + nibble(b)
 }
 
-// The bytes of a hexadecimal text at the start of a buffer, as many as there is room for; the place after them.
+// Writes the bytes of a hexadecimal text to the start of a buffer, as many as there is room for; returns the place after them.
 pub(crate) fn unhex(s: &[u8], out: &mut [u8]) -> usize {
     let mut p: usize = 0;
     let mut i: usize = 0;
@@ -70,7 +70,7 @@ fn letter(n: u8) -> u8 {
     87 + d
 }
 
-// Bytes in hexadecimal at a place, as many as there is room for; the place after them.
+// Writes bytes in hexadecimal at a place, as many as there is room for; returns the place after them.
 pub(crate) fn put_hex(out: &mut [u8], at: usize, s: &[u8]) -> usize {
     let mut p = at;
     let mut i: usize = 0;
@@ -82,7 +82,7 @@ pub(crate) fn put_hex(out: &mut [u8], at: usize, s: &[u8]) -> usize {
     p
 }
 
-// The number of a decimal text from a place on; 0 where it is past 19 digits.
+// The number in a decimal text from a place on; 0 if it is above 2^63 + 1.
 pub(crate) fn digits(s: &[u8], from: usize) -> u64 {
     let mut v: u64 = 0;
     let mut i = from;
@@ -96,7 +96,7 @@ pub(crate) fn digits(s: &[u8], from: usize) -> u64 {
     v
 }
 
-// A decimal number of 64 bits with a '-' where it is below zero; 0 where it is none.
+// A decimal number of 64 bits, with a '-' if it is negative; 0 if it is out of range.
 pub(crate) fn decimal(s: &[u8]) -> i64 {
     if s.len() == 0 {
         return 0;

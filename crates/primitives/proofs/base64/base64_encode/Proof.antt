@@ -1,4 +1,4 @@
--- `base64::base64_encode` meets its contract: the letters are written, and the padding behind them.
+-- `base64::base64_encode` meets its contract: the letters are written, and the padding after them.
 use native.Mathlib.Omega.{arith}
 use lib.ListN.{length}
 use borrow.Author.Needs.{needs}

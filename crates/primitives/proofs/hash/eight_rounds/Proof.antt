@@ -1,4 +1,4 @@
--- `eight_rounds` meets its contract: one round behind the other.
+-- `eight_rounds` meets its contract: one round after the other.
 use native.Mathlib.Omega.{arith}
 use Rattle.primitives.proofs.Compression.{rounds-then}
 use Rattle.primitives.proofs.hash.eight_rounds.Statement.{statement}
