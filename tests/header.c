@@ -1,6 +1,6 @@
-/* What include/ditgrux.h says beside the contracts: the wrappers pass every detail to its place, an empty signature may be NULL, the
- * walk of the entries ends at the length of the journal, what is left after a refusal, what to do when the buffer is full, and where
- * power fails.
+/* What include/ditgrux.h says besides the contracts: the wrappers pass every detail to its place and back, an empty signature may be
+ * NULL, the walk of the entries ends at the length of the journal, what is left after a refusal, what to do when the buffer is full, and
+ * where power fails.
  * Prints each line that fails; exit status 1 where one does. Compiles as C99 and as C++11. */
 #include "ditgrux.h"
 
@@ -112,6 +112,69 @@ static void wrappers(void)
     CHECK(walk(journal, &forms) == ditgrux_journal_length(state, sizeof state) && forms == 4);
 }
 
+static int same_details(const struct ditgrux_details *a, const struct ditgrux_details *b)
+{
+    return a->number == b->number && a->year == b->year && a->month == b->month && a->day == b->day && a->hour == b->hour &&
+           a->minute == b->minute && a->second == b->second && a->kind == b->kind && a->standard == b->standard &&
+           a->reduced_1 == b->reduced_1 && a->reduced_2 == b->reduced_2 && a->zero == b->zero && a->special == b->special;
+}
+
+/* Issues these details, and reads them back from the journal by name, under settings or under the start of a state. */
+static void reads_back(const uint8_t *under, const struct ditgrux_details *details, size_t signed_bytes)
+{
+    struct ditgrux_details found = details_of(0, 9, 1);
+    uint8_t given[DITGRUX_SIGNATURE];
+    size_t at = ditgrux_journal_length(state, sizeof state) + 2, length;
+    memset(given, 0xA5, sizeof given);
+    CHECK(ditgrux_issue_details(state, sizeof state, details, signature, signed_bytes, journal, sizeof journal) == DITGRUX_DONE);
+    CHECK(ditgrux_read_details(under, DITGRUX_SETTINGS, journal + at, ditgrux_journal_length(state, sizeof state) - at, &found, given,
+                               &length) == DITGRUX_DONE);
+    CHECK(same_details(&found, details) && length == signed_bytes);
+    CHECK(signed_bytes ? memcmp(given, signature, sizeof given) == 0 : is_all(0xA5, given, sizeof given));
+}
+
+/* Each kind, with the largest and the smallest amounts, signed and not; and what a refusal leaves. The register is one of its own. */
+static void reading(void)
+{
+    static const int64_t most = 9999999999;
+    struct ditgrux_details details = details_of(1, DITGRUX_STANDARD, 0), kept = details;
+    uint8_t bytes[DITGRUX_DETAILS + 1], given[DITGRUX_SIGNATURE + 1], other_settings[DITGRUX_SETTINGS];
+    size_t at, length, wrote;
+
+    CHECK(ditgrux_version() == DITGRUX_VERSION);
+    CHECK(ditgrux_open(settings, sizeof settings, journal, sizeof journal, state, sizeof state) == DITGRUX_DONE);
+    reads_back(settings, &details, sizeof signature);
+    details = details_of(4000000000u, DITGRUX_CANCELLATION, -1);
+    details.standard = -most;
+    details.special = most;
+    reads_back(state, &details, 0);
+    at = ditgrux_journal_length(state, sizeof state) + 2;
+    details = details_of(4294967295u, DITGRUX_TRAINING, 1000);
+    reads_back(state, &details, sizeof signature);
+    length = ditgrux_journal_length(state, sizeof state) - at;
+
+    /* the layout: number at 0, kind at 28, the first amount at 32 */
+    memset(bytes, 0xA5, sizeof bytes);
+    CHECK(ditgrux_read(state, DITGRUX_SETTINGS, journal + at, length, bytes, DITGRUX_DETAILS, given, DITGRUX_SIGNATURE, &wrote) == 0);
+    CHECK(is_all(0xFF, bytes, 4) && number_at(bytes + 28, 4) == DITGRUX_TRAINING && number_at(bytes + 32, 8) == 7000 && wrote == 64);
+    CHECK(bytes[DITGRUX_DETAILS] == 0xA5);
+
+    /* refused: nothing is changed */
+    memset(bytes, 0xA5, sizeof bytes);
+    memset(given, 0xA5, sizeof given);
+    CHECK(ditgrux_read(state, DITGRUX_STATE, journal + at, length, bytes, 72, given, 64, &wrote) == DITGRUX_BAD_CSP && wrote == 0);
+    CHECK(ditgrux_read(state, DITGRUX_SETTINGS, journal + at - 2, length + 2, bytes, 72, given, 64, &wrote) == DITGRUX_ENTRY_MISSPELLED);
+    CHECK(ditgrux_read(state, DITGRUX_SETTINGS, journal + at, length, bytes, 73, given, 64, &wrote) == DITGRUX_OUTPUT_SHORT && wrote == 0);
+    CHECK(ditgrux_read(state, DITGRUX_SETTINGS, journal + at, length, bytes, 72, given, 65, &wrote) == DITGRUX_OUTPUT_SHORT && wrote == 0);
+    CHECK(is_all(0xA5, bytes, sizeof bytes) && is_all(0xA5, given, sizeof given));
+    CHECK(ditgrux_settings((const uint8_t *)"AT0", 3, (const uint8_t *)"TILL-2", 6, (const uint8_t *)"1a2b", 4, 8, key, sizeof key,
+                           other_settings, sizeof other_settings) == DITGRUX_DONE);
+    details = kept;
+    CHECK(ditgrux_read_details(other_settings, sizeof other_settings, journal + at, length, &details, given, &wrote) ==
+          DITGRUX_ENTRY_MISSPELLED);
+    CHECK(same_details(&details, &kept) && is_all(0xA5, given, sizeof given) && wrote == 0);
+}
+
 /* A cancellation with positive amounts is not refused and raises the counter. */
 static void positive_cancellation(void)
 {
@@ -215,5 +278,6 @@ int main(void)
     full();
     refusals();
     power_cut();
+    reading();
     return failures ? 1 : 0;
 }

@@ -18,7 +18,7 @@ static const uint8_t name[DITGRUX_LONGEST_NAME + 1] = "0123456789abcdef012345678
 static ucontext_t home, away;
 static uint32_t number, answer, index_;
 static size_t length, start, form_start, form_length, code_length, room, cut;
-static uint8_t hash[DITGRUX_HASH], form[DITGRUX_LONGEST_COMPACT], text[1024];
+static uint8_t hash[DITGRUX_HASH], given[DITGRUX_SIGNATURE], form[DITGRUX_LONGEST_COMPACT], text[1024];
 
 static void nothing(void) {}
 
@@ -69,8 +69,15 @@ static void fields(void)
     answer = ditgrux_fields(output, code_length - cut, &start, &length);
 }
 
+static void read_back(void)
+{
+    answer = ditgrux_read(settings, sizeof settings, journal + form_start, form_length - cut, text, room, given, sizeof given,
+                          &length);
+}
+
 static void figures(void)
 {
+    ditgrux_version();
     ditgrux_counter(state, sizeof state);
     ditgrux_last_number(state, sizeof state);
     ditgrux_receipts(state, sizeof state);
@@ -162,7 +169,13 @@ static int texts(void)
     memcpy(output, text, code_length);
     bad += exactly("payload", code_length - 89, DITGRUX_LONGEST_PAYLOAD) + measure("uncode", uncode, 0);
     bad += measure("fields", fields, 0) + exactly("name", length, DITGRUX_LONGEST_NAME);
-    bad += measure("figures", figures, 0) + measure("sha256", sha256, 0);
+    room = DITGRUX_DETAILS;
+    bad += measure("read", read_back, 0);
+    cut = 1;
+    bad += measure("read", read_back, DITGRUX_ENTRY_MISSPELLED);
+    cut = 0;
+    room = sizeof text;
+    bad += measure("read", read_back, DITGRUX_OUTPUT_SHORT) + measure("figures", figures, 0) + measure("sha256", sha256, 0);
     cut = 1;
     bad += measure("code", code, DITGRUX_BAD_FORM) + measure("uncode", uncode, DITGRUX_BAD_CODE) + measure("fields", fields, DITGRUX_BAD_CODE);
     bad += measure("sha256", sha256, DITGRUX_OUTPUT_SHORT);

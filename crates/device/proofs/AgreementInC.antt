@@ -187,10 +187,10 @@ module _ {j key : List ℕ} {n : ℕ} (v : Valid j key n) where
       start = opening (v .settings) key n (g .journal)
 
       -- what the journal proves
-      anew : (openNumber (v .settings) n (length (g .journal)) ≡ 0) × (numbersOf start (callsOf (v .entries)) ≡ replicate (length (v .entries)) 0)
+      rewritten : (openNumber (v .settings) n (length (g .journal)) ≡ 0) × (numbersOf start (callsOf (v .entries)) ≡ replicate (length (v .entries)) 0)
           × (calls start (callsOf (v .entries)) .buf ≡ j) × (calls start (callsOf (v .entries)) .state ≡ takeOver j key n .state)
       unfolding start
-      anew =
+      rewritten =
           let w = accepted-is-written j key n kb v (g .journal) lg in
           (w .opened, w .none, w .journal, w .state)
 
@@ -203,7 +203,7 @@ module _ {j key : List ℕ} {n : ℕ} (v : Valid j key n) where
       again-opened =
           ap (λ (x : Opened). x .number) (open-answer b (length (g .journal)) (length (g .state)) ls)
           ∙ opened-number (settingsOf b) (keyOf b) (widthOf b) (length (g .journal))
-          ∙ (λ i. openNumber (read .0 i) (read .1 i) (length (g .journal))) ∙ anew .0
+          ∙ (λ i. openNumber (read .0 i) (read .1 i) (length (g .journal))) ∙ rewritten .0
 
       again-start : openedSlices b g ≡ slicesOf start
       unfolding start
@@ -222,7 +222,7 @@ module _ {j key : List ℕ} {n : ℕ} (v : Valid j key n) where
 
       made : Same start cs
       unfolding start
-      made = same-calls (v .settings) n key (g .journal) (v .typed) again-typed (omega arith) (anew .0) cs typed
+      made = same-calls (v .settings) n key (g .journal) (v .typed) again-typed (omega arith) (rewritten .0) cs typed
 
       again-left : issuedAll (openedSlices b g) cs ≡ slicesOf (calls start (callsOf (v .entries)))
       again-left = ap (λ (x : Slices). issuedAll x cs) again-start ∙ made .slices ∙ ap (λ (x : List Call). slicesOf (calls start x)) same
@@ -234,13 +234,13 @@ module _ {j key : List ℕ} {n : ℕ} (v : Valid j key n) where
           let t : TypedState st = subst (λ (x : List Call). TypedState (calls start x .state)) same (made .typed) in
           record {
             typed = typed;
-            none = ap (λ (x : Slices). issuedNumbers x cs) again-start ∙ made .numbers ∙ ap (numbersOf start) same ∙ anew .1;
-            journal = ap (λ (x : Slices). x .journal) again-left ∙ anew .2;
+            none = ap (λ (x : Slices). issuedNumbers x cs) again-start ∙ made .numbers ∙ ap (numbersOf start) same ∙ rewritten .1;
+            journal = ap (λ (x : Slices). x .journal) again-left ∙ rewritten .2;
             state = λ out l.
-                ap (λ (x : Slices). x .state) again-left ∙ ap stateBytes (anew .3)
+                ap (λ (x : Slices). x .state) again-left ∙ ap stateBytes (rewritten .3)
                 ∙ sym (kept-all out (takeOverAnswer j key n 155 .state) l ∙ ap (λ (x : TakenOver). stateBytes (x .state)) (take-over-same j key n lk));
             counter =
-                ap (λ (x : Slices). stateOf (x .state) .counter) again-left ∙ ap (λ (x : State). x .counter) (state-is-read st t ∙ anew .3)
+                ap (λ (x : Slices). stateOf (x .state) .counter) again-left ∙ ap (λ (x : State). x .counter) (state-is-read st t ∙ rewritten .3)
                 ∙ accepted-is-written j key n kb v (g .journal) lg .counter;
           }
 

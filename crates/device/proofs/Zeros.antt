@@ -15,7 +15,7 @@ use Rattle.journal.specs.Issuing.{issueNumber}
 use Rattle.journal.specs.Preparing.{prepareNumber}
 use Rattle.device.specs.Layout.{settingsBytes, figuresBytes, stateBytes}
 use Rattle.device.specs.Details.{noDetails}
-use Rattle.device.specs.Laws.{UnopenedIsZero, NoSettingsGetOne, UnopenedGetsSix, NoKindGetsSeven}
+use Rattle.device.specs.Laws.{UnopenedIsZero, NoSettingsGetOne, UnopenedGetsSix, UnknownKindGetsSeven}
 
 pub unopened-is-zero : UnopenedIsZero
 unfolding stateBytes settingsBytes figuresBytes unopened bytesOf counterBytes counterFits fitsIn half widthGood twos
@@ -37,6 +37,6 @@ pub unopened-gets-six : UnopenedGetsSix
 unfolding issueNumber prepareNumber sound ask
 unopened-gets-six d sig room = (rw unopened-unsound, rw unopened-unsound)
 
-pub no-kind-gets-seven : NoKindGetsSeven
+pub unknown-kind-gets-seven : UnknownKindGetsSeven
 unfolding detailsNumber numberAbove noDetails ask
-no-kind-gets-seven st rest = rw (le-ltb (st .last) 0 (omega arith))
+unknown-kind-gets-seven st rest = rw (le-ltb (st .last) 0 (omega arith))

@@ -24,7 +24,7 @@ use Rattle.device.specs.Details.{detailsOf}
 unfoldable pub settingsFrom : List ℕ → List ℕ → List ℕ → Settings
 settingsFrom csp id serial = record { csp = arrayOf 3 csp; id = nameOf id; serial = nameOf serial }
 
--- the width that comes with a key: 0, which is no width, where the key is not 32 bytes long
+-- the width to use with a key: 0, which is not a valid width, if the key is not 32 bytes long
 unfoldable pub widthWith : List ℕ → ℕ → ℕ
 widthWith key n = cond (eqb (length key) 32) n 0
 
@@ -56,7 +56,7 @@ openAnswer settings room size =
 unfoldable pub openedNumber : List ℕ → Slices → ℕ
 openedNumber settings g = openAnswer settings (length (g .journal)) (length (g .state)) .number
 
--- what it leaves; nothing is written where the state's slice is not 155 bytes long
+-- what it leaves; nothing is written if the state's slice is not 155 bytes long
 unfoldable pub openedSlices : List ℕ → Slices → Slices
 openedSlices settings g =
     record {
@@ -66,7 +66,7 @@ openedSlices settings g =
 
 -- ---- issue
 
--- what a call of ditgrux_issue is given beside state and journal
+-- what a call of ditgrux_issue gets besides state and journal
 pub record IssueCall : Type 0 where
   pub number : ℕ
   pub year : ℕ
@@ -111,7 +111,7 @@ callIn c =
       signature = c .signature;
     }
 
--- what the journal answers it: questions 6 to 13
+-- what the journal answers: questions 6 to 13
 unfoldable pub issueAnswer : Slices → IssueCall → Issued
 issueAnswer g c = issued (stateOf (g .state)) (callIn c .details) (c .signature) (length (g .journal))
 

@@ -1,4 +1,4 @@
--- Demand 3 in bytes: what a C program holds after ditgrux_open and a list of ditgrux_issue, and what ditgrux_take_over answers it.
+-- Demand 3 in bytes: what a C program holds after ditgrux_open and a list of ditgrux_issue, and what ditgrux_take_over answers.
 use Prim.Native.Nat.{ℕ, _<_}
 use mathlib.Core.Path.{_≡_}
 use mathlib.Core.Bool.{true}
@@ -113,7 +113,7 @@ callWithDetails d signature =
 unfoldable pub issueCallOf : Entry → IssueCall
 issueCallOf e = callWithDetails (e .fields .details) (callOf e .signature)
 
--- what holds where the entries es of the journal j are issued anew, from the slices g that ditgrux_open left
+-- what holds where the entries es of the journal j are issued again, from the slices g that ditgrux_open left
 pub record AgainInC (j key : List ℕ) (n : ℕ) (es : List Entry) (g : Slices) : Type 0 where
   -- one call for each entry, such as C's types allow: each returns 0
   pub typed : TypedIssueCalls (map issueCallOf es)
@@ -126,7 +126,7 @@ pub record AgainInC (j key : List ℕ) (n : ℕ) (es : List Entry) (g : Slices) 
   pub counter : stateOf (issuedAll g (map issueCallOf es) .state) .counter ≡ sum (receiptsIn es)
 
 -- for every accepted journal: ditgrux_settings returns 0 with the CSP, ID and serial of its head and the key and width under which it was accepted,
--- ditgrux_open returns 0 with what it writes "and any buffer of its length", and then the entries are issued anew
+-- ditgrux_open returns 0 with what it writes "and any buffer of its length", and then the entries are issued again
 abbrev pub AcceptedIsWrittenInC : Type 0
 AcceptedIsWrittenInC =
     (j key : List ℕ) (n : ℕ) → length j < 18446744073709551616 → AllBytes key → length key ≡ 32 → (v : Valid j key n)

@@ -14,7 +14,7 @@ use Rattle.receipt.specs.declared.details.Details.{Details}
 
 -- ---- from thirteen numbers
 
--- all zero: a number that question 7 always refuses
+-- all zero: question 7 refuses number 0 always
 unfoldable pub noDetails : Details
 noDetails =
     record {
@@ -31,7 +31,7 @@ dateOf year month day hour minute second =
 unfoldable pub detailsWith : ℕ → DateTime → List ℤ → Kind → Details
 detailsWith number date amounts kind = record { number = number; date = date; amounts = amounts; kind = kind }
 
--- kinds 0, 1 and 2; nothing of a receipt with another kind
+-- details of kind 0, 1 or 2; all zero for any other kind
 unfoldable pub ofKind : ℕ → DateTime → List ℤ → ℕ → Details
 ofKind number date amounts kind =
     cond (eqb kind 0) (detailsWith number date amounts Standard)

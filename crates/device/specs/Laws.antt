@@ -26,7 +26,7 @@ SettingsAreRead =
     (s : Settings) (n : ℕ) (key : List ℕ) → TypedRegister s n key
     → (settingsOf (settingsBytes s n key) ≡ s) × (widthOf (settingsBytes s n key) ≡ n) × (keyOf (settingsBytes s n key) ≡ key)
 
--- what ditgrux_settings writes where it returns 0 is what it was given
+-- where ditgrux_settings returns 0, it has written what it was given
 abbrev pub WrittenSettingsAreRead : Type 0
 WrittenSettingsAreRead =
     (csp id serial key : List ℕ) (n : ℕ) (out : List ℕ) → AllBytes key → settingsAnswer (settingsFrom csp id serial) (widthWith key n) (length out) ≡ 0
@@ -48,15 +48,15 @@ BytesAreKept = (b : List ℕ) → AllBytes b → length b ≡ 155 → stateBytes
 abbrev pub UnopenedIsZero : Type 0
 UnopenedIsZero = stateBytes unopened ≡ replicate 155 0
 
--- settings of another length get 1, a state of another length gets 6, and a kind that is none gets 7
+-- settings of another length get 1, a state of another length gets 6, and an unknown kind gets 7
 abbrev pub NoSettingsGetOne : Type 0
 NoSettingsGetOne = (n room : ℕ) → openNumber (unopened .settings) n room ≡ 1
 
 abbrev pub UnopenedGetsSix : Type 0
 UnopenedGetsSix = (d : Details) (sig : List ℕ) (room : ℕ) → (issueNumber unopened d sig room ≡ 6) × (prepareNumber unopened d room ≡ 6)
 
-abbrev pub NoKindGetsSeven : Type 0
-NoKindGetsSeven = (st : State) (rest : ℕ) → detailsNumber st noDetails rest ≡ 7
+abbrev pub UnknownKindGetsSeven : Type 0
+UnknownKindGetsSeven = (st : State) (rest : ℕ) → detailsNumber st noDetails rest ≡ 7
 
 -- ---- a refused ditgrux_issue leaves the bytes of the state and the journal as they were, also where the state is not 155 bytes long
 
@@ -77,6 +77,6 @@ pub record TypedDetails (d : Details) : Type 0 where
   pub five : length (d .amounts) ≡ 5
   pub amounts : (i : ℕ) → i < 5 → fitsIn 8 (getD (d .amounts) i (pos 0)) ≡ true
 
--- they are read from their bytes: different details have different bytes
+-- details are read back from their 72 bytes, so different details have different bytes
 abbrev pub DetailsAreRead : Type 0
 DetailsAreRead = (d : Details) → TypedDetails d → (length (detailsBytes d) ≡ 72) × (detailsIn (detailsBytes d) ≡ d)

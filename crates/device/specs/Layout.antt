@@ -34,7 +34,7 @@ figuresBytes st = counterBytes 8 (st .counter) ++ bytesOf 4 (st .last) ++ bytesO
 unfoldable pub stateBytes : State → List ℕ
 stateBytes st = settingsBytes (st .settings) (st .width) (st .key) ++ figuresBytes st
 
--- ---- reading, from bytes that are all there
+-- ---- reading, where no byte is missing
 
 -- a name at a place: 32 bytes, and its length in 8
 unfoldable pub nameAt : List ℕ → ℕ → Name
@@ -64,11 +64,11 @@ stateAt b =
 
 -- ---- slices of any length
 
--- n bytes: the slice, and zeros where it is not n bytes long
+-- n bytes: the slice; zeros if it is not n bytes long
 unfoldable pub arrayOf : ℕ → List ℕ → List ℕ
 arrayOf n b = cond (eqb (length b) n) b (replicate n 0)
 
--- settings, width and key in a slice: all zero, as in the unopened state, where it is not 123 bytes long
+-- settings, width and key in a slice: all zero, as in the unopened state, if it is not 123 bytes long
 unfoldable pub settingsOf : List ℕ → Settings
 settingsOf b = cond (eqb (length b) 123) (settingsAt b) (unopened .settings)
 
@@ -78,10 +78,10 @@ widthOf b = cond (eqb (length b) 123) (widthAt b) 0
 unfoldable pub keyOf : List ℕ → List ℕ
 keyOf b = cond (eqb (length b) 123) (keyAt b) (replicate 32 0)
 
--- the state in a slice: the unopened one where it is not 155 bytes long
+-- the state in a slice: the unopened state if it is not 155 bytes long
 unfoldable pub stateOf : List ℕ → State
 stateOf b = cond (eqb (length b) 155) (stateAt b) unopened
 
--- what a state's slice holds after a call: the state, and what it held before where it is not 155 bytes long
+-- what a state's slice holds after a call: the state; what it held before if it is not 155 bytes long
 unfoldable pub kept : List ℕ → State → List ℕ
 kept b st = cond (eqb (length b) 155) (stateBytes st) b

@@ -29,7 +29,7 @@ pub record ReadBack : Type 0 where
   pub signature : List ℕ
   pub length : ℕ
 
--- with this number, where the receipt was issued by this call: its details, and the signature that it gave, if any, at the start of the output
+-- the answer with this number, for the receipt of this call: unless refused, its details, and at the start of the output its signature, if it had one
 unfoldable pub answered : ℕ → Call → List ℕ → List ℕ → ReadBack
 answered number c details signature =
     record {
@@ -39,7 +39,7 @@ answered number c details signature =
       length = ifZero number (length (c .signature)) 0;
     }
 
--- of settings and a form, into outputs that hold these bytes
+-- ditgrux_read of settings and a form, with outputs that hold these bytes
 unfoldable pub readBack : List ℕ → List ℕ → List ℕ → List ℕ → ReadBack
 readBack settings form details signature =
     answered (readNumber (settingsOf settings) (widthOf settings) (foundIn settings form .ok) (length details) (length signature))

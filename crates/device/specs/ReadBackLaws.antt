@@ -16,7 +16,7 @@ use Rattle.device.specs.Calls.{Slices, IssueCall, callIn, issuedNumber, 
 use Rattle.device.specs.Demand.{TypedIssueCall}
 use Rattle.device.specs.ReadBack.{ReadBack, readBack}
 
--- what ditgrux_read answers and leaves where this call issued the receipt
+-- what ditgrux_read answers and leaves for the receipt of this call
 abbrev pub readAs : Call → List ℕ → ReadBack
 readAs c signature = record { number = 0; details = detailsBytes (c .details); signature = overwrite signature 0 (c .signature); length = length (c .signature) }
 
@@ -47,7 +47,7 @@ unfoldable pub appended : Slices → IssueCall → List ℕ
 appended g c =
     take (stateOf (issuedSlices g c .state) .length - (stateOf (g .state) .length + 2)) (drop (stateOf (g .state) .length + 2) (issuedSlices g c .journal))
 
--- what ditgrux_issue was given, where it returned 0, ditgrux_read gives back, under the settings in the state: details and signature
+-- where ditgrux_issue returned 0, ditgrux_read gives back what it was given, details and signature, under the settings in the state
 abbrev pub IssuedIsRead : Type 0
 IssuedIsRead =
     (g : Slices) → AllBytes (g .state) → length (g .journal) < 18446744073709551616 → (c : IssueCall) → TypedIssueCall c → issuedNumber g c ≡ 0

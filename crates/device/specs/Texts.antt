@@ -26,7 +26,7 @@ fieldsLength code = idPlace code .end - idPlace code .start
 
 -- ---- SHA-256
 
--- 23 where 32 bytes are not there
+-- 23 if the output is shorter than 32 bytes
 unfoldable pub hashNumber : List ℕ → ℕ
 hashNumber out = cond (leb 32 (length out)) 0 23
 
@@ -40,14 +40,14 @@ hashBuffer m out = cond (leb 32 (length out)) (overwrite out 0 (sha256 m)) out
 unfoldable pub alphabetOf : ℕ → Alphabet
 alphabetOf url = cond (eqb url 0) Standard UrlSafe
 
--- 23 where the text does not fit
+-- 23 if the text does not fit
 unfoldable pub encodeAnswer : ℕ → List ℕ → List ℕ → Answer
 encodeAnswer url xs out = written out (encoding (alphabetOf url) xs)
 
 unfoldable pub encodeBuffer : ℕ → List ℕ → List ℕ → List ℕ
 encodeBuffer url xs out = placed out 0 (encoding (alphabetOf url) xs)
 
--- 22 where the text is not canonical, 23 where its bytes do not fit
+-- 22 if the text is not canonical, 23 if its bytes do not fit
 unfoldable pub decodeAnswer : ℕ → List ℕ → List ℕ → Answer
 decodeAnswer url text out = answerWith 22 (decoding (alphabetOf url) text) out
 

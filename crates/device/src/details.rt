@@ -8,7 +8,7 @@ ghost use lib.ListN.{length};
 ghost use Rattle.primitives.specs.Place.{overwrite};
 ghost use Rattle.device.specs.Details.{noDetails, detailsWith, ofKind, dateOf, detailsOf, kindNumber, numbersBytes, amountsBytes, detailsBytes};
 
-// The bytes of details.
+// The details of a receipt are 72 bytes long.
 pub(crate) const DETAILS: usize = 72;
 
 // ---- from thirteen numbers
@@ -42,7 +42,7 @@ fn details_with(number: u32, date: DateTime, amounts: [i64; 5], kind: Kind) -> D
     }
 }
 
-// Kinds 0, 1 and 2; details that are all zero where the kind is another.
+// Details of kind 0, 1 or 2; all zero for any other kind.
 fn of_kind(number: u32, date: DateTime, amounts: [i64; 5], kind: u32) -> Details
     ensures { λ r. ⌜ r ≡ ofKind number date amounts kind ⌝ }
 {
@@ -105,7 +105,7 @@ fn kind_number(kind: Kind) -> u32
     }
 }
 
-// Eight numbers of four bytes each, at the start.
+// Writes eight numbers of four bytes each to the start.
 fn put_numbers(numbers: [u32; 8], out: &mut [u8])
     requires { ⌜ 32 ≤ length (now out) ⌝ }
     ensures { λ _. ⌜ now (out .exit) ≡ overwrite (now (out .entry)) 0 (numbersBytes numbers) ⌝ }
@@ -118,7 +118,7 @@ fn put_numbers(numbers: [u32; 8], out: &mut [u8])
     }
 }
 
-// Five amounts of eight bytes each, after them.
+// Writes five amounts of eight bytes each after them.
 fn put_amounts(amounts: [i64; 5], out: &mut [u8])
     requires { ⌜ 72 ≤ length (now out) ⌝ }
     ensures { λ _. ⌜ now (out .exit) ≡ overwrite (now (out .entry)) 32 (amountsBytes amounts) ⌝ }
@@ -132,7 +132,7 @@ fn put_amounts(amounts: [i64; 5], out: &mut [u8])
     }
 }
 
-// Details in their 72 bytes.
+// Writes details as 72 bytes.
 pub(crate) fn put_details(d: Details, out: &mut [u8])
     requires { ⌜ length (now out) ≡ 72 ⌝ }
     ensures { λ _. ⌜ now (out .exit) ≡ detailsBytes d ⌝ }

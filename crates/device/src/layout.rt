@@ -20,7 +20,7 @@ pub extern "C" fn ditgrux_version() -> u32
     1
 }
 
-// The bytes of settings, and those of a state.
+// Settings are 123 bytes long, a state is 155 bytes long.
 pub(crate) const SETTINGS: usize = 123;
 
 pub(crate) const STATE: usize = 155;
@@ -147,7 +147,7 @@ fn state_at(b: &[u8]) -> State
 
 // ---- slices of any length
 
-// The settings in 123 bytes; those of the unopened state in a slice of another length.
+// The settings in 123 bytes; those of the unopened state if the slice has another length.
 pub(crate) fn settings_of(b: &[u8]) -> Settings
     ensures { λ r. ⌜ r ≡ settingsOf (now (b .entry)) ⌝ }
 {
@@ -178,7 +178,7 @@ pub(crate) fn key_of(b: &[u8]) -> [u8; 32]
     key_at(b)
 }
 
-// The state in 155 bytes; the unopened one in a slice of another length.
+// The state in 155 bytes; the unopened state if the slice has another length.
 pub(crate) fn state_of(b: &[u8]) -> State
     ensures { λ r. ⌜ r ≡ stateOf (now (b .entry)) ⌝ }
 {
@@ -190,7 +190,7 @@ pub(crate) fn state_of(b: &[u8]) -> State
 
 // ---- writing
 
-// A name at a place: 32 bytes, and its length in eight.
+// Writes a name at a place: 32 bytes, and its length in eight.
 fn put_name(name: Name, out: &mut [u8], at: usize)
     requires { ⌜ at + 40 ≤ length (now out) ⌝ }
     ensures { λ _. ⌜ now (out .exit) ≡ overwrite (now (out .entry)) at (nameBytes name) ⌝ }
@@ -200,7 +200,7 @@ fn put_name(name: Name, out: &mut [u8], at: usize)
     let _ = receipt::put_number(out, at + 32, 8, name.len as u64);
 }
 
-// CSP, ID and serial, at the start.
+// Writes CSP, ID and serial to the start.
 fn put_names(s: Settings, out: &mut [u8])
     requires { ⌜ 83 ≤ length (now out) ⌝ }
     ensures { λ _. ⌜ now (out .exit) ≡ overwrite (now (out .entry)) 0 (s .csp ++ nameBytes (s .id) ++ nameBytes (s .serial)) ⌝ }
@@ -213,7 +213,7 @@ fn put_names(s: Settings, out: &mut [u8])
     put_name(serial, out, 43);
 }
 
-// Width and key after them.
+// Writes width and key after them.
 fn put_key(n: usize, key: [u8; 32], out: &mut [u8])
     requires { ⌜ 123 ≤ length (now out) ⌝ }
     ensures { λ _. ⌜ now (out .exit) ≡ overwrite (now (out .entry)) 83 (bytesOf 8 n ++ key) ⌝ }
@@ -222,7 +222,7 @@ fn put_key(n: usize, key: [u8; 32], out: &mut [u8])
     let _ = receipt::put(out, 91, &key);
 }
 
-// Settings, width and key, at the start.
+// Writes settings, width and key to the start.
 pub(crate) fn put_settings(s: Settings, n: usize, key: [u8; 32], out: &mut [u8])
     requires { ⌜ 123 ≤ length (now out) ⌝ }
     ensures { λ _. ⌜ now (out .exit) ≡ overwrite (now (out .entry)) 0 (settingsBytes s n key) ⌝ }
@@ -231,7 +231,7 @@ pub(crate) fn put_settings(s: Settings, n: usize, key: [u8; 32], out: &mut [u8])
     put_key(n, key, out);
 }
 
-// Counter, last number and receipts issued, after the settings.
+// Writes counter, last number and receipts issued after the settings.
 fn put_counts(st: State, out: &mut [u8])
     requires { ⌜ 155 ≤ length (now out) ⌝ }
     ensures { λ _.
@@ -243,7 +243,7 @@ fn put_counts(st: State, out: &mut [u8])
     let _ = receipt::put_number(out, 135, 4, st.issued as u64);
 }
 
-// Chain value and length of the journal after them.
+// Writes the chain value and the length of the journal after them.
 fn put_chain(st: State, out: &mut [u8])
     requires { ⌜ 155 ≤ length (now out) ⌝ }
     ensures { λ _. ⌜ now (out .exit) ≡ overwrite (now (out .entry)) 139 (st .chain ++ bytesOf 8 (st .length)) ⌝ }
@@ -253,7 +253,7 @@ fn put_chain(st: State, out: &mut [u8])
     let _ = receipt::put_number(out, 147, 8, st.length as u64);
 }
 
-// A state in its 155 bytes.
+// Writes a state as 155 bytes.
 fn put_state(st: State, out: &mut [u8])
     requires { ⌜ length (now out) ≡ 155 ⌝ }
     ensures { λ _. ⌜ now (out .exit) ≡ stateBytes st ⌝ }
@@ -265,7 +265,7 @@ fn put_state(st: State, out: &mut [u8])
     put_chain(st, out);
 }
 
-// A state in its slice; nothing is written where that is not 155 bytes long.
+// Writes a state to its slice; nothing if the slice is not 155 bytes long.
 pub(crate) fn keep(st: State, out: &mut [u8])
     ensures { λ _. ⌜ now (out .exit) ≡ kept (now (out .entry)) st ⌝ }
 {

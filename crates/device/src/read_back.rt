@@ -12,7 +12,7 @@ ghost use lib.ListN.{length};
 ghost use Rattle.primitives.specs.Place.{overwrite};
 ghost use Rattle.device.specs.ReadBack.{readNumber, readBack};
 
-// The bytes of a signature.
+// A signature is 64 bytes long.
 const SIGNATURE: usize = 64;
 
 // Questions 1 to 4 of the settings, 16 of the form, then 23 for outputs of these lengths.
@@ -35,7 +35,7 @@ fn read_number(s: Settings, n: usize, ok: bool, details: usize, signature: usize
     0
 }
 
-// The signature that was given, and its length; nothing where the device had failed.
+// Writes the signature that was given and returns its length; writes nothing if the device had failed.
 fn put_signature(g: Signature, out: &mut [u8]) -> usize
     requires { ⌜ length (now out) ≡ 64 ⌝ }
     ensures { λ r.

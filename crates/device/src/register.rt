@@ -20,7 +20,7 @@ ghost use Rattle.device.specs.Calls.{settingsFrom, widthWith, settingsAn
 
 // ---- settings
 
-// Three bytes; zeros where the slice has another length.
+// The three bytes; zeros if the slice has another length.
 fn csp_of(csp: &[u8]) -> [u8; 3]
     ensures { λ r. ⌜ r ≡ arrayOf 3 (now (csp .entry)) ⌝ }
 {
@@ -43,7 +43,7 @@ fn settings_from(csp: &[u8], id: &[u8], serial: &[u8]) -> Settings
     }
 }
 
-// A key of 32 bytes; zeros where the slice has another length.
+// The key of 32 bytes; zeros if the slice has another length.
 fn key_from(key: &[u8]) -> [u8; 32]
     ensures { λ r. ⌜ r ≡ arrayOf 32 (now (key .entry)) ⌝ }
 {
@@ -53,7 +53,7 @@ fn key_from(key: &[u8]) -> [u8; 32]
     array32_at(key, 0)
 }
 
-// The width that comes with a key: 0, which is no width, where the key is not 32 bytes long.
+// The width to use with a key: 0, which is not a valid width, if the key is not 32 bytes long.
 fn width_with(key: &[u8], n: usize) -> usize
     ensures { λ r. ⌜ r ≡ widthWith (now (key .entry)) n ⌝ }
 {
@@ -144,7 +144,7 @@ pub extern "C" fn ditgrux_journal_length(state: &[u8]) -> usize
 
 // ---- open
 
-// Writes the head of a journal, and the state after it. 6 where the state is not 155 bytes long, then questions 1 to 5.
+// Writes the head of a journal and the state that goes with it. 6 if the state is not 155 bytes long, then questions 1 to 5.
 #[no_mangle]
 pub extern "C" fn ditgrux_open(settings: &[u8], journal: &mut [u8], state: &mut [u8]) -> u32
     ensures { λ r.
@@ -216,7 +216,7 @@ pub extern "C" fn ditgrux_prepare(
 
 // ---- issue
 
-// Appends a receipt to the journal, and writes the state after it. Questions 6 to 13.
+// Appends a receipt to the journal and writes the new state. Questions 6 to 13.
 #[no_mangle]
 pub extern "C" fn ditgrux_issue(
     state: &mut [u8],
@@ -266,7 +266,7 @@ pub extern "C" fn ditgrux_issue(
 
 // ---- take over
 
-// Checks a whole journal, and writes the state after it. 6 where the state is not 155 bytes long, then questions 4 and 14 to 21.
+// Checks a whole journal and writes the state that it leads to. 6 if the state is not 155 bytes long, then questions 4 and 14 to 21.
 #[no_mangle]
 pub extern "C" fn ditgrux_take_over(
     journal: &[u8],

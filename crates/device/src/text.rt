@@ -7,7 +7,7 @@ ghost use Rattle.device.specs.Texts.{writtenNumber, decodedLength, decod
 
 // ---- the machine-readable code
 
-// The code of a compact form. Questions 22 and 23.
+// Writes the code of a compact form. Questions 22 and 23.
 #[no_mangle]
 pub extern "C" fn ditgrux_code(form: &[u8], output: &mut [u8], length: &mut usize) -> u32
     ensures { λ r.
@@ -20,7 +20,7 @@ pub extern "C" fn ditgrux_code(form: &[u8], output: &mut [u8], length: &mut usiz
     answer.number
 }
 
-// The compact form of a code. Questions 24 and 23.
+// Writes the compact form of a code. Questions 24 and 23.
 #[no_mangle]
 pub extern "C" fn ditgrux_uncode(code: &[u8], output: &mut [u8], length: &mut usize) -> u32
     ensures { λ r.
@@ -54,7 +54,7 @@ pub extern "C" fn ditgrux_fields(code: &[u8], start: &mut usize, length: &mut us
 
 // ---- for tests
 
-// The SHA-256 value. 23 where the output is shorter than 32 bytes.
+// Writes the SHA-256 value. 23 if the output is shorter than 32 bytes.
 #[no_mangle]
 pub extern "C" fn ditgrux_sha256(data: &[u8], output: &mut [u8]) -> u32
     ensures { λ r.
@@ -68,7 +68,7 @@ pub extern "C" fn ditgrux_sha256(data: &[u8], output: &mut [u8]) -> u32
     0
 }
 
-// 0 is padded BASE64, any other number BASE64-URL.
+// 0 means padded BASE64, any other number BASE64-URL.
 fn alphabet_of(url: u32) -> Alphabet
     ensures { λ r. ⌜ r ≡ alphabetOf url ⌝ }
 {
@@ -78,7 +78,7 @@ fn alphabet_of(url: u32) -> Alphabet
     Alphabet::UrlSafe
 }
 
-// 23 where some bytes have no text: it did not fit.
+// The number of a writer that got n bytes and ended at this place: 23 if there were bytes and none was written.
 fn written_number(n: usize, end: usize) -> u32
     ensures { λ r. ⌜ r ≡ writtenNumber n end ⌝ }
 {
@@ -91,7 +91,7 @@ fn written_number(n: usize, end: usize) -> u32
     0
 }
 
-// The text of bytes. 23 where it does not fit.
+// Writes the text of bytes. 23 if it does not fit.
 #[no_mangle]
 pub extern "C" fn ditgrux_base64(
     url: u32,
@@ -130,7 +130,7 @@ fn decoded_number(d: Decoded) -> u32
     }
 }
 
-// The bytes of a text. 22 where it is not canonical, 23 where they do not fit.
+// Writes the bytes of a text. 22 if the text is not canonical, 23 if its bytes do not fit.
 #[no_mangle]
 pub extern "C" fn ditgrux_unbase64(
     url: u32,
