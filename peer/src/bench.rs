@@ -5,7 +5,7 @@ use std::time::{Duration, Instant};
 use crate::calls::{Calls, Peer};
 use crate::code::LONGEST_CODE;
 use crate::device::Library;
-use crate::layout::{SETTINGS, STATE};
+use crate::layout::{DETAILS, SETTINGS, SIGNATURE, STATE, details_bytes};
 use crate::receipt::{Date, Details, LONGEST_COMPACT, LONGEST_INPUT};
 
 const CSP: &[u8] = b"AT1";
@@ -141,12 +141,25 @@ impl Work {
         bytes
     }
 
+    /// One Read for each receipt, which gives what was issued; the bytes read.
+    fn read(&mut self, side: &dyn Calls) -> usize {
+        let (mut details, mut signature) = ([0; DETAILS], [0; SIGNATURE]);
+        let mut bytes = 0;
+        for i in 0..self.forms.len() {
+            let read = side.read(&self.settings, self.form(i), &mut details, &mut signature);
+            assert_eq!((read.number, read.length), (0, SIGNATURE));
+            bytes += self.forms[i].len();
+        }
+        bytes
+    }
+
     fn call(&mut self, call: &str, side: &dyn Calls) -> Option<usize> {
         match call {
             "issue" => Some(self.issue(side)),
             "prepare" => Some(self.prepare(side)),
             "take-over" => Some(self.take_over(side)),
             "code" => Some(self.code(side)),
+            "read" => Some(self.read(side)),
             _ => None,
         }
     }
@@ -163,6 +176,11 @@ fn same_answers(work: &mut Work) {
         let mut outputs = [[0; LONGEST_CODE]; 2];
         assert_eq!(Library.code(work.form(i), &mut outputs[0]), Peer.code(work.form(i), &mut outputs[1]));
         assert_eq!(outputs[0], outputs[1]);
+        for side in [&Library as &dyn Calls, &Peer] {
+            let (mut details, mut signature) = ([0; DETAILS], [0; SIGNATURE]);
+            assert_eq!(side.read(&work.settings, work.form(i), &mut details, &mut signature).number, 0);
+            assert_eq!((details, signature), (details_bytes(&work.details[i]), work.signatures[i]));
+        }
         let mut outputs = [[0; LONGEST_INPUT]; 2];
         let state = if i == 0 { work.before_the_start() } else { work.started };
         let details = &work.details[i];
@@ -209,7 +227,7 @@ pub fn run() {
         let mut work = Work::of(receipts);
         same_answers(&mut work);
         let calls: &[&str] =
-            if receipts == 10_000 { &["issue", "prepare", "code", "take-over"] } else { &["take-over"] };
+            if receipts == 10_000 { &["issue", "prepare", "code", "read", "take-over"] } else { &["take-over"] };
         for call in calls {
             let ([library, peer], ratio, bytes) = times(&mut work, call);
             let rate = |time: Duration, amount: usize| amount as f64 / time.as_secs_f64();
