@@ -28,7 +28,7 @@
  * Pointers. These rules are not checked; a call that breaks them is undefined, as with memcpy.
  *   - No pointer is NULL, not even where its length is 0: pass any valid address. (The wrapper ditgrux_issue_details is the one
  *     exception.)
- *   - A pointer leads to at least as many bytes as the length beside it says.
+ *   - A pointer points to at least as many bytes as its length says.
  *   - The out pointers `length`, `start` and `index` are not NULL and are aligned like any size_t or uint32_t. A NULL `index`
  *     crashes.
  *   - No buffer that a call writes overlaps another buffer or out parameter of that call. So do not pass the first 123 bytes of a
