@@ -39,7 +39,7 @@ use Rattle.device.specs.Laws.{TypedDetails}
 use Rattle.device.specs.Calls.{Slices, IssueCall, callIn, issueAnswer, issuedNumber, issuedSlices}
 use Rattle.device.specs.Demand.{TypedIssueCall}
 use Rattle.device.specs.ReadBack.{foundIn, answered, readBack}
-use Rattle.device.specs.ReadBackLaws.{readAs, Readable, ReadIsExact, RefusedReadChangesNothing, appended, IssuedIsRead}
+use Rattle.device.specs.ReadBackLaws.{readAs, Readable, ReadIsExact, AcceptedIsRead, RefusedReadChangesNothing, appended, IssuedIsRead}
 use Rattle.device.proofs.Below.{issued-number}
 use Rattle.device.proofs.Sizes.{good-register, kept-all}
 use Rattle.device.proofs.Writers.{length-settings}
@@ -117,6 +117,24 @@ module _ (settings form details signature : List ℕ) where
 pub read-is-exact : ReadIsExact
 read-is-exact settings form details signature sb fb =
     (read-spelled settings form details signature sb fb, spelled-read settings form details signature sb fb)
+
+pub accepted-is-read : AcceptedIsRead
+accepted-is-read j key n v settings sb es en before e later q details signature ld ls =
+    let r = v .each before e later q in
+    let w : Readable settings (compact (v .settings) n e) details signature =
+    record {
+      good = ap settingsGood es ∙ v .good;
+      width = ap widthGood en ∙ v .width;
+      spelled = record {
+        entry = e;
+        typed = r .typed;
+        spellable = (λ i. spellable (es i) (en i) e) ∙ r .spelled;
+        is = λ i. compact (sym es i) (sym en i) e;
+      };
+      detailsLength = ld;
+      signatureLength = ls;
+    } in
+    read-is-exact settings (compact (v .settings) n e) details signature sb (compact-bytes (v .settings) n e) .1 w
 
 pub refused-read-changes-nothing : RefusedReadChangesNothing
 unfolding readBack answered

@@ -2,13 +2,16 @@
 use Prim.Native.Nat.{ℕ, _+_, _-_, _<_}
 use mathlib.Core.Path.{_≡_}
 use mathlib.Core.Bool.{true}
-use mathlib.Core.List.{List}
+use mathlib.Core.List.{List, _∷_, _++_}
 use lib.ListN.{length, take, drop}
 use Rattle.primitives.specs.Bytes.{AllBytes}
 use Rattle.primitives.specs.Counter.{widthGood}
 use Rattle.primitives.specs.Place.{overwrite}
 use Rattle.receipt.specs.Settings.{settingsGood}
+use Rattle.receipt.specs.Compact.{compact}
 use Rattle.receipt.specs.Exact.{Spelled}
+use Rattle.receipt.specs.declared.entry.Entry.{Entry}
+use Rattle.journal.specs.Valid.{Valid}
 use Rattle.journal.specs.Calls.{Call, callOf}
 use Rattle.device.specs.Layout.{settingsOf, widthOf, stateOf}
 use Rattle.device.specs.Details.{detailsBytes, detailsIn}
@@ -41,6 +44,14 @@ RefusedReadChangesNothing =
     (settings form details signature : List ℕ) → (readBack settings form details signature .number ≡ 0 → ⊥)
     → (readBack settings form details signature .details ≡ details) × (readBack settings form details signature .signature ≡ signature)
     × (readBack settings form details signature .length ≡ 0)
+
+-- so every receipt of an accepted journal is read back, under settings with the CSP, ID and serial of its head and its width
+abbrev pub AcceptedIsRead : Type 0
+AcceptedIsRead =
+    (j key : List ℕ) (n : ℕ) (v : Valid j key n) (settings : List ℕ) → AllBytes settings → settingsOf settings ≡ v .settings → widthOf settings ≡ n
+    → (before : List Entry) (e : Entry) (later : List Entry) → v .entries ≡ before ++ (e ∷ later)
+    → (details signature : List ℕ) → length details ≡ 72 → length signature ≡ 64
+    → readBack settings (compact (v .settings) n e) details signature ≡ readAs (callOf e) signature
 
 -- the compact form that a call of ditgrux_issue appended: from two bytes after the old length of the journal up to the new one
 unfoldable pub appended : Slices → IssueCall → List ℕ
