@@ -14,6 +14,7 @@
  *         the signature device signs that text with ES256 (64 bytes: r, then s)
  *         ditgrux_issue_details: appends the receipt to the journal
  *         ditgrux_code: writes the machine-readable code that is printed
+ *         ditgrux_line: writes the code as a line of text, for a printer that cannot draw a square code
  *     ditgrux_take_over, after each start and whenever you like: checks the whole journal and gives the state back
  *     ditgrux_read_details, to print a receipt again: gives its details and its signature back
  *
@@ -66,7 +67,9 @@ enum {
     DITGRUX_LONGEST_INPUT = 281,  /* the text that the device signs */
     DITGRUX_LONGEST_COMPACT = 368,
     DITGRUX_LONGEST_ENTRY = 370,  /* an entry of the journal: two bytes of length and a compact form */
-    DITGRUX_LONGEST_CODE = 284
+    DITGRUX_LONGEST_CODE = 284,
+    DITGRUX_LONGEST_LINE = 308,   /* the optical line of a receipt */
+    DITGRUX_LONGEST_ANY_LINE = 348 /* the optical line of any code, whose fields may be longer than those of a receipt */
 };
 
 /* ---- kinds of receipt */
@@ -102,9 +105,11 @@ enum ditgrux_number {
     DITGRUX_ENTRY_CHAIN = 19,     /* the entry's chain field does not match the entry before */
     DITGRUX_ENTRY_COUNTER = 20,   /* the sum does not fit the width, or is not the counter that the entry holds encrypted */
     DITGRUX_BYTES_LEFT = 21,      /* there are bytes after the last entry */
-    DITGRUX_BAD_FORM = 22,        /* not a compact form; unbase64: not canonical BASE64 */
+    DITGRUX_BAD_FORM = 22,        /* not a compact form; unbase64, unbase32: not canonical BASE64 or BASE32 */
     DITGRUX_OUTPUT_SHORT = 23,    /* the output is too short; ALSO: the output of settings or read is longer than it must be */
-    DITGRUX_BAD_CODE = 24         /* not a machine-readable code; fields: or one without a register ID */
+    DITGRUX_BAD_CODE = 24,        /* not a machine-readable code; fields: or one without a register ID */
+    DITGRUX_BAD_FIELDS = 26,      /* a code without twelve fields, or whose counter or chain field is not canonical BASE64 */
+    DITGRUX_BAD_LINE = 27         /* not the optical line of a machine-readable code */
 };
 
 /* ---- the journal, as bytes
@@ -355,6 +360,27 @@ uint32_t ditgrux_uncode(const uint8_t *code, size_t code_length, uint8_t *output
  * Returns DITGRUX_DONE, or DITGRUX_BAD_CODE (also if the code has no ID, or an empty one). Refused: *start and *length are 0. */
 uint32_t ditgrux_fields(const uint8_t *code, size_t code_length, size_t *start, size_t *length);
 
+/* ---- the optical line
+ *
+ * A printer that cannot draw a square code prints a line of text, which is read by OCR. The line is the code with three fields in
+ * BASE32 (RFC 4648, padded) in place of BASE64: the counter field, which is the tenth of the payload's twelve; the chain field, which
+ * is the twelfth; and the signature after them. BASE32 has A-Z, 2-7 and '=': no small letters, and neither 0, 1, 8 nor 9.
+ */
+
+/* Writes the optical line of a machine-readable code. DITGRUX_LONGEST_LINE bytes of output are enough for the code of every receipt
+ * that a register issues, DITGRUX_LONGEST_ANY_LINE for every code. It asks what ditgrux_uncode asks of a code, then for twelve fields
+ * with a counter and a chain field in canonical BASE64, of any length or empty; it copies the other fields as they are.
+ *
+ * Returns DITGRUX_DONE, DITGRUX_BAD_CODE, DITGRUX_BAD_FIELDS, or DITGRUX_OUTPUT_SHORT. Refused: `output` is unchanged and *length
+ * is 0. */
+uint32_t ditgrux_line(const uint8_t *code, size_t code_length, uint8_t *output, size_t output_length, size_t *length);
+
+/* Writes the machine-readable code of an optical line. DITGRUX_LONGEST_CODE bytes of output are always enough. It takes exactly the
+ * lines that ditgrux_line writes: a small letter in BASE32, a missing '=' or a field too many is refused.
+ *
+ * Returns DITGRUX_DONE, DITGRUX_BAD_LINE, or DITGRUX_OUTPUT_SHORT. Refused: `output` is unchanged and *length is 0. */
+uint32_t ditgrux_unline(const uint8_t *line, size_t line_length, uint8_t *output, size_t output_length, size_t *length);
+
 /* ---- for tests */
 
 /* Writes the SHA-256 value of the data to the first 32 bytes of the output.
@@ -372,6 +398,17 @@ uint32_t ditgrux_base64(uint32_t url, const uint8_t *data, size_t data_length, u
  * Returns DITGRUX_DONE, DITGRUX_BAD_FORM (wrong padding, foreign letters, or unused bits that are not zero), or
  * DITGRUX_OUTPUT_SHORT. Refused: `output` is unchanged and *length is 0. */
 uint32_t ditgrux_unbase64(uint32_t url, const uint8_t *text, size_t text_length, uint8_t *output, size_t output_length, size_t *length);
+
+/* Writes the data as BASE32 with padding.
+ *
+ * Returns DITGRUX_DONE, or DITGRUX_OUTPUT_SHORT. Refused: `output` is unchanged and *length is 0. */
+uint32_t ditgrux_base32(const uint8_t *data, size_t data_length, uint8_t *output, size_t output_length, size_t *length);
+
+/* Writes the bytes that such a text stands for.
+ *
+ * Returns DITGRUX_DONE, DITGRUX_BAD_FORM (wrong padding, foreign letters, or unused bits that are not zero), or
+ * DITGRUX_OUTPUT_SHORT. Refused: `output` is unchanged and *length is 0. */
+uint32_t ditgrux_unbase32(const uint8_t *text, size_t text_length, uint8_t *output, size_t output_length, size_t *length);
 
 /* ---- the details of a receipt by name
  *
