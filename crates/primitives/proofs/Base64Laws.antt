@@ -14,7 +14,7 @@ use Rattle.primitives.specs.Bytes.{AllBytes}
 use Rattle.primitives.specs.declared.base64.Alphabet.{Alphabet}
 use Rattle.primitives.specs.declared.base64.Alphabet.the-variants.{Standard, UrlSafe}
 use Rattle.primitives.specs.Base64.{letter, digit, fromBytes, fromDigits, quad, triple, letters, pad, paddingCount, padding, encoding, encodedLength, bytes, known, ended, whole, unmarked, letterCount, unpadded, accepted, decoding}
-use Rattle.primitives.proofs.ByteLists.{bytes-nil, bytes-cons, bytes-head, bytes-tail, bytes-take}
+use Rattle.primitives.proofs.ByteLists.{bytes-nil, bytes-cons, bytes-head, bytes-tail, bytes-take, each-bytes}
 use Rattle.primitives.proofs.Each.{Each, none-left, one-more, each-append, each-replicate, each-at}
 use Rattle.primitives.proofs.Writing.{drop-one, drop-two}
 use Rattle.primitives.proofs.Base64Letters.{digit-letter, letter-digit, letter-small, foreign, pad-foreign, dot-foreign, digits-group, bytes-group, byte-1, byte-2, byte-3, sum-small, digit-1, digit-2, digit-3, digit-4}
@@ -31,10 +31,6 @@ and-left false t e = e
 and-right : (s t : Bool) → s && t ≡ true → t ≡ true
 and-right true t e = e
 and-right false t e = cc
-
-each-bytes : {xs : List ℕ} → Each (λ b. b < 256) xs → AllBytes xs
-each-bytes none-left = bytes-nil
-each-bytes (one-more h e) = bytes-cons h (each-bytes e)
 
 -- ---- the bytes of a text
 

@@ -9,6 +9,7 @@ use lib.ListN.{length, getD, take, drop, replicate}
 use lib.Seq.{getD-drop}
 use borrow.Author.Tests.{eqb-true, eq-eqb}
 use Rattle.primitives.specs.Bytes.{AllBytes, same}
+use Rattle.primitives.proofs.Each.{Each, none-left, one-more}
 
 pub bytes-nil : AllBytes []
 bytes-nil = record { at = λ i. omega arith }
@@ -48,6 +49,19 @@ bytes-take n {xs} p = take-of n xs p
 pub bytes-replicate : (n : ℕ) {b : ℕ} → b < 256 → AllBytes (replicate n b)
 bytes-replicate zero h = bytes-nil
 bytes-replicate (suc n) h = bytes-cons h (bytes-replicate n h)
+
+-- ---- the same as a rule for each element
+
+pub each-bytes : {xs : List ℕ} → Each (λ b. b < 256) xs → AllBytes xs
+each-bytes none-left = bytes-nil
+each-bytes (one-more h e) = bytes-cons h (each-bytes e)
+
+each-of : (xs : List ℕ) → AllBytes xs → Each (λ b. b < 256) xs
+each-of [] p = none-left
+each-of (x ∷ xs) p = one-more (bytes-head p) (each-of xs (bytes-tail p))
+
+pub bytes-each : {xs : List ℕ} → AllBytes xs → Each (λ b. b < 256) xs
+bytes-each {xs} p = each-of xs p
 
 -- ---- the test that two lists are the same
 

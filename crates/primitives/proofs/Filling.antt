@@ -11,7 +11,7 @@ use lib.Dec.{leb}
 use lib.ListN.{length, getD, take, set}
 use lib.Seq.{take-suc, length-take-le, take-all}
 use Rattle.primitives.specs.Place.{overwrite, placed, placeAfter}
-use Rattle.primitives.specs.Number.{bytesOf}
+use Rattle.primitives.specs.Number.{digitsOf, bytesOf}
 use Rattle.primitives.proofs.Over.{over-nil, over-snoc, over-cons, length-over, placed-room, placed-full, after-room, after-full}
 use Rattle.primitives.proofs.Numbers.{bytesOf-suc}
 
@@ -110,7 +110,7 @@ module _ {out₀ out : List ℕ} {at n x v i : ℕ} (p : Putting out₀ at n x o
       e = omega arith
 
   pub put-all : i ≤ 0 → out ≡ overwrite out₀ at (bytesOf n x)
-  unfolding bytesOf
+  unfolding bytesOf digitsOf
   put-all h =
       let e : i ≡ 0 = omega arith in
       p .is

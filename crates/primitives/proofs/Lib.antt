@@ -20,6 +20,7 @@ pub mod Numbers
 pub mod Over
 pub mod Padding
 pub mod Questions
+pub mod Radix
 pub mod Rewrites
 pub mod Rows
 pub mod Schedule

@@ -2,8 +2,8 @@
 use Prim.Native.Nat.{ℕ, zero, suc, _+_, _*_, _/_, _%_, _^_, _≤_, _<_}
 use mathlib.Core.Path.{_≡_, refl, sym, ap, _∙_, subst}
 use mathlib.Core.Bool.{Bool, true, false, _&&_, cond, and-false}
-use mathlib.Core.List.{List, [], _∷_, _++_, append-assoc, append-nil}
-use native.Mathlib.Nat.{add-zero, pow-suc, pow-succ', pow-le-pow-right, mul-assoc, mul-le-mul-right, lt-of-lt-of-le}
+use mathlib.Core.List.{List, [], _∷_, _++_}
+use native.Mathlib.Nat.{pow-suc, pow-le-pow-right}
 use native.Mathlib.Numerals.{add-one}
 use native.Mathlib.Omega.{arith}
 use borrow.Author.Tests.{le-leb, lt-leb, leb-true}
@@ -12,94 +12,51 @@ use lib.ListN.{length, getD, take, drop, length-append, length-drop}
 use lib.Seq.{take-suc, getD-drop, take-at, drop-at, length-take-le}
 use Rattle.primitives.specs.Bytes.{AllBytes}
 use Rattle.primitives.specs.Place.{overwrite}
-use Rattle.primitives.specs.Number.{bytesOf, valueAfter, valueOf, numberAt}
+use Rattle.primitives.specs.Number.{numberAfter, numberOf, bytesOf, valueAfter, valueOf, numberAt}
 use Rattle.primitives.specs.declared.buffer.Number.the-variants.{Is, Missing}
-use Rattle.primitives.proofs.ByteLists.{bytes-nil, bytes-cons, bytes-head, bytes-tail, bytes-append, bytes-take, bytes-drop}
+use Rattle.primitives.proofs.ByteLists.{bytes-take, bytes-drop, bytes-each, each-bytes}
+use Rattle.primitives.proofs.Radix.{digits-suc, length-digits, digits-below, digits-low, number-snoc, number-lt, number-digits, digits-number}
 use Rattle.primitives.proofs.Over.{read-over, length-over}
 
 -- ---- the bytes of a number
 
 pub bytesOf-suc : (n v : ℕ) → bytesOf (suc n) v ≡ bytesOf n (v / 256) ++ (v % 256 ∷ [])
 unfolding bytesOf
-bytesOf-suc n v = refl
+bytesOf-suc = digits-suc 256
 
 pub length-bytesOf : (n v : ℕ) → length (bytesOf n v) ≡ n
 unfolding bytesOf
-length-bytesOf zero v = refl
-length-bytesOf (suc n) v = length-append (bytesOf n (v / 256)) (v % 256 ∷ []) ∙ omega (arith, length-bytesOf n (v / 256))
+length-bytesOf = length-digits 256
 
 pub bytes-bytesOf : (n v : ℕ) → AllBytes (bytesOf n v)
 unfolding bytesOf
-bytes-bytesOf zero v = bytes-nil
-bytes-bytesOf (suc n) v = bytes-append (bytes-bytesOf n (v / 256)) (bytes-cons (omega arith) bytes-nil)
+bytes-bytesOf n v = each-bytes (digits-below 256 (lit< tt) n v)
 
 -- bytes above the n low ones do not count
 pub bytesOf-low : (n q v : ℕ) → bytesOf n (q * 256 ^ n + v) ≡ bytesOf n v
 unfolding bytesOf
-bytesOf-low zero q v = refl
-bytesOf-low (suc n) q v =
-    let e : q * 256 ^ suc n ≡ q * 256 ^ n * 256 = ap (λ (k : ℕ). q * k) (pow-suc 256 n) ∙ sym (mul-assoc q (256 ^ n) 256) in
-    let d : (q * 256 ^ suc n + v) / 256 ≡ q * 256 ^ n + v / 256 = omega (arith, e) in
-    let m : (q * 256 ^ suc n + v) % 256 ≡ v % 256 = omega (arith, e) in
-    (λ i. bytesOf n (d i) ++ (m i ∷ [])) ∙ ap (λ (l : List ℕ). l ++ (v % 256 ∷ [])) (bytesOf-low n q (v / 256))
+bytesOf-low = digits-low 256 (lit< tt)
 
 -- ---- the value of bytes
 
-after-append : (v : ℕ) (xs ys : List ℕ) → valueAfter v (xs ++ ys) ≡ valueAfter (valueAfter v xs) ys
-unfolding valueAfter
-after-append v [] ys = refl
-after-append v (x ∷ xs) ys = after-append (v * 256 + x) xs ys
-
 -- one byte more
 pub value-snoc : (xs : List ℕ) (b : ℕ) → valueOf (xs ++ (b ∷ [])) ≡ valueOf xs * 256 + b
-unfolding valueOf valueAfter
-value-snoc xs b = after-append 0 xs (b ∷ [])
-
-after-lt : (v : ℕ) (bs : List ℕ) → AllBytes bs → valueAfter v bs < suc v * 256 ^ length bs
-unfolding valueAfter
-after-lt v [] p = omega arith
-after-lt v (b ∷ bs) p =
-    lt-of-lt-of-le (after-lt (v * 256 + b) bs (bytes-tail p))
-    (subst (λ (k : ℕ). suc (v * 256 + b) * 256 ^ length bs ≤ k) e (mul-le-mul-right (256 ^ length bs) h))
-  where
-    h : suc (v * 256 + b) ≤ suc v * 256
-    h = omega (arith, bytes-head p)
-
-    e : suc v * 256 * 256 ^ length bs ≡ suc v * 256 ^ suc (length bs)
-    e = mul-assoc (suc v) 256 (256 ^ length bs) ∙ ap (λ (k : ℕ). suc v * k) (sym (pow-succ' 256 (length bs)))
+unfolding valueOf valueAfter numberOf
+value-snoc = number-snoc 256
 
 pub value-lt : (bs : List ℕ) → AllBytes bs → valueOf bs < 256 ^ length bs
-unfolding valueOf
-value-lt bs p = omega (arith, after-lt 0 bs p)
+unfolding valueOf valueAfter numberOf
+value-lt bs p = number-lt 256 (bytes-each p)
 
 -- ---- there and back
 
 pub value-bytesOf : (n v : ℕ) → v < 256 ^ n → valueOf (bytesOf n v) ≡ v
-unfolding bytesOf valueOf valueAfter
-value-bytesOf zero v h = omega arith
-value-bytesOf (suc n) v h =
-    value-snoc (bytesOf n (v / 256)) (v % 256)
-    ∙ omega (arith, value-bytesOf n (v / 256) (omega (arith, pow-suc 256 n)))
-
-bytesOf-after : (n v : ℕ) (bs : List ℕ) → AllBytes bs → bytesOf (n + length bs) (valueAfter v bs) ≡ bytesOf n v ++ bs
-unfolding bytesOf valueAfter
-bytesOf-after n v [] p = ap (λ (k : ℕ). bytesOf k v) (add-zero n) ∙ sym (append-nil (bytesOf n v))
-bytesOf-after n v (b ∷ bs) p =
-    let h = bytes-head p in
-    let e : n + suc (length bs) ≡ suc n + length bs = omega arith in
-    let d : (v * 256 + b) / 256 ≡ v = omega arith in
-    let m : (v * 256 + b) % 256 ≡ b = omega arith in
-    ap (λ (k : ℕ). bytesOf k (valueAfter (v * 256 + b) bs)) e
-    ∙ bytesOf-after (suc n) (v * 256 + b) bs (bytes-tail p)
-    ∙ (λ i. (bytesOf n (d i) ++ (m i ∷ [])) ++ bs)
-    ∙ append-assoc (bytesOf n v) (b ∷ []) bs
+unfolding bytesOf valueOf valueAfter numberOf
+value-bytesOf = number-digits 256 (lit< tt)
 
 pub bytesOf-value : (bs : List ℕ) → AllBytes bs → bytesOf (length bs) (valueOf bs) ≡ bs
-unfolding bytesOf valueOf
-bytesOf-value bs p = sym (ap (λ (k : ℕ). bytesOf k (valueAfter 0 bs)) e) ∙ bytesOf-after 0 0 bs p
-  where
-    e : 0 + length bs ≡ length bs
-    e = omega arith
+unfolding bytesOf valueOf valueAfter numberOf
+bytesOf-value bs p = digits-number 256 (bytes-each p)
 
 -- ---- the number at a place
 
@@ -170,7 +127,7 @@ pub record Reading (s : List ℕ) (at n v i : ℕ) : Type 0 where
   pub low : v < 256 ^ i
 
 pub read-start : (s : List ℕ) (at n : ℕ) → n ≤ 8 → at + n ≤ length s → Reading s at n 0 0
-unfolding valueOf valueAfter
+unfolding valueOf valueAfter numberAfter
 read-start s at n w h = record { inside = omega arith; wide = w; room = h; is = refl; low = lit< tt }
 
 module _ {s : List ℕ} {at n v i : ℕ} (p : Reading s at n v i) where
