@@ -5,6 +5,7 @@ pub mod Base64Laws
 pub mod Base64Lengths
 pub mod Base64Letters
 pub mod Base64Loops
+pub mod BaseTexts
 pub mod ByteLists
 pub mod Cipher
 pub mod Columns

@@ -1,6 +1,8 @@
 pub mod Aes
 pub mod Answers
+pub mod Base32
 pub mod Base64
+pub mod BaseRule
 pub mod Bytes
 pub mod Counter
 pub mod Field
