@@ -29,15 +29,15 @@ unfolding back digit letter
 all-back Standard = tt
 all-back UrlSafe = tt
 
-both-0 : (a b : Bool) → T (a && b) → T a
+pub both-0 : (a b : Bool) → T (a && b) → T a
 both-0 true b t = tt
 both-0 false b t = absurd t
 
-both-1 : (a b : Bool) → T (a && b) → T b
+pub both-1 : (a b : Bool) → T (a && b) → T b
 both-1 true b t = t
 both-1 false b t = absurd t
 
-implied : (a b : Bool) → T (not a || b) → a ≡ true → T b
+pub implied : (a b : Bool) → T (not a || b) → a ≡ true → T b
 implied true b t e = t
 implied false b t e = absurd (subst (λ (x : Bool). T (not x)) e tt)
 

@@ -2,7 +2,7 @@
 use Prim.Native.Nat.{ℕ, zero, suc, _+_, _-_, _%_, _≤_, _<_}
 use mathlib.Core.Path.{_≡_, refl, sym, ap, _∙_, subst}
 use mathlib.Core.Bool.{Bool, true, false, _&&_}
-use mathlib.Core.List.{List, [], _∷_, _++_}
+use mathlib.Core.List.{List, [], _∷_, _++_, append-nil}
 use native.Mathlib.Nat.{add-assoc}
 use native.Mathlib.Numerals.{add-one}
 use native.Mathlib.Omega.{arith}
@@ -77,6 +77,16 @@ module _ {f : List ℕ → List ℕ} {s out₀ out : List ℕ} {at i o : ℕ} (e
           writing = subst (λ (m : ℕ). Writing out₀ at (f s) out′ m (f (drop (i + k) s))) (ap (λ (m : ℕ). o + m) long ∙ sym r)
               (writing-more (take n q) (f (drop (i + k) s)) piece (w ∙ ap (λ (l : List ℕ). overwrite out o (take n l)) p));
         }
+
+  -- all that is left is written at once
+  pub pass-rest : {out′ : List ℕ} {o′ : ℕ} → o′ ≡ o + length (f (drop i s)) → out′ ≡ overwrite out o (f (drop i s)) → (o′ ≡ at + length (f s)) × (out′ ≡ overwrite out₀ at (f s))
+  pass-rest {out′} {o′} r w =
+      let left = writing-left (e .writing) (sym (append-nil (f (drop i s)))) in
+      let end = writing-end (writing-more (f (drop i s)) [] left w) in
+      (r ∙ end .0, end .1)
+
+  pub pass-left : o + length (f (drop i s)) ≤ length out
+  pass-left = writing-fits (e .writing)
 
   -- nothing is left
   pub pass-end : f (drop i s) ≡ [] → (o ≡ at + length (f s)) × (out ≡ overwrite out₀ at (f s))

@@ -59,11 +59,14 @@ module _ (k n : ℕ) (p : 0 < k) where
     unfolding bitsAfter
     bits-after = let q = spare-lt in ap (λ (x : ℕ). x % 8) letters-bits ∙ omega arith
 
+pub in-bytes : (k n : ℕ) → n * k ≡ bytesFor k n * 8 + bitsAfter k n
+unfolding bytesFor bitsAfter
+in-bytes k n = omega arith
+
 -- n letters after whose bytes fewer bits are left than a letter has are the letters of those bytes
 module _ (k n : ℕ) (h : bitsAfter k n < k) where
-  pub bytes-bits : n * k ≡ bytesFor k n * 8 + bitsAfter k n
-  unfolding bytesFor bitsAfter
-  bytes-bits = omega arith
+  bytes-bits : n * k ≡ bytesFor k n * 8 + bitsAfter k n
+  bytes-bits = in-bytes k n
 
   pub letters-for : lettersFor k (bytesFor k n) ≡ n
   unfolding lettersFor
@@ -82,7 +85,11 @@ map-back : (f h : ℕ → ℕ) {P : ℕ → Type 0} → ((x : ℕ) → P x → f
 map-back f h r none-left = refl
 map-back f h r (one-more p e) = λ i. r _ p i ∷ map-back f h r e i
 
-each-map : (f : ℕ → ℕ) {P Q : ℕ → Type 0} → ((x : ℕ) → P x → Q (f x)) → {xs : List ℕ} → Each P xs → Each Q (map f xs)
+pub map-append : (f : ℕ → ℕ) (xs ys : List ℕ) → map f (xs ++ ys) ≡ map f xs ++ map f ys
+map-append f [] ys = refl
+map-append f (x ∷ xs) ys = ap (λ (l : List ℕ). f x ∷ l) (map-append f xs ys)
+
+pub each-map : (f : ℕ → ℕ) {P Q : ℕ → Type 0} → ((x : ℕ) → P x → Q (f x)) → {xs : List ℕ} → Each P xs → Each Q (map f xs)
 each-map f r none-left = none-left
 each-map f r (one-more p e) = one-more (r _ p) (each-map f r e)
 
@@ -92,6 +99,14 @@ known-each : (b : Base) {text : List ℕ} → Each (λ x. b .digit x < 2 ^ b .bi
 unfolding lettersKnown
 known-each b none-left = refl
 known-each b (one-more {x} h e) = rw (lt-ltb (b .digit x) (2 ^ b .bits) h) (known-each b e)
+
+-- letters that are known, one by one
+pub known-letter : (b : Base) (t : List ℕ) → lettersKnown b t ≡ true → Each (λ x. b .digit x < 2 ^ b .bits) t
+unfolding lettersKnown
+known-letter b [] e = none-left
+known-letter b (x ∷ t) e =
+    let q = both (ltb (b .digit x) (2 ^ b .bits)) (lettersKnown b t) e in
+    one-more (ltb-true (b .digit x) (2 ^ b .bits) (q .0)) (known-letter b t (q .1))
 
 known-inverted : (b : Base) (t : List ℕ) → AllBytes t → lettersKnown b t ≡ true → Each (λ x. (x < 256) × (b .digit x < 2 ^ b .bits)) t
 unfolding lettersKnown
@@ -139,15 +154,15 @@ module _ (b : Base) (g : GoodBase b) where
     unfolding textOf
     each-of-text r f = each-append (each-letter r) (each-replicate (fillFor (b .group) (lettersFor (b .bits) (length xs))) fill f)
 
-    w-lt : AllBytes xs → w < radix ^ c
+    pub number-small : AllBytes xs → valueOf xs * 2 ^ spareBits (b .bits) (length xs) < (2 ^ b .bits) ^ lettersFor (b .bits) (length xs)
     unfolding n c w radix
-    w-lt p =
+    number-small p =
         subst (λ (m : ℕ). w < m) (ap (λ (m : ℕ). 2 ^ m) (sym (letters-bits (b .bits) n (g .some))) ∙ sym (pow-bits (b .bits) c))
         (shl-lt (n * 8) (spareBits (b .bits) n) (subst (λ (m : ℕ). valueOf xs < m) (pow-bits 8 n) (value-lt xs p)))
 
     number-letters : AllBytes xs → numberIn b (lettersOf b xs) ≡ w
     unfolding numberIn lettersOf n c w ds radix
-    number-letters p = ap (numberOf radix) (map-back (b .digit) (b .letter) (g .back) below) ∙ number-digits radix radix-some c w (w-lt p)
+    number-letters p = ap (numberOf radix) (map-back (b .digit) (b .letter) (g .back) below) ∙ number-digits radix radix-some c w (number-small p)
 
     known-letters : lettersKnown b (lettersOf b xs) ≡ true
     known-letters = known-each b (each-letter (λ k h. subst (λ (d : ℕ). d < 2 ^ b .bits) (sym (g .back k h)) h))
@@ -170,15 +185,15 @@ module _ (b : Base) (g : GoodBase b) where
 Plain : List ℕ → Type 0
 Plain u = Each (λ x. x ≡ fill → ⊥) u
 
-before-zero : (t : List ℕ) → beforeFill t 0 ≡ 0
+pub before-zero : (t : List ℕ) → beforeFill t 0 ≡ 0
 unfolding beforeFill
 before-zero t = refl
 
-before-stop : (t : List ℕ) (n : ℕ) → (getD t n 0 ≡ fill → ⊥) → beforeFill t (suc n) ≡ suc n
+pub before-stop : (t : List ℕ) (n : ℕ) → (getD t n 0 ≡ fill → ⊥) → beforeFill t (suc n) ≡ suc n
 unfolding beforeFill
 before-stop t n h = rw (ne-eqb (getD t n 0) fill h)
 
-before-go : (t : List ℕ) (n : ℕ) → getD t n 0 ≡ fill → beforeFill t (suc n) ≡ beforeFill t n
+pub before-go : (t : List ℕ) (n : ℕ) → getD t n 0 ≡ fill → beforeFill t (suc n) ≡ beforeFill t n
 unfolding beforeFill
 before-go t n h = rw (eq-eqb (getD t n 0) fill h)
 
@@ -233,7 +248,7 @@ rest-fills t =
     let n : ℕ = beforeFill t (length t) in
     ext-getD 0 (drop n t) (replicate (length t - n) fill) (length-drop n t ∙ sym (length-replicate (length t - n) fill))
     (λ i h. let l : n + i < length t = omega (arith, length-drop n t, before-most t (length t)) in
-      getD-drop n t i 0 ∙ before-rest t (length t) (n + i) l (omega arith) ∙ sym (getD-replicate (length t - n) i fill 0 (omega arith)))
+    getD-drop n t i 0 ∙ before-rest t (length t) (n + i) l (omega arith) ∙ sym (getD-replicate (length t - n) i fill 0 (omega arith)))
 
 -- ---- texts
 

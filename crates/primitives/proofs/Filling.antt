@@ -11,7 +11,6 @@ use lib.Dec.{leb}
 use lib.ListN.{length, getD, take, set}
 use lib.Seq.{take-suc, length-take-le, take-all}
 use Rattle.primitives.specs.Place.{overwrite, placed, placeAfter}
-use Rattle.primitives.specs.Number.{digitsOf, bytesOf}
 use Rattle.primitives.proofs.Over.{over-nil, over-snoc, over-cons, length-over, placed-room, placed-full, after-room, after-full}
 use Rattle.primitives.proofs.Numbers.{bytesOf-suc}
 
@@ -69,50 +68,52 @@ module _ {out₀ s out : List ℕ} {at i : ℕ} (p : Copying out₀ at s out i) 
   pub copy-all : length s ≤ i → out ≡ overwrite out₀ at s
   copy-all h = p .is ∙ ap (overwrite out₀ at) (take-all i s h)
 
--- ---- a number from the end: i bytes are left to write, those of the number v
+-- ---- the digits of a number from the end: i of them are left to write, those of the number v
 
-pub record Putting (out₀ : List ℕ) (at n x : ℕ) (out : List ℕ) (v i : ℕ) : Type 0 where
+-- `text n v` is what n digits of v are written as
+pub record Putting (text : ℕ → ℕ → List ℕ) (out₀ : List ℕ) (at n x : ℕ) (out : List ℕ) (v i : ℕ) : Type 0 where
   pub done : List ℕ
   pub long : length done + i ≡ n
   pub room : at + n ≤ length out₀
   pub is : out ≡ overwrite out₀ (at + i) done
-  pub left : bytesOf i v ++ done ≡ bytesOf n x
+  pub left : text i v ++ done ≡ text n x
 
-pub put-start : (out₀ : List ℕ) (at n x : ℕ) → at + n ≤ length out₀ → Putting out₀ at n x out₀ x n
-put-start out₀ at n x h =
-    record { done = []; long = omega arith; room = h; is = sym (over-nil out₀ (at + n)); left = append-nil (bytesOf n x) }
+pub put-start : (text : ℕ → ℕ → List ℕ) (out₀ : List ℕ) (at n x : ℕ) → at + n ≤ length out₀ → Putting text out₀ at n x out₀ x n
+put-start text out₀ at n x h =
+    record { done = []; long = omega arith; room = h; is = sym (over-nil out₀ (at + n)); left = append-nil (text n x) }
 
-one-less : (i v : ℕ) (done : List ℕ) → 0 < i → bytesOf (i - 1) (v / 256) ++ (v % 256 ∷ done) ≡ bytesOf i v ++ done
-one-less zero v done h = absurd (omega arith)
-one-less (suc i) v done h =
+one-less : (text : ℕ → ℕ → List ℕ) (i v rest digit : ℕ) (done : List ℕ) → ((n : ℕ) → text (suc n) v ≡ text n rest ++ (digit ∷ [])) → 0 < i
+    → text (i - 1) rest ++ (digit ∷ done) ≡ text i v ++ done
+one-less text zero v rest digit done r h = absurd (omega arith)
+one-less text (suc i) v rest digit done r h =
     let e : suc i - 1 ≡ i = omega arith in
-    ap (λ (k : ℕ). bytesOf k (v / 256) ++ (v % 256 ∷ done)) e
-    ∙ sym (append-assoc (bytesOf i (v / 256)) (v % 256 ∷ []) done)
-    ∙ ap (λ (l : List ℕ). l ++ done) (sym (bytesOf-suc i v))
+    ap (λ (k : ℕ). text k rest ++ (digit ∷ done)) e
+    ∙ sym (append-assoc (text i rest) (digit ∷ []) done)
+    ∙ ap (λ (l : List ℕ). l ++ done) (sym (r i))
 
-module _ {out₀ out : List ℕ} {at n x v i : ℕ} (p : Putting out₀ at n x out v i) where
+module _ {text : ℕ → ℕ → List ℕ} {out₀ out : List ℕ} {at n x v i : ℕ} (p : Putting text out₀ at n x out v i) where
   pub put-long : length out ≡ length out₀
   put-long = ap length (p .is) ∙ length-over out₀ (at + i) (p .done) (omega (arith, p .long, p .room))
 
-  pub put-one : 0 < i → Putting out₀ at n x (set out (at + (i - 1)) (v % 256)) (v / 256) (i - 1)
-  put-one h =
+  -- the lowest digit of v, and the number without it
+  pub put-one : (rest digit : ℕ) → ((n : ℕ) → text (suc n) v ≡ text n rest ++ (digit ∷ [])) → 0 < i → Putting text out₀ at n x (set out (at + (i - 1)) digit) rest (i - 1)
+  put-one rest digit r h =
       record {
-        done = v % 256 ∷ p .done;
+        done = digit ∷ p .done;
         long = omega (arith, p .long);
         room = p .room;
         is =
-            ap (λ (l : List ℕ). set l (at + (i - 1)) (v % 256)) (p .is ∙ ap (λ (k : ℕ). overwrite out₀ k (p .done)) e)
-            ∙ over-cons out₀ (at + (i - 1)) (p .done) (v % 256) (omega (arith, p .room, p .long));
-        left = one-less i v (p .done) h ∙ p .left;
+            ap (λ (l : List ℕ). set l (at + (i - 1)) digit) (p .is ∙ ap (λ (k : ℕ). overwrite out₀ k (p .done)) e)
+            ∙ over-cons out₀ (at + (i - 1)) (p .done) digit (omega (arith, p .room, p .long));
+        left = one-less text i v rest digit (p .done) r h ∙ p .left;
       }
     where
       e : at + i ≡ at + (i - 1) + 1
       e = omega arith
 
-  pub put-all : i ≤ 0 → out ≡ overwrite out₀ at (bytesOf n x)
-  unfolding bytesOf digitsOf
-  put-all h =
+  pub put-all : text 0 v ≡ [] → i ≤ 0 → out ≡ overwrite out₀ at (text n x)
+  put-all z h =
       let e : i ≡ 0 = omega arith in
       p .is
       ∙ ap (λ (k : ℕ). overwrite out₀ k (p .done)) (ap (λ (k : ℕ). at + k) e ∙ add-zero at)
-      ∙ ap (overwrite out₀ at) (sym (ap (λ (k : ℕ). bytesOf k v ++ p .done) e) ∙ p .left)
+      ∙ ap (overwrite out₀ at) (ap (λ (l : List ℕ). l ++ p .done) (sym z) ∙ ap (λ (k : ℕ). text k v ++ p .done) (sym e) ∙ p .left)

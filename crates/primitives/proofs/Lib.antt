@@ -1,10 +1,13 @@
 pub mod Adding
 pub mod Answers
+pub mod Base32Code
+pub mod Base32Laws
 pub mod Base64Answers
 pub mod Base64Laws
 pub mod Base64Lengths
 pub mod Base64Letters
 pub mod Base64Loops
+pub mod BaseGroups
 pub mod BaseTexts
 pub mod ByteLists
 pub mod Cipher

@@ -15,10 +15,14 @@ use Rattle.primitives.specs.Place.{overwrite}
 use Rattle.primitives.specs.Number.{numberAfter, numberOf, bytesOf, valueAfter, valueOf, numberAt}
 use Rattle.primitives.specs.declared.buffer.Number.the-variants.{Is, Missing}
 use Rattle.primitives.proofs.ByteLists.{bytes-take, bytes-drop, bytes-each, each-bytes}
-use Rattle.primitives.proofs.Radix.{digits-suc, length-digits, digits-below, digits-low, number-snoc, number-lt, number-digits, digits-number}
+use Rattle.primitives.proofs.Radix.{digits-zero, digits-suc, length-digits, digits-below, digits-low, number-snoc, number-append, number-lt, number-digits, digits-number}
 use Rattle.primitives.proofs.Over.{read-over, length-over}
 
 -- ---- the bytes of a number
+
+pub bytesOf-zero : (v : ℕ) → bytesOf 0 v ≡ []
+unfolding bytesOf
+bytesOf-zero = digits-zero 256
 
 pub bytesOf-suc : (n v : ℕ) → bytesOf (suc n) v ≡ bytesOf n (v / 256) ++ (v % 256 ∷ [])
 unfolding bytesOf
@@ -43,6 +47,10 @@ bytesOf-low = digits-low 256 (lit< tt)
 pub value-snoc : (xs : List ℕ) (b : ℕ) → valueOf (xs ++ (b ∷ [])) ≡ valueOf xs * 256 + b
 unfolding valueOf valueAfter numberOf
 value-snoc = number-snoc 256
+
+pub value-append : (xs ys : List ℕ) → valueOf (xs ++ ys) ≡ valueOf xs * 256 ^ length ys + valueOf ys
+unfolding valueOf valueAfter numberOf
+value-append = number-append 256
 
 pub value-lt : (bs : List ℕ) → AllBytes bs → valueOf bs < 256 ^ length bs
 unfolding valueOf valueAfter numberOf
@@ -151,7 +159,7 @@ module _ {s : List ℕ} {at n v i : ℕ} (p : Reading s at n v i) where
         low = rw (add-one i, pow-suc 256 i) (omega (arith, p .low));
       }
 
-  pub read-all : n ≤ i → Is v ≡ numberAt s at n
+  pub read-all : n ≤ i → v ≡ valueOf (take n (drop at s))
   read-all h =
       let e : i ≡ n = omega (arith, p .inside) in
-      ap Is (p .is ∙ ap (λ (k : ℕ). valueOf (take k (drop at s))) e) ∙ sym (number-there s at n (p .wide) (p .room))
+      p .is ∙ ap (λ (k : ℕ). valueOf (take k (drop at s))) e

@@ -16,6 +16,10 @@ Below b ds = Each (λ d. d < b) ds
 module _ (b : ℕ) where
   -- ---- the digits of a number
 
+  pub digits-zero : (v : ℕ) → digitsOf b 0 v ≡ []
+  unfolding digitsOf
+  digits-zero v = refl
+
   pub digits-suc : (n v : ℕ) → digitsOf b (suc n) v ≡ digitsOf b n (v / b) ++ (v % b ∷ [])
   unfolding digitsOf
   digits-suc n v = refl

@@ -2,10 +2,10 @@
 ghost use mathlib.Core.Path.{_≡_};
 ghost use Prim.Native.Nat.{_+_, _≤_};
 ghost use lib.Dec.{leb};
-ghost use lib.ListN.{length};
+ghost use lib.ListN.{length, take, drop};
 ghost use Rattle.primitives.specs.Place.{overwrite, placed, placeAfter};
 ghost use Rattle.primitives.specs.Bytes.{same};
-ghost use Rattle.primitives.specs.Number.{bytesOf, numberAt};
+ghost use Rattle.primitives.specs.Number.{bytesOf, valueOf, numberAt};
 
 // A buffer of this length has room for n bytes from a place on; computed without a sum, which could overflow.
 pub fn has_room(len: usize, at: usize, n: usize) -> bool
@@ -63,7 +63,21 @@ pub enum Number {
     Missing,
 }
 
-// The number in the n bytes at a place, the highest first; missing if n is above 8 or the slice ends before the last of them.
+// The number in the n bytes at a place, the highest first.
+pub(crate) fn value_at(s: &[u8], at: usize, n: usize) -> u64
+    requires { ⌜ (n ≤ 8) × (at + n ≤ length (now s)) ⌝ }
+    ensures { λ r. ⌜ r ≡ valueOf (take n (drop at (now (s .entry)))) ⌝ }
+{
+    let mut v: u64 = 0;
+    let mut i: usize = 0;
+    while i < n {
+        v = v * 256 + (s[at + i] as u64);
+        i += 1;
+    }
+    v
+}
+
+// The same; missing if n is above 8 or the slice ends before the last of them.
 pub fn number_at(s: &[u8], at: usize, n: usize) -> Number
     ensures { λ r. ⌜ r ≡ numberAt (now (s .entry)) at n ⌝ }
 {
@@ -73,13 +87,7 @@ pub fn number_at(s: &[u8], at: usize, n: usize) -> Number
     if !has_room(s.len(), at, n) {
         return Number::Missing;
     }
-    let mut v: u64 = 0;
-    let mut i: usize = 0;
-    while i < n {
-        v = v * 256 + (s[at + i] as u64);
-        i += 1;
-    }
-    Number::Is(v)
+    Number::Is(value_at(s, at, n))
 }
 
 // The same bytes, in the same order.
