@@ -1,5 +1,6 @@
 pub mod Adding
 pub mod Answers
+pub mod Base32Laws
 pub mod Base64Answers
 pub mod Base64Laws
 pub mod Base64Lengths

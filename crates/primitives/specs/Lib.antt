@@ -1,5 +1,6 @@
 pub mod Aes
 pub mod Answers
+pub mod Base32
 pub mod Base64
 pub mod Bytes
 pub mod Counter

@@ -1,6 +1,7 @@
 // The primitives of the receipt journal: SHA-256, AES-256, BASE64, counter bytes, and writing at a place in a buffer.
 mod aes;
 mod answer;
+mod base32;
 mod base64;
 mod buffer;
 mod counter;
@@ -10,6 +11,9 @@ pub use aes::aes256;
 pub use aes::encrypt_block;
 pub use aes::expand_key;
 pub use answer::Answer;
+pub use base32::base32_decode;
+pub use base32::base32_encode;
+pub use base32::base32_length;
 pub use base64::Alphabet;
 pub use base64::Decoded;
 pub use base64::base64_decode;
