@@ -15,7 +15,9 @@ pub mod FormCalls
 pub mod Forms
 pub mod IdFields
 pub mod Joined
+pub mod LineFields
 pub mod Loose
+pub mod MarkCounts
 pub mod Marks
 pub mod Missing
 pub mod Names
@@ -23,5 +25,6 @@ pub mod PaperCases
 pub mod PayloadBack
 pub mod PayloadBytes
 pub mod Signs
+pub mod Spellings
 pub mod Texts
 pub mod Written
