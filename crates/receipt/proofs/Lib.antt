@@ -16,6 +16,7 @@ pub mod Forms
 pub mod IdFields
 pub mod Joined
 pub mod LineFields
+pub mod Lines
 pub mod Loose
 pub mod MarkCounts
 pub mod Marks
@@ -27,4 +28,5 @@ pub mod PayloadBytes
 pub mod Signs
 pub mod Spellings
 pub mod Texts
+pub mod Undoing
 pub mod Written
