@@ -99,3 +99,106 @@ no-fields code b e = fields-exact Base64 code b .nothing (λ f w. clash f (spell
   where
     clash : (f : CodeFields) → partsOfCode code ≡ some (partsIn f) → ⊥
     clash f q = let z : _≡_ {A = ℕ} 0 1 = cc in omega arith
+
+-- ---- line to code
+
+module _ (line : List ℕ) (b : AllBytes line) where
+  code-there : (f : CodeFields) → fieldsOf Base32 line ≡ some f → HasCode line
+  code-there f e =
+      let w = fields-only Base32 line f b e in
+      record { code = textIn Base64 f; is = record { fields = f; asCode = record { good = w .good; bytes = w .bytes; is = refl }; asLine = w } }
+
+  no-code : (HasCode line → ⊥) → fieldsOf Base32 line ≡ none
+  no-code n = go (fieldsOf Base32 line) refl
+    where
+      go : (o : Option CodeFields) → fieldsOf Base32 line ≡ o → fieldsOf Base32 line ≡ none
+      go none e = e
+      go (some f) e = absurd (n (code-there f e))
+
+  to-code : (code : List ℕ) → ImageOf line code → Option·map (textIn Base64) (fieldsOf Base32 line) ≡ some code
+  to-code code w = ap (Option·map (textIn Base64)) (fields-exact Base32 line b .all (w .fields) (w .asLine)) ∙ ap some (sym (w .asCode .is))
+
+  code-given : (code : List ℕ) → ImageOf line code → (out : List ℕ) → (unlineAnswer line out ≡ written out code) × (unlineBuffer line out ≡ placed out 0 code)
+  unfolding unlineAnswer unlineBuffer
+  code-given code w out =
+      (ap (λ (o : Option (List ℕ)). answerWith 27 o out) (to-code code w), ap (λ (o : Option (List ℕ)). bufferWith o out) (to-code code w))
+
+  code-refused : (HasCode line → ⊥) → (out : List ℕ) → (unlineAnswer line out ≡ record { number = 27; length = 0 }) × (unlineBuffer line out ≡ out)
+  unfolding unlineAnswer unlineBuffer
+  code-refused n out = (rw (no-code n), rw (no-code n))
+
+  code-image : (out : List ℕ) → (unlineAnswer line out .number ≡ 27 → ⊥) → HasCode line
+  unfolding unlineAnswer
+  code-image out h = go (fieldsOf Base32 line) refl h
+    where
+      go : (o : Option CodeFields) → fieldsOf Base32 line ≡ o → (answerWith 27 (Option·map (textIn Base64) o) out .number ≡ 27 → ⊥) → HasCode line
+      go none e k = absurd (k refl)
+      go (some f) e k = code-there f e
+
+pub line-is-image : LineIsImage
+line-is-image line b = record { given = code-given line b; refused = code-refused line b; image = code-image line b }
+
+-- ---- code to line
+
+module _ (code : List ℕ) (b : AllBytes code) where
+  line-there : (f : CodeFields) → fieldsOf Base64 code ≡ some f → HasLine code
+  line-there f e =
+      let w = fields-only Base64 code f b e in
+      record { line = textIn Base32 f; is = record { fields = f; asCode = w; asLine = record { good = w .good; bytes = w .bytes; is = refl } } }
+
+  no-line : (HasLine code → ⊥) → fieldsOf Base64 code ≡ none
+  no-line n = go (fieldsOf Base64 code) refl
+    where
+      go : (o : Option CodeFields) → fieldsOf Base64 code ≡ o → fieldsOf Base64 code ≡ none
+      go none e = e
+      go (some f) e = absurd (n (line-there f e))
+
+  to-line : (line : List ℕ) → ImageOf line code → Option·map (textIn Base32) (fieldsOf Base64 code) ≡ some line
+  to-line line w = ap (Option·map (textIn Base32)) (fields-exact Base64 code b .all (w .fields) (w .asCode)) ∙ ap some (sym (w .asLine .is))
+
+  line-given : (line : List ℕ) → ImageOf line code → (out : List ℕ) → (lineAnswer code out ≡ written out line) × (lineBuffer code out ≡ placed out 0 line)
+  unfolding lineAnswer lineBuffer
+  line-given line w out = (
+    ap (λ (o : Option (List ℕ)). answerWith (refusalOf (partsOfCode code)) o out) (to-line line w),
+    ap (λ (o : Option (List ℕ)). bufferWith o out) (to-line line w),
+  )
+
+  line-no-code : partsOfCode code ≡ none → (out : List ℕ) → (lineAnswer code out ≡ record { number = 24; length = 0 }) × (lineBuffer code out ≡ out)
+  unfolding lineAnswer lineBuffer
+  line-no-code e out = (rw (no-fields code b e, e), rw (no-fields code b e))
+
+  line-refused : (p : Parts) → partsOfCode code ≡ some p → (HasLine code → ⊥) → (out : List ℕ)
+      → (lineAnswer code out ≡ record { number = 26; length = 0 }) × (lineBuffer code out ≡ out)
+  unfolding lineAnswer lineBuffer
+  line-refused p e n out = (rw (no-line n, e), rw (no-line n))
+
+  line-image : (p : Parts) → partsOfCode code ≡ some p → (out : List ℕ) → (lineAnswer code out .number ≡ 26 → ⊥) → HasLine code
+  unfolding lineAnswer
+  line-image p q out h = go (fieldsOf Base64 code) refl h
+    where
+      go : (o : Option CodeFields) → fieldsOf Base64 code ≡ o → (answerWith (refusalOf (partsOfCode code)) (Option·map (textIn Base32) o) out .number ≡ 26 → ⊥) → HasLine code
+      go none e k = absurd (k (ap refusalOf q))
+      go (some f) e k = line-there f e
+
+pub code-has-line : CodeHasLine
+code-has-line code b = record { given = line-given code b; noCode = line-no-code code b; noLine = line-refused code b; image = line-image code b }
+
+-- ---- the calls undo each other
+
+refused-some : (o : Option Parts) → refusalOf o ≡ 0 → ⊥
+refused-some none e = omega arith
+refused-some (some p) e = omega arith
+
+pub code-after-line : CodeAfterLine
+unfolding lineAnswer lineBuffer unlineAnswer unlineBuffer
+code-after-line code out again b accepted room =
+    round (refusalOf (partsOfCode code)) 27 (textIn Base32) (textIn Base64) (fieldsOf Base64 code) (fieldsOf Base32) code out again (refused-some (partsOfCode code))
+    (λ f e. fields-only Base64 code f b e .is)
+    (λ f e. fields-back Base32 f (fields-only Base64 code f b e .good) (fields-only Base64 code f b e .bytes)) accepted room
+
+pub line-after-code : LineAfterCode
+unfolding lineAnswer lineBuffer unlineAnswer unlineBuffer
+line-after-code line out again b accepted room =
+    round 27 (refusalOf (partsOfCode (codeRemade line out))) (textIn Base64) (textIn Base32) (fieldsOf Base32 line) (fieldsOf Base64) line out again (λ e. absurd (omega arith))
+    (λ f e. fields-only Base32 line f b e .is)
+    (λ f e. fields-back Base64 f (fields-only Base32 line f b e .good) (fields-only Base32 line f b e .bytes)) accepted room
