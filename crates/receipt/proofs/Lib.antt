@@ -25,6 +25,7 @@ pub mod Names
 pub mod PaperCases
 pub mod PayloadBack
 pub mod PayloadBytes
+pub mod ReceiptLines
 pub mod Signs
 pub mod Spellings
 pub mod Texts

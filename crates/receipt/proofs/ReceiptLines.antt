@@ -1,0 +1,168 @@
+-- The code of every receipt has a line: the fields of a receipt's code are good, and how long they are.
+use Prim.Native.Nat.{ℕ, zero, suc, _+_, _*_, _≤_, _<_}
+use mathlib.Core.Path.{_≡_, refl, sym, ap, _∙_, subst}
+use mathlib.Core.Bool.{Bool, true, false, _&&_}
+use mathlib.Core.List.{List, [], _∷_, _++_, append-assoc, append-nil}
+use native.Mathlib.Omega.{arith}
+use borrow.Author.Tests.{eq-eqb, leb-true}
+use lib.Dec.{leb}
+use lib.IntN.{ℤ}
+use lib.ListN.{length, getD, take, length-append, length-take}
+use lib.Seq.{take-at}
+use Rattle.primitives.specs.Bytes.{AllBytes}
+use Rattle.primitives.proofs.ByteLists.{bytes-take, same-refl}
+use Rattle.primitives.proofs.Rows.{both}
+use Rattle.receipt.specs.Decimal.{digits}
+use Rattle.receipt.specs.Amount.{amount, withinLimit, amountsText}
+use Rattle.receipt.specs.DateTime.{dateText}
+use Rattle.receipt.specs.Details.{amountsGood}
+use Rattle.receipt.specs.Settings.{between, idLetter, nameText, every, cspGood, settingsGood, SettingsLengths, SettingsBytes}
+use Rattle.receipt.specs.Texts.{beginning, cancellationText, trainingText}
+use Rattle.receipt.specs.Payload.{base64, registerPart, moment, counterContent, counterField, closing, body, payload}
+use Rattle.receipt.specs.Form.{Without, Parts, parts, payloadGood, signatureGood, partsGood, failureText}
+use Rattle.receipt.specs.Compact.{TypedEntry, signatureText, spellable}
+use Rattle.receipt.specs.Code.{codeText}
+use Rattle.receipt.specs.Line.{CodeFields, FieldsOfBytes, countOf, twelve, payloadIn, textIn, codeFieldsGood}
+use Rattle.receipt.specs.LineLaws.{SpelledAs, ImageOf, HasLine, ReceiptHasLine}
+use Rattle.receipt.specs.declared.datetime.DateTime.{DateTime}
+use Rattle.receipt.specs.declared.details.Kind.{Kind}
+use Rattle.receipt.specs.declared.details.Kind.the-variants.{Standard, Cancellation, Training}
+use Rattle.receipt.specs.declared.settings.Settings.{Settings}
+use Rattle.receipt.specs.declared.settings.Letters.{Letters}
+use Rattle.receipt.specs.declared.settings.Letters.the-variants.{Id, Serial}
+use Rattle.receipt.specs.declared.payload.PayloadFields.{PayloadFields}
+use Rattle.receipt.specs.declared.entry.Signature.{Signature}
+use Rattle.receipt.specs.declared.entry.Entry.{Entry}
+use Rattle.receipt.specs.declared.optical_line.Spelling.the-variants.{Base64, Base32}
+use Rattle.receipt.proofs.Texts.{cancellation-long, training-long, failure-long, failure-bytes}
+use Rattle.receipt.proofs.Signs.{Signs, each-digits, each-amount, each-date}
+use Rattle.receipt.proofs.Names.{letters-bytes, letters-no-mark, text-short, good-settings}
+use Rattle.receipt.proofs.Digits.{length-digits, width-short}
+use Rattle.receipt.proofs.Cents.{amount-short}
+use Rattle.receipt.proofs.Written.{sized-short, length-register, length-moment, good, payload-short}
+use Rattle.receipt.proofs.PayloadBytes.{payload-bytes}
+use Rattle.receipt.proofs.CodeTexts.{signature-whole, signature-text, signature-most}
+use Rattle.receipt.proofs.EntryCalls.{spellable-true, text-whole, text-failed}
+use Rattle.receipt.proofs.ExactEntry.{payload-good}
+use Rattle.receipt.proofs.MarkCounts.{count-append, count-none, without-each}
+use Rattle.receipt.proofs.Lines.{partsIn, code-of}
+
+-- ---- texts without "_"
+
+no-mark : Signs (λ b. b ≡ 95 → ⊥)
+no-mark =
+    record {
+      digit = λ d h e. omega arith;
+      comma = λ e. omega arith;
+      minus = λ e. omega arith;
+      colon = λ e. omega arith;
+      letter = λ e. omega arith;
+    }
+
+digits-none : (n : ℕ) → countOf 95 (digits n) ≡ 0
+digits-none n = count-none 95 (digits n) (without-each (each-digits no-mark n))
+
+date-none : (t : DateTime) → countOf 95 (dateText t) ≡ 0
+date-none t = count-none 95 (dateText t) (without-each (each-date no-mark t))
+
+amount-none : (z : ℤ) → countOf 95 (amount z) ≡ 0
+amount-none z = count-none 95 (amount z) (without-each (each-amount no-mark z))
+
+letters-none : (class : Letters) (t : List ℕ) → every class t ≡ true → countOf 95 t ≡ 0
+letters-none class t e = count-none 95 t (record { at = λ i h q. letters-no-mark class t e i q })
+
+-- a letter or a digit of a CSP is below "_"
+low-letter : (low high b : ℕ) → high < 95 → between low high b ≡ true → b ≡ 95 → ⊥
+unfolding between
+low-letter low high b h e q = omega (arith, leb-true b high (both (leb low b) (leb b high) e .1))
+
+csp-none : (csp : List ℕ) → length csp ≡ 3 → cspGood csp ≡ true → countOf 95 csp ≡ 0
+unfolding cspGood
+csp-none csp l e =
+    let p = both (between 65 90 (getD csp 0 0)) (between 65 90 (getD csp 1 0) && between 48 57 (getD csp 2 0)) e in
+    let q = both (between 65 90 (getD csp 1 0)) (between 48 57 (getD csp 2 0)) (p .1) in
+    count-none 95 csp (record { at = at (p .0) (q .0) (q .1) })
+  where
+    at : between 65 90 (getD csp 0 0) ≡ true → between 65 90 (getD csp 1 0) ≡ true → between 48 57 (getD csp 2 0) ≡ true
+        → (i : ℕ) → i < length csp → getD csp i 0 ≡ 95 → ⊥
+    at p q r zero h = low-letter 65 90 (getD csp 0 0) (omega arith) p
+    at p q r (suc zero) h = low-letter 65 90 (getD csp 1 0) (omega arith) q
+    at p q r (suc (suc zero)) h = low-letter 48 57 (getD csp 2 0) (omega arith) r
+    at p q r (suc (suc (suc i))) h = absurd (omega arith)
+
+-- ---- amounts
+
+-- joined by "_"
+joined : List ℤ → List ℕ
+joined [] = []
+joined (z ∷ []) = amount z
+joined (z ∷ y ∷ ys) = (amount z ++ (95 ∷ [])) ++ joined (y ∷ ys)
+
+one-mark : countOf 95 (95 ∷ []) ≡ 1
+unfolding countOf
+one-mark = refl
+
+-- a "_" follows the last
+amounts-joined : (z : ℤ) (zs : List ℤ) → amountsText (z ∷ zs) ≡ joined (z ∷ zs) ++ (95 ∷ [])
+unfolding amountsText joined
+amounts-joined z [] = append-nil (amount z ++ (95 ∷ []))
+amounts-joined z (y ∷ ys) =
+    ap (λ (l : List ℕ). (amount z ++ (95 ∷ [])) ++ l) (amounts-joined y ys) ∙ sym (append-assoc (amount z ++ (95 ∷ [])) (joined (y ∷ ys)) (95 ∷ []))
+
+count-joined : (z : ℤ) (zs : List ℤ) → countOf 95 (joined (z ∷ zs)) ≡ length zs
+unfolding joined
+count-joined z [] = amount-none z
+count-joined z (y ∷ ys) = simp count-append (omega (arith, amount-none z, one-mark, count-joined y ys))
+
+length-joined : (z : ℤ) (zs : List ℤ) → amountsGood (z ∷ zs) ≡ true → length (joined (z ∷ zs)) ≤ 12 + 13 * length zs
+unfolding joined amountsGood
+length-joined z [] e = omega (arith, amount-short z (both (withinLimit z) (amountsGood []) e .0))
+length-joined z (y ∷ ys) e =
+    let p = both (withinLimit z) (amountsGood (y ∷ ys)) e in
+    simp length-append (omega (arith, amount-short z (p .0), length-joined y ys (p .1)))
+
+-- ---- the parts of a payload
+
+count-beginning : countOf 95 beginning ≡ 1
+unfolding countOf beginning
+count-beginning = refl
+
+-- the CSP and the ID of good settings have no "_"
+count-register : (s : Settings) → SettingsLengths s → settingsGood s ≡ true → countOf 95 (registerPart s) ≡ 3
+unfolding registerPart
+count-register s l e =
+    let g = good-settings s e in
+    simp count-append
+    (omega (arith, count-beginning, one-mark, csp-none (s .csp) (l .csp) (g .csp), letters-none Id (nameText (s .id)) (g .id .letters)))
+
+count-moment : (n : ℕ) (t : DateTime) → countOf 95 (moment n t) ≡ 2
+unfolding moment
+count-moment n t = simp count-append (omega (arith, one-mark, digits-none n, date-none t))
+
+-- ---- counter field and signature
+
+module _ (n : ℕ) where
+  content-short : (kind : Kind) (counter : List ℕ) → length counter ≡ 8 → length (counterContent n kind counter) ≤ 8
+  unfolding counterContent
+  content-short Standard counter l = omega (arith, length-take n counter)
+  content-short Cancellation counter l = omega (arith, cancellation-long)
+  content-short Training counter l = omega (arith, training-long)
+
+  content-bytes : (kind : Kind) (counter : List ℕ) → AllBytes counter → AllBytes (counterContent n kind counter)
+  unfolding counterContent cancellationText trainingText every idLetter between
+  content-bytes Standard counter b = bytes-take n b
+  content-bytes Cancellation counter b = letters-bytes Id cancellationText refl
+  content-bytes Training counter b = letters-bytes Id trainingText refl
+
+-- the text of a signature is good, and is bytes
+signature-good : (g : Signature) → length (g .bytes) ≡ 64 → AllBytes (g .bytes) → (signatureGood (signatureText g) ≡ true) × AllBytes (signatureText g)
+signature-good g l b = go (g .failed) refl
+  where
+    Fine : List ℕ → Type 0
+    Fine t = (signatureGood t ≡ true) × AllBytes t
+
+    go : (t : Bool) → g .failed ≡ t → Fine (signatureText g)
+    go true e =
+        subst Fine (text-failed g e)
+        (sym (signature-text failureText (λ q. absurd (omega (arith, failure-long))) (sym (same-refl failureText)) refl), failure-bytes)
+    go false e = subst Fine (text-whole g e) (sym (signature-whole (g .bytes) l), b)
