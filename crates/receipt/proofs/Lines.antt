@@ -45,6 +45,13 @@ fields-exact s text b =
     none-found none e h = e
     none-found (some f) e h = absurd (h f (fields-only s text f b e))
 
+-- a text is the spelling of one set of fields at most
+pub one-spelling : (s : Spelling) (text : List ℕ) (f g : CodeFields) → SpelledAs s text f → SpelledAs s text g → f ≡ g
+one-spelling s text f g v w =
+    let a : fieldsOf s text ≡ some f = ap (fieldsOf s) (v .is) ∙ fields-back s f (v .good) (v .bytes) in
+    let b : fieldsOf s text ≡ some g = ap (fieldsOf s) (w .is) ∙ fields-back s g (w .good) (w .bytes) in
+    cc
+
 -- ---- twelve "_", and lengths
 
 one-mark : countOf 95 (95 ∷ []) ≡ 1

@@ -45,7 +45,7 @@ use Rattle.receipt.proofs.CodeTexts.{signature-whole, signature-text, s
 use Rattle.receipt.proofs.EntryCalls.{spellable-true, text-whole, text-failed}
 use Rattle.receipt.proofs.ExactEntry.{payload-good}
 use Rattle.receipt.proofs.MarkCounts.{count-append, count-none, without-each}
-use Rattle.receipt.proofs.Lines.{partsIn, code-of}
+use Rattle.receipt.proofs.Lines.{code-of, one-spelling}
 
 -- ---- texts without "_"
 
@@ -93,7 +93,7 @@ csp-none csp l e =
 -- ---- amounts
 
 -- joined by "_"
-joined : List ℤ → List ℕ
+unfoldable pub joined : List ℤ → List ℕ
 joined [] = []
 joined (z ∷ []) = amount z
 joined (z ∷ y ∷ ys) = (amount z ++ (95 ∷ [])) ++ joined (y ∷ ys)
@@ -120,6 +120,18 @@ length-joined z [] e = omega (arith, amount-short z (both (withinLimit z) (amoun
 length-joined z (y ∷ ys) e =
     let p = both (withinLimit z) (amountsGood (y ∷ ys)) e in
     simp length-append (omega (arith, amount-short z (p .0), length-joined y ys (p .1)))
+
+amounts-end : (zs : List ℤ) → 0 < length zs → amountsText zs ≡ joined zs ++ (95 ∷ [])
+amounts-end [] h = absurd (omega arith)
+amounts-end (z ∷ zs) h = amounts-joined z zs
+
+count-amounts : (zs : List ℤ) → 0 < length zs → countOf 95 (joined zs) + 1 ≡ length zs
+count-amounts [] h = absurd (omega arith)
+count-amounts (z ∷ zs) h = omega (arith, count-joined z zs)
+
+length-amounts : (zs : List ℤ) → 0 < length zs → amountsGood zs ≡ true → length (joined zs) + 1 ≤ 13 * length zs
+length-amounts [] h e = absurd (omega arith)
+length-amounts (z ∷ zs) h e = omega (arith, length-joined z zs e)
 
 -- ---- the parts of a payload
 
@@ -166,3 +178,135 @@ signature-good g l b = go (g .failed) refl
         subst Fine (text-failed g e)
         (sym (signature-text failureText (λ q. absurd (omega (arith, failure-long))) (sym (same-refl failureText)) refl), failure-bytes)
     go false e = subst Fine (text-whole g e) (sym (signature-whole (g .bytes) l), b)
+
+-- ---- the fields of a receipt's code
+
+unfoldable pub fieldsIn : Settings → ℕ → Entry → CodeFields
+fieldsIn s n e =
+    record {
+      start = registerPart s ++ (moment (e .fields .details .number) (e .fields .details .date) ++ joined (e .fields .details .amounts));
+      counter = counterContent n (e .fields .details .kind) (e .fields .counter);
+      serial = nameText (s .serial);
+      chain = e .fields .chain;
+      signature = signatureText (e .signature);
+    }
+
+abbrev codeOf : Settings → ℕ → Entry → List ℕ
+codeOf s n e = codeText (parts (payload s n (e .fields)) (signatureText (e .signature)))
+
+-- they are good, the code is their spelling, and they are no longer than this
+pub record ReceiptFields (s : Settings) (n : ℕ) (e : Entry) (f : CodeFields) : Type 0 where
+  pub asCode : SpelledAs Base64 (codeText (parts (payload s n (e .fields)) (signatureText (e .signature)))) f
+  pub start : length (f .start) ≤ 136
+  pub counter : length (f .counter) ≤ 8
+  pub serial : length (f .serial) ≤ 32
+  pub chain : length (f .chain) ≡ 8
+  pub signature : length (f .signature) ≤ 64
+
+module _ (s : Settings) (n : ℕ) (e : Entry) (five : length (e .fields .details .amounts) ≡ 5) where
+  payload-is : payloadIn Base64 (fieldsIn s n e) ≡ payload s n (e .fields)
+  unfolding payloadIn payload body closing counterField fieldsIn
+  payload-is = rw (amounts-end (e .fields .details .amounts) (omega arith)) (simp append-assoc)
+
+  code-is : codeOf s n e ≡ textIn Base64 (fieldsIn s n e)
+  unfolding fieldsIn
+  code-is = ap (λ (p : List ℕ). codeText (parts p (signatureText (e .signature)))) (sym payload-is) ∙ sym (code-of (fieldsIn s n e))
+
+  module _ (l : SettingsLengths s) (g : settingsGood s ≡ true) where
+    count-start : countOf 95 (fieldsIn s n e .start) ≡ 9
+    unfolding fieldsIn
+    count-start =
+        simp count-append
+        (omega (arith, count-register s l g, count-moment (e .fields .details .number) (e .fields .details .date), count-amounts (e .fields .details .amounts) (omega arith)))
+
+    count-serial : countOf 95 (fieldsIn s n e .serial) ≡ 0
+    unfolding fieldsIn
+    count-serial = letters-none Serial (nameText (s .serial)) (good-settings s g .serial .letters)
+
+    fields-twelve : twelve (fieldsIn s n e) ≡ true
+    unfolding twelve
+    fields-twelve = rw (eq-eqb (countOf 95 (fieldsIn s n e .start)) 9 count-start, eq-eqb (countOf 95 (fieldsIn s n e .serial)) 0 count-serial)
+
+module _ (s : Settings) (n : ℕ) (e : Entry) (l : SettingsLengths s) (b : SettingsBytes s) (g : settingsGood s ≡ true) (te : TypedEntry e) (can : spellable s n e ≡ true) where
+  abbrev five : length (e .fields .details .amounts) ≡ 5
+  five = te .fields .amounts
+
+  signature-fine : (signatureGood (signatureText (e .signature)) ≡ true) × AllBytes (signatureText (e .signature))
+  signature-fine = signature-good (e .signature) (te .signature) (te .signatureBytes)
+
+  parts-good : partsGood (parts (payload s n (e .fields)) (signatureText (e .signature))) ≡ true
+  parts-good =
+      let c = spellable-true s n e can .fields in
+      rw (payload-good s n (e .fields) (payload-short s n (e .fields) l (c .sized) (te .fields) (c .fields))) (signature-fine .0)
+
+  fields-good : codeFieldsGood (fieldsIn s n e) ≡ true
+  unfolding codeFieldsGood fieldsIn
+  fields-good = rw (fields-twelve s n e five l g, payload-is s n e five) parts-good
+
+  -- the start is the payload's
+  start-bytes : AllBytes (fieldsIn s n e .start)
+  unfolding payloadIn
+  start-bytes =
+      let f : CodeFields = fieldsIn s n e in
+      let is : payload s n (e .fields) ≡ f .start ++ rest f = sym (payload-is s n e five) ∙ simp append-assoc in
+      subst AllBytes (ap (take (length (f .start))) is ∙ take-at (f .start) (rest f) (length (f .start)) refl) (bytes-take (length (f .start)) (payload-bytes s n (e .fields) b))
+    where
+      rest : CodeFields → List ℕ
+      rest f = (95 ∷ []) ++ (base64 (f .counter) ++ ((95 ∷ []) ++ (f .serial ++ ((95 ∷ []) ++ base64 (f .chain)))))
+
+  fields-bytes : FieldsOfBytes (fieldsIn s n e)
+  unfolding fieldsIn nameText
+  fields-bytes =
+      record {
+        start = start-bytes;
+        counter = content-bytes n (e .fields .details .kind) (e .fields .counter) (te .fields .counterBytes);
+        serial = bytes-take (s .serial .len) (b .serial);
+        chain = te .fields .chainBytes;
+        signature = signature-fine .1;
+      }
+
+  start-short : length (fieldsIn s n e .start) ≤ 136
+  unfolding fieldsIn
+  start-short =
+      let c = spellable-true s n e can .fields in
+      let h = sized-short s (c .sized) in
+      let d = e .fields .details in
+      let k : d .number < 4294967296 = te .fields .number in
+      simp length-append
+      (omega (
+        arith,
+        length-register s (l .csp) (l .id) (h .id),
+        length-moment (d .number) (d .date),
+        length-digits (d .number),
+        width-short 9 (d .number) (omega arith),
+        length-amounts (d .amounts) (omega arith) (good n (e .fields) (c .fields) .amounts),
+      ))
+
+  pub receipt-fields : ReceiptFields s n e (fieldsIn s n e)
+  unfolding fieldsIn
+  receipt-fields =
+      record {
+        asCode = record { good = fields-good; bytes = fields-bytes; is = code-is s n e five };
+        start = start-short;
+        counter = content-short n (e .fields .details .kind) (e .fields .counter) (te .fields .counter);
+        serial = text-short (s .serial) (l .serial);
+        chain = te .fields .chain;
+        signature = signature-most (signatureText (e .signature)) (signature-fine .0);
+      }
+
+-- ---- the law
+
+pub receipt-has-line : ReceiptHasLine
+receipt-has-line s n e l b g te can =
+    let w = receipt-fields s n e l b g te can .asCode in
+    record {
+      line = textIn Base32 (fieldsIn s n e);
+      is = record { fields = fieldsIn s n e; asCode = w; asLine = record { good = w .good; bytes = w .bytes; is = refl } };
+    }
+
+-- and only one, that of these fields
+pub receipt-line : (s : Settings) (n : ℕ) (e : Entry) → SettingsLengths s → SettingsBytes s → settingsGood s ≡ true → TypedEntry e → spellable s n e ≡ true → (line : List ℕ)
+    → ImageOf line (codeText (parts (payload s n (e .fields)) (signatureText (e .signature)))) → line ≡ textIn Base32 (fieldsIn s n e)
+receipt-line s n e l b g te can line w =
+    let r = receipt-fields s n e l b g te can .asCode in
+    w .asLine .is ∙ ap (textIn Base32) (one-spelling Base64 (codeOf s n e) (w .fields) (fieldsIn s n e) (w .asCode) r)
