@@ -16,6 +16,7 @@ pub mod Forms
 pub mod IdFields
 pub mod Joined
 pub mod LineFields
+pub mod LineMarks
 pub mod Lines
 pub mod Loose
 pub mod MarkCounts
@@ -25,7 +26,7 @@ pub mod Names
 pub mod PaperCases
 pub mod PayloadBack
 pub mod PayloadBytes
-pub mod ReceiptLines
+pub mod ReceiptFields
 pub mod Signs
 pub mod Spellings
 pub mod Texts

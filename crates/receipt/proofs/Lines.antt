@@ -1,27 +1,31 @@
 -- The optical line of a code: the reader is exact, a line is the image of a code, and the calls undo each other.
-use Prim.Native.Nat.{ℕ, _+_, _*_, _/_, _≤_}
+use Prim.Native.Nat.{ℕ, _+_, _*_, _/_}
 use mathlib.Core.Path.{_≡_, refl, sym, ap, _∙_}
 use mathlib.Core.Bool.{true}
-use mathlib.Core.List.{List, [], _∷_, _++_}
+use mathlib.Core.List.{List, [], _∷_}
 use mathlib.Core.Option.{Option, none, some, Option·map}
 use native.Mathlib.Omega.{arith}
 use lib.ListN.{length, length-append}
-use lib.Seq.{append-snoc}
 use Rattle.primitives.specs.Place.{placed}
 use Rattle.primitives.specs.Answers.{written, answerWith, bufferWith}
 use Rattle.primitives.specs.Bytes.{AllBytes}
 use Rattle.primitives.specs.Base32.{encodedLength32}
 use Rattle.primitives.proofs.ByteLists.{bytes-nil, bytes-cons, bytes-append}
-use Rattle.receipt.specs.Form.{Parts, parts, PartsOfBytes}
-use Rattle.receipt.specs.Code.{codeText, partsOfCode}
-use Rattle.receipt.specs.Line.{spell, CodeFields, FieldsOfBytes, countOf, twelve, payloadIn, textIn, codeFieldsGood, fieldsOf, refusalOf, lineAnswer, lineBuffer, unlineAnswer, unlineBuffer, codeRemade}
-use Rattle.receipt.specs.LineLaws.{SpelledAs, FieldsAreExact, TwelveSeparators, ImageOf, HasCode, HasLine, LineIsImage, CodeHasLine, CodeAfterLine, LineAfterCode}
+use Rattle.receipt.specs.Settings.{SettingsLengths, SettingsBytes, settingsGood}
+use Rattle.receipt.specs.Form.{Parts}
+use Rattle.receipt.specs.Compact.{TypedEntry, spellable}
+use Rattle.receipt.specs.Code.{partsOfCode}
+use Rattle.receipt.specs.Line.{spell, CodeFields, FieldsOfBytes, countOf, payloadIn, textIn, fieldsOf, refusalOf, lineAnswer, lineBuffer, unlineAnswer, unlineBuffer, codeRemade}
+use Rattle.receipt.specs.LineLaws.{SpelledAs, FieldsAreExact, TwelveSeparators, ImageOf, HasCode, HasLine, LineIsImage, CodeHasLine, CodeAfterLine, LineAfterCode, ReceiptHasLine}
+use Rattle.receipt.specs.declared.settings.Settings.{Settings}
+use Rattle.receipt.specs.declared.entry.Entry.{Entry}
 use Rattle.receipt.specs.declared.optical_line.Spelling.{Spelling}
 use Rattle.receipt.specs.declared.optical_line.Spelling.the-variants.{Base64, Base32}
 use Rattle.receipt.proofs.Codes.{code-back}
-use Rattle.receipt.proofs.MarkCounts.{count-append, count-none}
+use Rattle.receipt.proofs.MarkCounts.{one-mark, count-append, count-none}
 use Rattle.receipt.proofs.Spellings.{spell-bytes, spell-none, spelledLength, length-spell}
-use Rattle.receipt.proofs.LineFields.{good-parts, start-nine, serial-none, fields-back, fields-only}
+use Rattle.receipt.proofs.LineFields.{good-parts, start-nine, serial-none, fields-back, fields-only, one-spelling, code-of, partsIn}
+use Rattle.receipt.proofs.ReceiptFields.{fieldsIn, codeOf, receipt-fields}
 use Rattle.receipt.proofs.Undoing.{round}
 
 -- ---- the reader
@@ -45,18 +49,7 @@ fields-exact s text b =
     none-found none e h = e
     none-found (some f) e h = absurd (h f (fields-only s text f b e))
 
--- a text is the spelling of one set of fields at most
-pub one-spelling : (s : Spelling) (text : List ℕ) (f g : CodeFields) → SpelledAs s text f → SpelledAs s text g → f ≡ g
-one-spelling s text f g v w =
-    let a : fieldsOf s text ≡ some f = ap (fieldsOf s) (v .is) ∙ fields-back s f (v .good) (v .bytes) in
-    let b : fieldsOf s text ≡ some g = ap (fieldsOf s) (w .is) ∙ fields-back s g (w .good) (w .bytes) in
-    cc
-
 -- ---- twelve "_", and lengths
-
-one-mark : countOf 95 (95 ∷ []) ≡ 1
-unfolding countOf
-one-mark = refl
 
 pub twelve-separators : TwelveSeparators
 unfolding payloadIn
@@ -86,14 +79,6 @@ unfolding payloadIn
 payload-bytes s f b =
     let mark : AllBytes (95 ∷ []) = bytes-cons (omega arith) bytes-nil in
     bytes-append (bytes-append (bytes-append (bytes-append (bytes-append (bytes-append (b .start) mark) (spell-bytes s (f .counter))) mark) (b .serial)) mark) (spell-bytes s (f .chain))
-
-module _ (f : CodeFields) where
-  abbrev pub partsIn : Parts
-  partsIn = parts (payloadIn Base64 f) (f .signature)
-
-  pub code-of : textIn Base64 f ≡ codeText partsIn
-  unfolding textIn codeText
-  code-of = refl
 
 -- the spelling of good fields in BASE64 is the code of good parts
 pub spelled-parts : (code : List ℕ) (f : CodeFields) → SpelledAs Base64 code f → partsOfCode code ≡ some (partsIn f)
@@ -209,3 +194,20 @@ line-after-code line out again b accepted room =
     round 27 (refusalOf (partsOfCode (codeRemade line out))) (textIn Base64) (textIn Base32) (fieldsOf Base32 line) (fieldsOf Base64) line out again (λ e. absurd (omega arith))
     (λ f e. fields-only Base32 line f b e .is)
     (λ f e. fields-back Base64 f (fields-only Base32 line f b e .good) (fields-only Base32 line f b e .bytes)) accepted room
+
+-- ---- receipts
+
+pub receipt-has-line : ReceiptHasLine
+receipt-has-line s n e l b g te can =
+    let w = receipt-fields s n e l b g te can .asCode in
+    record {
+      line = textIn Base32 (fieldsIn s n e);
+      is = record { fields = fieldsIn s n e; asCode = w; asLine = record { good = w .good; bytes = w .bytes; is = refl } };
+    }
+
+-- and only one, that of these fields
+pub receipt-line : (s : Settings) (n : ℕ) (e : Entry) → SettingsLengths s → SettingsBytes s → settingsGood s ≡ true → TypedEntry e → spellable s n e ≡ true → (line : List ℕ)
+    → ImageOf line (codeOf s n e) → line ≡ textIn Base32 (fieldsIn s n e)
+receipt-line s n e l b g te can line w =
+    let r = receipt-fields s n e l b g te can .asCode in
+    w .asLine .is ∙ ap (textIn Base32) (one-spelling Base64 (codeOf s n e) (w .fields) (fieldsIn s n e) (w .asCode) r)

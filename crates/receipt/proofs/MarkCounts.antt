@@ -11,6 +11,10 @@ use Rattle.primitives.proofs.Each.{Each, each-at}
 use Rattle.receipt.specs.Form.{Without}
 use Rattle.receipt.specs.Line.{countOf}
 
+pub one-mark : countOf 95 (95 ∷ []) ≡ 1
+unfolding countOf
+one-mark = refl
+
 pub count-append : (b : ℕ) (xs ys : List ℕ) → countOf b (xs ++ ys) ≡ countOf b xs + countOf b ys
 unfolding countOf
 count-append b [] ys = omega arith

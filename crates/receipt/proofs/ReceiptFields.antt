@@ -1,4 +1,4 @@
--- The code of every receipt has a line: the fields of a receipt's code are good, and how long they are.
+-- The fields of a receipt's code: they are good, and how long they are.
 use Prim.Native.Nat.{ℕ, zero, suc, _+_, _*_, _≤_, _<_}
 use mathlib.Core.Path.{_≡_, refl, sym, ap, _∙_, subst}
 use mathlib.Core.Bool.{Bool, true, false, _&&_}
@@ -19,21 +19,20 @@ use Rattle.receipt.specs.Details.{amountsGood}
 use Rattle.receipt.specs.Settings.{between, idLetter, nameText, every, cspGood, settingsGood, SettingsLengths, SettingsBytes}
 use Rattle.receipt.specs.Texts.{beginning, cancellationText, trainingText}
 use Rattle.receipt.specs.Payload.{base64, registerPart, moment, counterContent, counterField, closing, body, payload}
-use Rattle.receipt.specs.Form.{Without, Parts, parts, payloadGood, signatureGood, partsGood, failureText}
+use Rattle.receipt.specs.Form.{parts, signatureGood, partsGood, failureText}
 use Rattle.receipt.specs.Compact.{TypedEntry, signatureText, spellable}
 use Rattle.receipt.specs.Code.{codeText}
 use Rattle.receipt.specs.Line.{CodeFields, FieldsOfBytes, countOf, twelve, payloadIn, textIn, codeFieldsGood}
-use Rattle.receipt.specs.LineLaws.{SpelledAs, ImageOf, HasLine, ReceiptHasLine}
+use Rattle.receipt.specs.LineLaws.{SpelledAs}
 use Rattle.receipt.specs.declared.datetime.DateTime.{DateTime}
 use Rattle.receipt.specs.declared.details.Kind.{Kind}
 use Rattle.receipt.specs.declared.details.Kind.the-variants.{Standard, Cancellation, Training}
 use Rattle.receipt.specs.declared.settings.Settings.{Settings}
 use Rattle.receipt.specs.declared.settings.Letters.{Letters}
 use Rattle.receipt.specs.declared.settings.Letters.the-variants.{Id, Serial}
-use Rattle.receipt.specs.declared.payload.PayloadFields.{PayloadFields}
 use Rattle.receipt.specs.declared.entry.Signature.{Signature}
 use Rattle.receipt.specs.declared.entry.Entry.{Entry}
-use Rattle.receipt.specs.declared.optical_line.Spelling.the-variants.{Base64, Base32}
+use Rattle.receipt.specs.declared.optical_line.Spelling.the-variants.{Base64}
 use Rattle.receipt.proofs.Texts.{cancellation-long, training-long, failure-long, failure-bytes}
 use Rattle.receipt.proofs.Signs.{Signs, each-digits, each-amount, each-date}
 use Rattle.receipt.proofs.Names.{letters-bytes, letters-no-mark, text-short, good-settings}
@@ -44,8 +43,8 @@ use Rattle.receipt.proofs.PayloadBytes.{payload-bytes}
 use Rattle.receipt.proofs.CodeTexts.{signature-whole, signature-text, signature-most}
 use Rattle.receipt.proofs.EntryCalls.{spellable-true, text-whole, text-failed}
 use Rattle.receipt.proofs.ExactEntry.{payload-good}
-use Rattle.receipt.proofs.MarkCounts.{count-append, count-none, without-each}
-use Rattle.receipt.proofs.Lines.{code-of, one-spelling}
+use Rattle.receipt.proofs.MarkCounts.{one-mark, count-append, count-none, without-each}
+use Rattle.receipt.proofs.LineFields.{code-of}
 
 -- ---- texts without "_"
 
@@ -97,10 +96,6 @@ unfoldable pub joined : List ℤ → List ℕ
 joined [] = []
 joined (z ∷ []) = amount z
 joined (z ∷ y ∷ ys) = (amount z ++ (95 ∷ [])) ++ joined (y ∷ ys)
-
-one-mark : countOf 95 (95 ∷ []) ≡ 1
-unfolding countOf
-one-mark = refl
 
 -- a "_" follows the last
 amounts-joined : (z : ℤ) (zs : List ℤ) → amountsText (z ∷ zs) ≡ joined (z ∷ zs) ++ (95 ∷ [])
@@ -191,12 +186,12 @@ fieldsIn s n e =
       signature = signatureText (e .signature);
     }
 
-abbrev codeOf : Settings → ℕ → Entry → List ℕ
+abbrev pub codeOf : Settings → ℕ → Entry → List ℕ
 codeOf s n e = codeText (parts (payload s n (e .fields)) (signatureText (e .signature)))
 
 -- they are good, the code is their spelling, and they are no longer than this
 pub record ReceiptFields (s : Settings) (n : ℕ) (e : Entry) (f : CodeFields) : Type 0 where
-  pub asCode : SpelledAs Base64 (codeText (parts (payload s n (e .fields)) (signatureText (e .signature)))) f
+  pub asCode : SpelledAs Base64 (codeOf s n e) f
   pub start : length (f .start) ≤ 136
   pub counter : length (f .counter) ≤ 8
   pub serial : length (f .serial) ≤ 32
@@ -293,20 +288,3 @@ module _ (s : Settings) (n : ℕ) (e : Entry) (l : SettingsLengths s) (b : Setti
         chain = te .fields .chain;
         signature = signature-most (signatureText (e .signature)) (signature-fine .0);
       }
-
--- ---- the law
-
-pub receipt-has-line : ReceiptHasLine
-receipt-has-line s n e l b g te can =
-    let w = receipt-fields s n e l b g te can .asCode in
-    record {
-      line = textIn Base32 (fieldsIn s n e);
-      is = record { fields = fieldsIn s n e; asCode = w; asLine = record { good = w .good; bytes = w .bytes; is = refl } };
-    }
-
--- and only one, that of these fields
-pub receipt-line : (s : Settings) (n : ℕ) (e : Entry) → SettingsLengths s → SettingsBytes s → settingsGood s ≡ true → TypedEntry e → spellable s n e ≡ true → (line : List ℕ)
-    → ImageOf line (codeText (parts (payload s n (e .fields)) (signatureText (e .signature)))) → line ≡ textIn Base32 (fieldsIn s n e)
-receipt-line s n e l b g te can line w =
-    let r = receipt-fields s n e l b g te can .asCode in
-    w .asLine .is ∙ ap (textIn Base32) (one-spelling Base64 (codeOf s n e) (w .fields) (fieldsIn s n e) (w .asCode) r)
