@@ -1,30 +1,27 @@
 -- Compact form and code say the same: a code too is read back to its parts and has no other spelling, and the calls undo each other.
 use Prim.Native.Nat.{ℕ, _+_, _-_, _*_, _/_, _≤_, _<_}
-use mathlib.Core.Path.{_≡_, refl, sym, ap, _∙_, subst}
-use mathlib.Core.Bool.{Bool, true, false}
+use mathlib.Core.Path.{_≡_, sym, ap, _∙_, subst}
+use mathlib.Core.Bool.{true}
 use mathlib.Core.List.{List, [], _∷_, _++_}
-use mathlib.Core.Option.{Option, none, some, Option·map}
+use mathlib.Core.Option.{some}
 use native.Mathlib.Omega.{arith}
-use borrow.Author.Tests.{lt-ltb, ltb-true, leb-true, leb-false}
-use lib.Dec.{ltb, leb}
+use borrow.Author.Tests.{lt-ltb, ltb-true}
+use lib.Dec.{ltb}
 use lib.ListN.{length, take, drop, length-append}
 use lib.Seq.{take-at, drop-at, append-snoc}
-use Rattle.primitives.specs.Place.{overwrite, room}
 use Rattle.primitives.specs.Bytes.{AllBytes}
 use Rattle.primitives.specs.Base64.{encoding, decoding}
 use Rattle.primitives.specs.declared.base64.Alphabet.the-variants.{Standard}
-use Rattle.primitives.proofs.Over.{placed-room, read-over}
 use Rattle.primitives.proofs.ByteLists.{bytes-take, bytes-drop}
 use Rattle.primitives.proofs.Base64Lengths.{length-encoding}
 use Rattle.primitives.proofs.Base64Laws.{no-underscore, decode-encode, encode-decode, decoded-bytes}
 use Rattle.receipt.specs.Form.{part, Parts, partsGood, PartsOfBytes, signedForm, goodParts, partsOfForm}
 use Rattle.receipt.specs.Code.{lastAt, codeText, partsOfCode, codeAnswer, codeBuffer, uncodeAnswer, uncodeBuffer}
-use Rattle.primitives.specs.Answers.{answerWith, bufferWith}
 use Rattle.receipt.specs.CodeLaws.{CodeIsExact, CodeIsShort, UncodeAfterCode, CodeAfterUncode}
-use Rattle.primitives.proofs.Answers.{written-room, written-full}
 use Rattle.receipt.proofs.Finding.{last-is, last-without}
 use Rattle.receipt.proofs.CodeTexts.{good-payload, good-signature, good-some, Inverted, good-inverted, exactly}
 use Rattle.receipt.proofs.Forms.{chosen, cut, form-good, form-bytes, form-back, form-only}
+use Rattle.receipt.proofs.Undoing.{round}
 
 -- ---- code
 
@@ -115,66 +112,14 @@ code-short = code-short-of
 
 -- ---- the calls: Uncode undoes Code, and Code undoes Uncode
 
--- a call that was not refused had parts, and its text fits
-record Took (o : Option Parts) (f : Parts → List ℕ) (out : List ℕ) : Type 0 where
-  parts : Parts
-  is : o ≡ some parts
-  fits : length (f parts) ≤ length out
-
-module _ (n : ℕ) (f : Parts → List ℕ) (out : List ℕ) where
-  took : (o : Option Parts) → (n ≡ 0 → ⊥) → answerWith n (Option·map f o) out .number ≡ 0 → Took o f out
-  took none nonzero e = absurd (nonzero e)
-  took (some p) nonzero e = go (leb (length (f p)) (length out)) refl
-    where
-      go : (t : Bool) → leb (length (f p)) (length out) ≡ t → Took (some p) f out
-      go true q = record { parts = p; is = refl; fits = leb-true (length (f p)) (length out) q }
-      go false q =
-          let h : length out < length (f p) = leb-false (length (f p)) (length out) q in
-          absurd (omega (arith, rw (written-full out (f p) h) at e))
-
-  -- what such a call answers and writes
-  module _ (o : Option Parts) (p : Parts) (is : o ≡ some p) (fits : length (f p) ≤ length out) where
-    answer-is : answerWith n (Option·map f o) out ≡ record { number = 0; length = length (f p) }
-    answer-is = rw is (written-room out (f p) fits)
-
-    buffer-is : bufferWith (Option·map f o) out ≡ overwrite out 0 (f p)
-    buffer-is = rw is (placed-room out 0 (f p) (omega arith))
-
-    made-is : take (answerWith n (Option·map f o) out .length) (bufferWith (Option·map f o) out) ≡ f p
-    made-is = rw (answer-is, buffer-is) (read-over out 0 (f p) (omega arith))
-
--- a text whose parts are o is the writing g of them; what f writes of them is read back to them, and g writes the text again
-module _ (n m : ℕ) (f g : Parts → List ℕ) (o : Option Parts) (back : List ℕ → Option Parts) (text out again : List ℕ) (nonzero : n ≡ 0 → ⊥)
-    (only : (p : Parts) → o ≡ some p → text ≡ g p) (reads : (p : Parts) → o ≡ some p → back (f p) ≡ some p)
-    (accepted : answerWith n (Option·map f o) out .number ≡ 0) (room : length text ≤ length again) where
-  made : List ℕ
-  made = take (answerWith n (Option·map f o) out .length) (bufferWith (Option·map f o) out)
-
-  t : Took o f out
-  t = took n f out o nonzero accepted
-
-  read : back made ≡ some (t .parts)
-  unfolding made
-  read = ap back (made-is n f out o (t .parts) (t .is) (t .fits)) ∙ reads (t .parts) (t .is)
-
-  again-is : g (t .parts) ≡ text
-  again-is = sym (only (t .parts) (t .is))
-
-  round : (answerWith m (Option·map g (back made)) again ≡ record { number = 0; length = length text }) × (bufferWith (Option·map g (back made)) again ≡ overwrite again 0 text)
-  round =
-      let h : length (g (t .parts)) ≤ length again = omega (arith, ap length again-is) in (
-        answer-is m g again (back made) (t .parts) read h ∙ (λ i. record { number = 0; length = length (again-is i) }),
-        buffer-is m g again (back made) (t .parts) read h ∙ ap (overwrite again 0) again-is,
-      )
-
 pub uncode-code : UncodeAfterCode
-unfolding codeAnswer codeBuffer uncodeAnswer uncodeBuffer made
+unfolding codeAnswer codeBuffer uncodeAnswer uncodeBuffer
 uncode-code form out again b accepted room =
     round 22 24 codeText signedForm (partsOfForm form) partsOfCode form out again (λ e. absurd (omega arith)) (λ p e. form-only form p e b)
     (λ p e. code-back p (form-good form p e) (form-bytes form p e)) accepted room
 
 pub code-uncode : CodeAfterUncode
-unfolding codeAnswer codeBuffer uncodeAnswer uncodeBuffer made
+unfolding codeAnswer codeBuffer uncodeAnswer uncodeBuffer
 code-uncode code out again b accepted room =
     round 24 22 signedForm codeText (partsOfCode code) partsOfForm code out again (λ e. absurd (omega arith)) (λ p e. code-only code p e b)
     (λ p e. form-back p (code-good code p e) (code-bytes code p e b)) accepted room

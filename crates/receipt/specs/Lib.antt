@@ -10,6 +10,8 @@ pub mod Details
 pub mod Exact
 pub mod Form
 pub mod FormReading
+pub mod Line
+pub mod LineLaws
 pub mod Payload
 pub mod PayloadReading
 pub mod Separated

@@ -9,6 +9,7 @@ mod details;
 mod entry;
 mod form;
 mod machine_code;
+mod optical_line;
 mod payload;
 mod separators;
 mod settings;
