@@ -3,7 +3,7 @@ use mathlib.Core.Path.{_≡_, refl}
 use mathlib.Core.Bool.{false}
 use native.Mathlib.Omega.{arith}
 use borrow.Author.Tests.{le-ltb}
-use Rattle.primitives.specs.Number.{bytesOf}
+use Rattle.primitives.specs.Number.{digitsOf, bytesOf}
 use Rattle.primitives.specs.Counter.{widthGood, half, fitsIn, counterFits, twos, counterBytes}
 use Rattle.primitives.proofs.Rows.{ask-no}
 use Rattle.receipt.specs.Settings.{between, cspGood, settingsGood, settingsNumber}
@@ -18,7 +18,7 @@ use Rattle.device.specs.Details.{noDetails}
 use Rattle.device.specs.Laws.{UnopenedIsZero, NoSettingsGetOne, UnopenedGetsSix, UnknownKindGetsSeven}
 
 pub unopened-is-zero : UnopenedIsZero
-unfolding stateBytes settingsBytes figuresBytes unopened bytesOf counterBytes counterFits fitsIn half widthGood twos
+unfolding stateBytes settingsBytes figuresBytes unopened digitsOf bytesOf counterBytes counterFits fitsIn half widthGood twos
 unopened-is-zero = refl
 
 csp-bad : cspGood (unopened .settings .csp) ≡ false

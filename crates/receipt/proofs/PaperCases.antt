@@ -10,7 +10,7 @@ use Rattle.primitives.specs.declared.base64.Alphabet.the-variants.{Standard, Ur
 use Rattle.primitives.proofs.ByteLists.{same-true}
 use Rattle.primitives.proofs.Rows.{both}
 use Rattle.primitives.specs.Bytes.{same}
-use Rattle.primitives.specs.Number.{bytesOf}
+use Rattle.primitives.specs.Number.{digitsOf, bytesOf}
 use Rattle.primitives.specs.Counter.{widthGood, half, fitsIn, counterFits, twos, counterBytes}
 use Rattle.primitives.specs.Base64.{letter, quad, letters, encoding}
 use Rattle.receipt.specs.Decimal.{fixedOnto, fixed, widthUp, width, digits}
@@ -21,7 +21,7 @@ use Rattle.receipt.specs.Texts.{cancellationText, trainingText}
 use Rattle.receipt.specs.Cases.{Case, day, answer, cases, allAsPaper, AsThePaperSays}
 
 pub as-the-paper-says : AsThePaperSays
-unfolding allAsPaper cases ascii cancellationText trainingText header day answer same amount cents digits width widthUp fixed fixedOnto dateGood dayGood timeGood daysIn leap counterBytes counterFits widthGood fitsIn half twos bytesOf encoding letters quad letter
+unfolding allAsPaper cases ascii cancellationText trainingText header day answer same amount cents digits width widthUp fixed fixedOnto dateGood dayGood timeGood daysIn leap counterBytes counterFits widthGood fitsIn half twos digitsOf bytesOf encoding letters quad letter
 as-the-paper-says = refl
 
 -- ---- what the table says of a case, for the laws that need it
