@@ -4,7 +4,9 @@
 use std::fmt::Debug;
 
 use crate::calls::{Calls, Part, Peer, TakenOver, Written};
+use crate::code::LONGEST_CODE;
 use crate::device::Library;
+use crate::line::LONGEST_ANY_LINE;
 use crate::receipt::Details;
 
 /// The calls in the order of the table, with the numbers that each can return.
@@ -71,6 +73,14 @@ pub type Compared<T> = Result<T, Difference>;
 
 pub fn hex(bytes: &[u8]) -> String {
     bytes.iter().map(|byte| format!("{byte:02x}")).collect()
+}
+
+/// What must hold of both sides together; the bytes are printed where it does not.
+pub fn demand(holds: bool, what: &str, bytes: &[u8]) -> Compared<()> {
+    if holds {
+        return Ok(());
+    }
+    Err(Difference { text: format!("does not hold: {what}\nbytes {}\n", hex(bytes)) })
 }
 
 /// Both sides, and how often each call returned each number.
@@ -354,6 +364,42 @@ impl Compare {
         self.text_call("unbase32", &format_args!(""), ("text", text), output, |side, text, output| {
             side.unbase32(text, output)
         })
+    }
+
+    /// The line of a code, which must give the code back; None where the code is refused.
+    pub fn line_and_back(&mut self, code: &[u8]) -> Compared<Option<Vec<u8>>> {
+        let line = self.whole_line(code)?;
+        if let Some(line) = &line {
+            let back = self.whole_code(line)?;
+            demand(back.as_deref() == Some(code), "a line gives its code back", code)?;
+        }
+        Ok(line)
+    }
+
+    /// The code of a line, which must give the line back; None where the line is refused.
+    pub fn unline_and_back(&mut self, line: &[u8]) -> Compared<Option<Vec<u8>>> {
+        let code = self.whole_code(line)?;
+        if let Some(code) = &code {
+            let back = self.whole_line(code)?;
+            demand(back.as_deref() == Some(line), "a code gives its line back", line)?;
+        }
+        Ok(code)
+    }
+
+    fn whole_line(&mut self, code: &[u8]) -> Compared<Option<Vec<u8>>> {
+        let mut line = vec![0x5a; LONGEST_ANY_LINE];
+        let written = self.line(code, &mut line)?;
+        demand(written.number != 23, "the longest line has room for every code", code)?;
+        line.truncate(written.length);
+        Ok((written.number == 0).then_some(line))
+    }
+
+    fn whole_code(&mut self, line: &[u8]) -> Compared<Option<Vec<u8>>> {
+        let mut code = vec![0x5a; LONGEST_CODE];
+        let written = self.unline(line, &mut code)?;
+        demand(written.number != 23, "the longest code has room for every line", line)?;
+        code.truncate(written.length);
+        Ok((written.number == 0).then_some(code))
     }
 
     /// How often each call returned each number, one line for each call.
