@@ -286,7 +286,8 @@ impl Round<'_> {
 
     /// The errors of a student in the spelling of a code and of a line.
     pub(super) fn line_errors(&mut self) -> Compared<()> {
-        let lengths = [1 + self.random.below(10), 1 + self.random.below(10)];
+        // lengths with padding in both spellings
+        let lengths = [(); 2].map(|()| self.random.pick(&[1, 2, 4, 7, 8, 11, 13, 14]));
         let printed = sample::printed(&self.random, lengths, 60 + self.random.below(60));
         self.good_line(&printed)?;
         self.line_into_all_rooms(&printed)?;
