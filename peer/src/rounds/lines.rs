@@ -36,6 +36,7 @@ impl Base {
         all.extend(self.wrong_groups().map(|group| [&text[..text.len().saturating_sub(self.group)], &group].concat()));
         if letters > 0 {
             all.push(text[..text.len() - 1].to_vec());
+            all.push([&text[..1], b" ", &text[1..]].concat());
             all.push(with_byte(text, 0, b'='));
             all.extend(self.foreign.iter().map(|&byte| with_byte(text, 0, byte)));
         }
@@ -288,7 +289,8 @@ impl Round<'_> {
     pub(super) fn line_errors(&mut self) -> Compared<()> {
         // lengths with padding in both spellings
         let lengths = [(); 2].map(|()| self.random.pick(&[1, 2, 4, 7, 8, 11, 13, 14]));
-        let printed = sample::printed(&self.random, lengths, 60 + self.random.below(60));
+        let mut printed = sample::printed(&self.random, lengths, 60 + self.random.below(60));
+        printed.parts[SIGNED] = self.garbage(64);
         self.good_line(&printed)?;
         self.line_into_all_rooms(&printed)?;
         self.misspelled_texts(&printed)?;
