@@ -1,2 +1,2 @@
-# src/line.rs: eleven fields let through, without a chain field
-s/^    let chain = starts\.next\(\)\?;/    let chain = starts.next().unwrap_or(payload.len());/
+# src/line.rs: eleven fields let through
+s/\.count\(\) != 12 \{/.count() > 12 {/

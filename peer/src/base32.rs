@@ -17,9 +17,19 @@ pub fn padded_letters(length: usize) -> usize {
 
 /// Eight letters for 40 bits.
 fn write_group(group: &[u8; 5]) -> [u8; 8] {
+    let letter = |bits: u64| LETTERS[(bits & 31) as usize];
     let [a, b, c, d, e] = group.map(u64::from);
     let bits = a << 32 | b << 24 | c << 16 | d << 8 | e;
-    [35, 30, 25, 20, 15, 10, 5, 0].map(|place| LETTERS[(bits >> place & 31) as usize])
+    [
+        letter(bits >> 35),
+        letter(bits >> 30),
+        letter(bits >> 25),
+        letter(bits >> 20),
+        letter(bits >> 15),
+        letter(bits >> 10),
+        letter(bits >> 5),
+        letter(bits),
+    ]
 }
 
 /// Writes BASE32; `text` has exactly `padded_letters(data.len())` bytes.
@@ -46,11 +56,11 @@ pub fn padded_text(data: &[u8]) -> Vec<u8> {
 
 /// The 40 bits of eight letters; None where one is foreign.
 fn read_group(letters: &[u8; 8]) -> Option<[u8; 5]> {
-    let values = letters.map(|letter| VALUES[letter as usize]);
-    if values.iter().fold(0, |all, value| all | value) > 31 {
+    let [a, b, c, d, e, f, g, h] = letters.map(|letter| VALUES[letter as usize] as u64);
+    if a | b | c | d | e | f | g | h > 31 {
         return None;
     }
-    let bits = values.iter().fold(0, |bits, &value| bits << 5 | value as u64);
+    let bits = a << 35 | b << 30 | c << 25 | d << 20 | e << 15 | f << 10 | g << 5 | h;
     let [_, _, _, group @ ..] = bits.to_be_bytes();
     Some(group)
 }

@@ -21,14 +21,15 @@ const LONGEST_FIELD: usize = LONGEST_PAYLOAD / 4 * 3;
 /// A payload of twelve fields, in four parts: up to the counter field, that field, up to the chain field, that field.
 /// None where there are more fields, or less.
 fn parted(payload: &[u8]) -> Option<[&[u8]; 4]> {
-    let mut starts = (0..payload.len()).filter(|&place| payload[place] == b'_').map(|place| place + 1);
-    let counter = starts.nth(9)?;
-    let serial = starts.next()?;
-    let chain = starts.next()?;
-    if starts.next().is_some() {
+    if payload.iter().filter(|&&byte| byte == b'_').count() != 12 {
         return None;
     }
-    Some([&payload[..counter], &payload[counter..serial - 1], &payload[serial - 1..chain], &payload[chain..]])
+    let mut last = payload.rsplit(|&byte| byte == b'_');
+    let [chain, serial, counter] = [last.next()?, last.next()?, last.next()?];
+    let (rest, chain) = payload.split_at(payload.len() - chain.len());
+    let (rest, between) = rest.split_at(rest.len() - serial.len() - 2);
+    let (before, counter) = rest.split_at(rest.len() - counter.len());
+    Some([before, counter, between, chain])
 }
 
 fn push_base32(text: &mut LineText, data: &[u8]) {

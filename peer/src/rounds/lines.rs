@@ -1,7 +1,6 @@
 //! What a round does with BASE32 and the optical line.
 
 use super::{Accepted, Round};
-use crate::calls::{Calls, Peer};
 use crate::code::LONGEST_CODE;
 use crate::compare::{Compared, demand};
 use crate::line::{LONGEST_ANY_LINE, LONGEST_LINE};
@@ -180,12 +179,18 @@ impl Round<'_> {
 
     /// The line of an issued receipt's code, which is no longer than a receipt's can be; its length.
     pub(super) fn line_of_a_receipt(&mut self, form: &[u8]) -> Compared<usize> {
+        let printed = self.printed_of(form)?;
+        let length = self.good_line(&printed)?.len();
+        demand(length <= LONGEST_LINE, "a receipt's line is no longer than 308 bytes", form)?;
+        Ok(length)
+    }
+
+    /// What the code of an issued receipt says.
+    fn printed_of(&mut self, form: &[u8]) -> Compared<Printed> {
         let mut code = vec![0; LONGEST_CODE];
         let written = self.compare.code(form, &mut code)?;
-        code.truncate(written.length);
-        let line = self.good_line(&Printed::of(&code))?;
-        demand(line.len() <= LONGEST_LINE, "a receipt's line is no longer than 308 bytes", &code)?;
-        Ok(line.len())
+        demand(written.number == 0, "a receipt has a code", form)?;
+        Ok(Printed::of(&code[..written.length]))
     }
 
     /// The line of a good code, there and back, into outputs of some lengths.
@@ -275,14 +280,14 @@ impl Round<'_> {
     fn code_refused(&mut self, code: &[u8], number: u32) -> Compared<()> {
         let mut output = vec![0x5a; self.random.pick(&[0, LONGEST_ANY_LINE])];
         let written = self.compare.line(code, &mut output)?;
-        demand(written.number == number, if number == 24 { "this code gets 24" } else { "this code gets 26" }, code)
+        demand(written.number == number, "a wrong code gets its number", code)
     }
 
     /// The line gets 27, be there room or not.
     fn line_refused(&mut self, line: &[u8]) -> Compared<()> {
         let mut output = vec![0x5a; self.random.pick(&[0, LONGEST_CODE])];
         let written = self.compare.unline(line, &mut output)?;
-        demand(written.number == 27, "this line gets 27", line)
+        demand(written.number == 27, "a wrong line gets 27", line)
     }
 
     /// The errors of a student in the spelling of a code and of a line.
@@ -328,7 +333,7 @@ impl Round<'_> {
         self.line_refused(&joined(&code))
     }
 
-    /// Eleven fields and thirteen, and another start.
+    /// Eleven fields and thirteen, another start, and nothing at all.
     fn other_fields(&mut self, printed: &Printed) -> Compared<()> {
         let (code, line) = (printed.code_texts(), printed.line_texts());
         for other in other_counts(&code) {
@@ -341,7 +346,8 @@ impl Round<'_> {
             self.code_refused(&with_text(&code, 0, start), 24)?;
             self.line_refused(&with_text(&line, 0, start))?;
         }
-        Ok(())
+        self.code_refused(b"", 24)?;
+        self.line_refused(b"")
     }
 
     /// The text of a failed device, and bytes that are no signature.
@@ -465,7 +471,11 @@ impl Round<'_> {
                 swapped.swap(place, random.below(SIGNED + 1));
                 joined(&swapped)
             }
-            7 => joined(texts)[..random.below(joined(texts).len())].to_vec(),
+            7 => {
+                let mut cut = joined(texts);
+                cut.truncate(random.below(cut.len()));
+                cut
+            }
             _ => {
                 let mut text = joined(texts);
                 self.damage_bytes(&mut text);
@@ -477,10 +487,8 @@ impl Round<'_> {
     /// A receipt's code and its line cut at every place, and with a byte changed at every place.
     pub(super) fn lines_with_every_change(&mut self, accepted: &Accepted) -> Compared<()> {
         let form = self.form_of(accepted);
-        let mut code = vec![0; LONGEST_CODE];
-        let written = Peer.code(&form, &mut code);
-        code.truncate(written.length);
-        let line = Printed::of(&code).line();
+        let printed = self.printed_of(&form)?;
+        let (code, line) = (printed.code(), printed.line());
         for place in 0..code.len() {
             let byte = code[place] ^ 1 << self.random.below(8);
             self.compare.line_and_back(&with_byte(&code, place, byte))?;
