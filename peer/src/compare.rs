@@ -293,7 +293,10 @@ impl Compare {
             |side, [text, output]| work(side, text.get(), output.get_mut()),
             |written| written.number,
         )?;
-        output.copy_from_slice(after[1].get());
+        let after = after[1].get();
+        demand(written.length <= output.len(), "the length is within the output", text)?;
+        demand(output[written.length..] == after[written.length..], "no byte after the end is written", text)?;
+        output.copy_from_slice(after);
         Ok(written)
     }
 

@@ -1,6 +1,7 @@
 //! What a round does with BASE32 and the optical line.
 
 use super::{Accepted, Round};
+use crate::calls::Written;
 use crate::code::LONGEST_CODE;
 use crate::compare::{Compared, demand};
 use crate::line::{LONGEST_ANY_LINE, LONGEST_LINE};
@@ -115,6 +116,12 @@ fn wrong_signatures(random: &Random) -> Vec<Vec<u8>> {
     all
 }
 
+/// So many bytes are written where there is room for them, and 23 is the answer where there is not.
+fn demand_fit(written: Written, needed: usize, room: usize, text: &[u8]) -> Compared<()> {
+    let fit = if needed <= room { Written { number: 0, length: needed } } else { Written { number: 23, length: 0 } };
+    demand(written == fit, "a text is written where it fits", text)
+}
+
 impl Round<'_> {
     // ---- BASE32
 
@@ -153,10 +160,12 @@ impl Round<'_> {
             let data = self.garbage(length);
             let text = base32::padded_text(&data);
             for room in [text.len(), text.len().saturating_sub(1), 0] {
-                self.compare.base32(&data, &mut vec![0x5a; room])?;
+                let written = self.compare.base32(&data, &mut vec![0x5a; room])?;
+                demand_fit(written, text.len(), room, &data)?;
             }
             for room in [length, length.saturating_sub(1), 0] {
-                self.compare.unbase32(&text, &mut vec![0x5a; room])?;
+                let written = self.compare.unbase32(&text, &mut vec![0x5a; room])?;
+                demand_fit(written, length, room, &text)?;
             }
             for wrong in BASE32.misspellings(&text) {
                 let room = self.random.pick(&[0, length, 24]);
@@ -204,10 +213,12 @@ impl Round<'_> {
 
     /// A good code and its line into outputs of these lengths.
     fn line_into(&mut self, printed: &Printed, rooms: [usize; 2]) -> Compared<()> {
+        let (code, line) = (printed.code(), printed.line());
         let mut outputs = rooms.map(|room| self.garbage(room));
-        self.compare.line(&printed.code(), &mut outputs[0])?;
-        self.compare.unline(&printed.line(), &mut outputs[1])?;
-        Ok(())
+        let written = self.compare.line(&code, &mut outputs[0])?;
+        demand_fit(written, line.len(), rooms[0], &code)?;
+        let written = self.compare.unline(&line, &mut outputs[1])?;
+        demand_fit(written, code.len(), rooms[1], &line)
     }
 
     /// A good code and its line into outputs that just fit and just don't.
