@@ -10,10 +10,10 @@ const STANDARD_VALUES: [u8; 256] = values(STANDARD);
 const URL_VALUES: [u8; 256] = values(URL);
 
 /// The value of each letter; FOREIGN for all others.
-const fn values(letters: &[u8; 64]) -> [u8; 256] {
+pub(crate) const fn values<const LETTERS: usize>(letters: &[u8; LETTERS]) -> [u8; 256] {
     let mut values = [FOREIGN; 256];
     let mut value = 0;
-    while value < 64 {
+    while value < LETTERS {
         values[letters[value] as usize] = value as u8;
         value += 1;
     }

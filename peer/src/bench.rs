@@ -2,10 +2,11 @@
 
 use std::time::{Duration, Instant};
 
-use crate::calls::{Calls, Peer};
+use crate::calls::{Calls, Peer, Written};
 use crate::code::LONGEST_CODE;
 use crate::device::Library;
 use crate::layout::{DETAILS, SETTINGS, SIGNATURE, STATE, details_bytes};
+use crate::line::LONGEST_LINE;
 use crate::receipt::{Date, Details, LONGEST_COMPACT, LONGEST_INPUT};
 
 const CSP: &[u8] = b"AT1";
@@ -51,6 +52,9 @@ struct Work {
     state: [u8; STATE],
     /// Where in the journal each compact form stands.
     forms: Vec<std::ops::Range<usize>>,
+    /// The code of each receipt and its line, both made by the peer.
+    codes: Vec<Vec<u8>>,
+    lines: Vec<Vec<u8>>,
     /// The state after the start receipt.
     started: [u8; STATE],
     /// A buffer with room for all receipts.
@@ -68,6 +72,8 @@ impl Work {
             journal: Vec::new(),
             state: [0; STATE],
             forms: Vec::new(),
+            codes: Vec::new(),
+            lines: Vec::new(),
             started: [0; STATE],
             buffer: vec![0; 83 + receipts * (2 + LONGEST_COMPACT)],
         };
@@ -83,6 +89,12 @@ impl Work {
         }
         work.journal = work.buffer[..Peer.journal_length(&state)].to_vec();
         work.state = state;
+        let written = |written: Written, output: &[u8]| output[..written.length].to_vec();
+        for i in 0..receipts {
+            let (mut code, mut line) = ([0; LONGEST_CODE], [0; LONGEST_LINE]);
+            work.codes.push(written(Peer.code(work.form(i), &mut code), &code));
+            work.lines.push(written(Peer.line(&work.codes[i], &mut line), &line));
+        }
         work
     }
 
@@ -141,6 +153,30 @@ impl Work {
         bytes
     }
 
+    /// One Line for each receipt; the bytes written.
+    fn line(&mut self, side: &dyn Calls) -> usize {
+        let mut output = [0; LONGEST_LINE];
+        let mut bytes = 0;
+        for code in &self.codes {
+            let written = side.line(code, &mut output);
+            assert_eq!(written.number, 0);
+            bytes += written.length;
+        }
+        bytes
+    }
+
+    /// One Unline for each receipt; the bytes written.
+    fn unline(&mut self, side: &dyn Calls) -> usize {
+        let mut output = [0; LONGEST_CODE];
+        let mut bytes = 0;
+        for line in &self.lines {
+            let written = side.unline(line, &mut output);
+            assert_eq!(written.number, 0);
+            bytes += written.length;
+        }
+        bytes
+    }
+
     /// One Read for each receipt, which gives what was issued; the bytes read.
     fn read(&mut self, side: &dyn Calls) -> usize {
         let (mut details, mut signature) = ([0; DETAILS], [0; SIGNATURE]);
@@ -160,6 +196,8 @@ impl Work {
             "take-over" => Some(self.take_over(side)),
             "code" => Some(self.code(side)),
             "read" => Some(self.read(side)),
+            "line" => Some(self.line(side)),
+            "unline" => Some(self.unline(side)),
             _ => None,
         }
     }
@@ -180,6 +218,11 @@ fn same_answers(work: &mut Work) {
             let (mut details, mut signature) = ([0; DETAILS], [0; SIGNATURE]);
             assert_eq!(side.read(&work.settings, work.form(i), &mut details, &mut signature).number, 0);
             assert_eq!((details, signature), (details_bytes(&work.details[i]), work.signatures[i]));
+            let (code, line) = (&work.codes[i], &work.lines[i]);
+            let (mut code_again, mut line_again) = (vec![0; code.len()], vec![0; line.len()]);
+            assert_eq!(side.line(code, &mut line_again).number, 0);
+            assert_eq!(side.unline(line, &mut code_again).number, 0);
+            assert_eq!((&code_again, &line_again), (code, line));
         }
         let mut outputs = [[0; LONGEST_INPUT]; 2];
         let state = if i == 0 { work.before_the_start() } else { work.started };
@@ -226,8 +269,11 @@ pub fn run() {
     for receipts in [100, 1_000, 10_000, 100_000] {
         let mut work = Work::of(receipts);
         same_answers(&mut work);
-        let calls: &[&str] =
-            if receipts == 10_000 { &["issue", "prepare", "code", "read", "take-over"] } else { &["take-over"] };
+        let calls: &[&str] = if receipts == 10_000 {
+            &["issue", "prepare", "code", "line", "unline", "read", "take-over"]
+        } else {
+            &["take-over"]
+        };
         for call in calls {
             let ([library, peer], ratio, bytes) = times(&mut work, call);
             let rate = |time: Duration, amount: usize| amount as f64 / time.as_secs_f64();

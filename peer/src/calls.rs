@@ -6,7 +6,7 @@ use crate::layout::{
 use crate::receipt::{Details, Receipt};
 use crate::register::State;
 use crate::settings::{Name, Settings, csp_good, id_good, serial_good, width_good};
-use crate::{base64, code, crypto, register};
+use crate::{base32, base64, code, crypto, line, register};
 
 /// A number and a length.
 #[derive(Clone, Copy, Debug, PartialEq, Eq)]
@@ -46,9 +46,13 @@ pub trait Calls {
     fn code(&self, form: &[u8], output: &mut [u8]) -> Written;
     fn uncode(&self, code: &[u8], output: &mut [u8]) -> Written;
     fn fields(&self, code: &[u8]) -> Part;
+    fn line(&self, code: &[u8], output: &mut [u8]) -> Written;
+    fn unline(&self, line: &[u8], output: &mut [u8]) -> Written;
     fn sha256(&self, data: &[u8], output: &mut [u8]) -> u32;
     fn base64(&self, url: u32, data: &[u8], output: &mut [u8]) -> Written;
     fn unbase64(&self, url: u32, text: &[u8], output: &mut [u8]) -> Written;
+    fn base32(&self, data: &[u8], output: &mut [u8]) -> Written;
+    fn unbase32(&self, text: &[u8], output: &mut [u8]) -> Written;
 }
 
 /// This implementation.
@@ -187,6 +191,14 @@ impl Calls for Peer {
         }
     }
 
+    fn line(&self, code: &[u8], output: &mut [u8]) -> Written {
+        written(line::line(code).and_then(|line| put(line.bytes(), output)))
+    }
+
+    fn unline(&self, line: &[u8], output: &mut [u8]) -> Written {
+        written(line::unline(line).ok_or(27).and_then(|code| put(code.bytes(), output)))
+    }
+
     fn sha256(&self, data: &[u8], output: &mut [u8]) -> u32 {
         written(put(&crypto::sha256(data), output)).number
     }
@@ -211,5 +223,14 @@ impl Calls for Peer {
             Some(length) => put(&data[..length], output),
             None => Err(22),
         })
+    }
+    fn base32(&self, data: &[u8], output: &mut [u8]) -> Written {
+        written(put(&base32::padded_text(data), output))
+    }
+
+    fn unbase32(&self, text: &[u8], output: &mut [u8]) -> Written {
+        let mut data = vec![0; text.len()];
+        let length = base32::read_padded(text, &mut data);
+        written(length.ok_or(22).and_then(|length| put(&data[..length], output)))
     }
 }

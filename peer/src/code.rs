@@ -7,7 +7,7 @@ use crate::receipt::{LONGEST_PAYLOAD, compact_form, read_compact, signature_good
 use crate::settings::Number;
 
 /// 4 to 195 bytes beginning "_R1-".
-fn payload_good(payload: &[u8]) -> bool {
+pub(crate) fn payload_good(payload: &[u8]) -> bool {
     payload.len() <= LONGEST_PAYLOAD && payload.starts_with(b"_R1-")
 }
 
@@ -27,7 +27,7 @@ pub fn code(form: &[u8], output: &mut [u8]) -> Result<usize, Number> {
 }
 
 /// A code's payload and its signature, parted at the last "_"; None where they are no such two.
-fn read_code(code: &[u8]) -> Option<(&[u8], [u8; 64], usize)> {
+pub(crate) fn read_code(code: &[u8]) -> Option<(&[u8], [u8; 64], usize)> {
     let last = code.iter().rposition(|&byte| byte == b'_')?;
     let payload = &code[..last];
     let mut signature = [0; 64];

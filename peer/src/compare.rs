@@ -4,11 +4,13 @@
 use std::fmt::Debug;
 
 use crate::calls::{Calls, Part, Peer, TakenOver, Written};
+use crate::code::LONGEST_CODE;
 use crate::device::Library;
+use crate::line::LONGEST_ANY_LINE;
 use crate::receipt::Details;
 
 /// The calls in the order of the table, with the numbers that each can return.
-pub const CALLS: [(&str, &[u32]); 14] = [
+pub const CALLS: [(&str, &[u32]); 18] = [
     ("version", &[0]),
     ("settings", &[0, 1, 2, 3, 4, 23]),
     ("figures", &[0]),
@@ -20,13 +22,17 @@ pub const CALLS: [(&str, &[u32]); 14] = [
     ("code", &[0, 22, 23]),
     ("uncode", &[0, 23, 24]),
     ("fields", &[0, 24]),
+    ("line", &[0, 23, 24, 26]),
+    ("unline", &[0, 23, 27]),
     ("sha256", &[0, 23]),
     ("base64", &[0, 23]),
     ("unbase64", &[0, 22, 23]),
+    ("base32", &[0, 23]),
+    ("unbase32", &[0, 22, 23]),
 ];
 
-/// The highest number of the paper's calls.
-const NUMBERS: usize = 25;
+/// The numbers of the calls are 0 to 27.
+const NUMBERS: usize = 28;
 
 const CANARY: usize = 48;
 
@@ -67,6 +73,14 @@ pub type Compared<T> = Result<T, Difference>;
 
 pub fn hex(bytes: &[u8]) -> String {
     bytes.iter().map(|byte| format!("{byte:02x}")).collect()
+}
+
+/// What must hold of both sides together; the bytes are printed where it does not.
+pub fn demand(holds: bool, what: &str, bytes: &[u8]) -> Compared<()> {
+    if holds {
+        return Ok(());
+    }
+    Err(Difference { text: format!("does not hold: {what}\nbytes {}\n", hex(bytes)) })
 }
 
 /// Both sides, and how often each call returned each number.
@@ -262,30 +276,38 @@ impl Compare {
         Ok(written)
     }
 
-    pub fn code(&mut self, form: &[u8], output: &mut [u8]) -> Compared<Written> {
+    /// A call that reads one text and writes another to the start of an output.
+    fn text_call(
+        &mut self,
+        call: &'static str,
+        values: &dyn Debug,
+        (name, text): (&str, &[u8]),
+        output: &mut [u8],
+        work: impl Fn(&dyn Calls, &[u8], &mut [u8]) -> Written,
+    ) -> Compared<Written> {
         let (written, after) = self.run(
-            "code",
-            &format_args!(""),
-            [("form", form), ("output", output)],
+            call,
+            values,
+            [(name, text), ("output", output)],
             None,
-            |side, [form, output]| side.code(form.get(), output.get_mut()),
+            |side, [text, output]| work(side, text.get(), output.get_mut()),
             |written| written.number,
         )?;
-        output.copy_from_slice(after[1].get());
+        let after = after[1].get();
+        demand(written.length <= output.len(), "the length is within the output", text)?;
+        demand(output[written.length..] == after[written.length..], "no byte after the end is written", text)?;
+        output.copy_from_slice(after);
         Ok(written)
     }
 
+    pub fn code(&mut self, form: &[u8], output: &mut [u8]) -> Compared<Written> {
+        self.text_call("code", &format_args!(""), ("form", form), output, |side, form, output| side.code(form, output))
+    }
+
     pub fn uncode(&mut self, code: &[u8], output: &mut [u8]) -> Compared<Written> {
-        let (written, after) = self.run(
-            "uncode",
-            &format_args!(""),
-            [("code", code), ("output", output)],
-            None,
-            |side, [code, output]| side.uncode(code.get(), output.get_mut()),
-            |written| written.number,
-        )?;
-        output.copy_from_slice(after[1].get());
-        Ok(written)
+        self.text_call("uncode", &format_args!(""), ("code", code), output, |side, code, output| {
+            side.uncode(code, output)
+        })
     }
 
     pub fn fields(&mut self, code: &[u8]) -> Compared<Part> {
@@ -298,6 +320,16 @@ impl Compare {
             |part| part.number,
         )?;
         Ok(part)
+    }
+
+    pub fn line(&mut self, code: &[u8], output: &mut [u8]) -> Compared<Written> {
+        self.text_call("line", &format_args!(""), ("code", code), output, |side, code, output| side.line(code, output))
+    }
+
+    pub fn unline(&mut self, line: &[u8], output: &mut [u8]) -> Compared<Written> {
+        self.text_call("unline", &format_args!(""), ("line", line), output, |side, line, output| {
+            side.unline(line, output)
+        })
     }
 
     pub fn sha256(&mut self, data: &[u8], output: &mut [u8]) -> Compared<u32> {
@@ -314,29 +346,63 @@ impl Compare {
     }
 
     pub fn base64(&mut self, url: u32, data: &[u8], output: &mut [u8]) -> Compared<Written> {
-        let (written, after) = self.run(
-            "base64",
-            &format_args!("url {url}"),
-            [("data", data), ("output", output)],
-            None,
-            |side, [data, output]| side.base64(url, data.get(), output.get_mut()),
-            |written| written.number,
-        )?;
-        output.copy_from_slice(after[1].get());
-        Ok(written)
+        self.text_call("base64", &format_args!("url {url}"), ("data", data), output, |side, data, output| {
+            side.base64(url, data, output)
+        })
     }
 
     pub fn unbase64(&mut self, url: u32, text: &[u8], output: &mut [u8]) -> Compared<Written> {
-        let (written, after) = self.run(
-            "unbase64",
-            &format_args!("url {url}"),
-            [("text", text), ("output", output)],
-            None,
-            |side, [text, output]| side.unbase64(url, text.get(), output.get_mut()),
-            |written| written.number,
-        )?;
-        output.copy_from_slice(after[1].get());
-        Ok(written)
+        self.text_call("unbase64", &format_args!("url {url}"), ("text", text), output, |side, text, output| {
+            side.unbase64(url, text, output)
+        })
+    }
+
+    pub fn base32(&mut self, data: &[u8], output: &mut [u8]) -> Compared<Written> {
+        self.text_call("base32", &format_args!(""), ("data", data), output, |side, data, output| {
+            side.base32(data, output)
+        })
+    }
+
+    pub fn unbase32(&mut self, text: &[u8], output: &mut [u8]) -> Compared<Written> {
+        self.text_call("unbase32", &format_args!(""), ("text", text), output, |side, text, output| {
+            side.unbase32(text, output)
+        })
+    }
+
+    /// The line of a code, which must give the code back; None where the code is refused.
+    pub fn line_and_back(&mut self, code: &[u8]) -> Compared<Option<Vec<u8>>> {
+        let line = self.whole_line(code)?;
+        if let Some(line) = &line {
+            let back = self.whole_code(line)?;
+            demand(back.as_deref() == Some(code), "a line gives its code back", code)?;
+        }
+        Ok(line)
+    }
+
+    /// The code of a line, which must give the line back; None where the line is refused.
+    pub fn unline_and_back(&mut self, line: &[u8]) -> Compared<Option<Vec<u8>>> {
+        let code = self.whole_code(line)?;
+        if let Some(code) = &code {
+            let back = self.whole_line(code)?;
+            demand(back.as_deref() == Some(line), "a code gives its line back", line)?;
+        }
+        Ok(code)
+    }
+
+    fn whole_line(&mut self, code: &[u8]) -> Compared<Option<Vec<u8>>> {
+        let mut line = vec![0x5a; LONGEST_ANY_LINE];
+        let written = self.line(code, &mut line)?;
+        demand(written.number != 23, "the longest line has room for every code", code)?;
+        line.truncate(written.length);
+        Ok((written.number == 0).then_some(line))
+    }
+
+    fn whole_code(&mut self, line: &[u8]) -> Compared<Option<Vec<u8>>> {
+        let mut code = vec![0x5a; LONGEST_CODE];
+        let written = self.unline(line, &mut code)?;
+        demand(written.number != 23, "the longest code has room for every line", line)?;
+        code.truncate(written.length);
+        Ok((written.number == 0).then_some(code))
     }
 
     /// How often each call returned each number, one line for each call.

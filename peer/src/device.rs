@@ -34,18 +34,36 @@ unsafe extern "C" {
     fn ditgrux_uncode(code: *const u8, code_length: usize, output: *mut u8, output_length: usize,
         length: *mut usize) -> u32;
     fn ditgrux_fields(code: *const u8, code_length: usize, start: *mut usize, length: *mut usize) -> u32;
+    fn ditgrux_line(code: *const u8, code_length: usize, output: *mut u8, output_length: usize,
+        length: *mut usize) -> u32;
+    fn ditgrux_unline(line: *const u8, line_length: usize, output: *mut u8, output_length: usize,
+        length: *mut usize) -> u32;
     fn ditgrux_sha256(data: *const u8, data_length: usize, output: *mut u8, output_length: usize) -> u32;
     fn ditgrux_base64(url: u32, data: *const u8, data_length: usize, output: *mut u8, output_length: usize,
         length: *mut usize) -> u32;
     fn ditgrux_unbase64(url: u32, text: *const u8, text_length: usize, output: *mut u8, output_length: usize,
         length: *mut usize) -> u32;
+    fn ditgrux_base32(data: *const u8, data_length: usize, output: *mut u8, output_length: usize,
+        length: *mut usize) -> u32;
+    fn ditgrux_unbase32(text: *const u8, text_length: usize, output: *mut u8, output_length: usize,
+        length: *mut usize) -> u32;
 }
+
+/// A call that reads one text and writes another, with its length.
+type TextCall = unsafe extern "C" fn(*const u8, usize, *mut u8, usize, *mut usize) -> u32;
 
 /// libdevice.a.
 pub struct Library;
 
 // SAFETY of every call below: each pointer is that of a slice with the length beside it, or of a local number; no slice
 // that is written overlaps another, as it is borrowed mutably; a slice of length 0 has a pointer that is not null.
+
+fn text_call(call: TextCall, text: &[u8], output: &mut [u8]) -> Written {
+    let mut length = UNWRITTEN_LENGTH;
+    let number = unsafe { call(text.as_ptr(), text.len(), output.as_mut_ptr(), output.len(), &mut length) };
+    Written { number, length }
+}
+
 impl Calls for Library {
     fn version(&self) -> u32 {
         ditgrux_version()
@@ -189,16 +207,11 @@ impl Calls for Library {
     }
 
     fn code(&self, form: &[u8], output: &mut [u8]) -> Written {
-        let mut length = UNWRITTEN_LENGTH;
-        let number = unsafe { ditgrux_code(form.as_ptr(), form.len(), output.as_mut_ptr(), output.len(), &mut length) };
-        Written { number, length }
+        text_call(ditgrux_code, form, output)
     }
 
     fn uncode(&self, code: &[u8], output: &mut [u8]) -> Written {
-        let mut length = UNWRITTEN_LENGTH;
-        let number =
-            unsafe { ditgrux_uncode(code.as_ptr(), code.len(), output.as_mut_ptr(), output.len(), &mut length) };
-        Written { number, length }
+        text_call(ditgrux_uncode, code, output)
     }
 
     fn fields(&self, code: &[u8]) -> Part {
@@ -206,6 +219,14 @@ impl Calls for Library {
         let mut length = UNWRITTEN_LENGTH;
         let number = unsafe { ditgrux_fields(code.as_ptr(), code.len(), &mut start, &mut length) };
         Part { number, start, length }
+    }
+
+    fn line(&self, code: &[u8], output: &mut [u8]) -> Written {
+        text_call(ditgrux_line, code, output)
+    }
+
+    fn unline(&self, line: &[u8], output: &mut [u8]) -> Written {
+        text_call(ditgrux_unline, line, output)
     }
 
     fn sha256(&self, data: &[u8], output: &mut [u8]) -> u32 {
@@ -224,5 +245,12 @@ impl Calls for Library {
         let number =
             unsafe { ditgrux_unbase64(url, text.as_ptr(), text.len(), output.as_mut_ptr(), output.len(), &mut length) };
         Written { number, length }
+    }
+    fn base32(&self, data: &[u8], output: &mut [u8]) -> Written {
+        text_call(ditgrux_base32, data, output)
+    }
+
+    fn unbase32(&self, text: &[u8], output: &mut [u8]) -> Written {
+        text_call(ditgrux_unbase32, text, output)
     }
 }

@@ -3,8 +3,9 @@
 
 use std::sync::OnceLock;
 
+use crate::base32::padded_letters;
 use crate::calls::{Calls, Peer};
-use crate::compare::{Compare, Compared};
+use crate::compare::{Compare, Compared, demand};
 use crate::layout::{DETAILS, SETTINGS, SIGNATURE, STATE};
 use crate::model::Journal;
 use crate::receipt::{Date, Details};
@@ -15,14 +16,18 @@ const WIDTH: usize = 5;
 /// Does one input.
 pub fn one_input(compare: &mut Compare, input: &[u8]) -> Compared<()> {
     let Some((choice, rest)) = input.split_first() else { return Ok(()) };
-    match choice % 7 {
+    match choice % 11 {
         0 => take_over(compare, rest),
         1 => edited_journal(compare, rest),
         2 => code(compare, rest),
         3 => uncode(compare, rest),
         4 => unbase64(compare, rest),
         5 => issue(compare, rest),
-        _ => read(compare, rest),
+        6 => read(compare, rest),
+        7 => line(compare, rest),
+        8 => unline(compare, rest),
+        9 => base32(compare, rest),
+        _ => unbase32(compare, rest),
     }
 }
 
@@ -176,4 +181,45 @@ fn read(compare: &mut Compare, input: &[u8]) -> Compared<()> {
     compare.read(settings, form, &mut vec![0xaa; *details as usize], &mut vec![0xaa; *signature as usize])?;
     compare.read(settings, form, &mut [0xaa; DETAILS], &mut [0xaa; SIGNATURE])?;
     Ok(())
+}
+
+/// The room in the output, and a code: its line must give it back.
+fn line(compare: &mut Compare, input: &[u8]) -> Compared<()> {
+    let Some((room, code)) = input.split_first() else { return Ok(()) };
+    compare.line(code, &mut vec![0xaa; 2 * *room as usize])?;
+    compare.line_and_back(code)?;
+    Ok(())
+}
+
+/// The room in the output, and a line: its code must give it back.
+fn unline(compare: &mut Compare, input: &[u8]) -> Compared<()> {
+    let Some((room, line)) = input.split_first() else { return Ok(()) };
+    compare.unline(line, &mut vec![0xaa; 2 * *room as usize])?;
+    compare.unline_and_back(line)?;
+    Ok(())
+}
+
+/// The room in the output, and bytes: their text must give them back.
+fn base32(compare: &mut Compare, input: &[u8]) -> Compared<()> {
+    let Some((room, data)) = input.split_first() else { return Ok(()) };
+    compare.base32(data, &mut vec![0xaa; *room as usize])?;
+    let mut text = vec![0xaa; padded_letters(data.len())];
+    compare.base32(data, &mut text)?;
+    let mut back = vec![0xaa; data.len()];
+    compare.unbase32(&text, &mut back)?;
+    demand(back == data, "BASE32 gives its bytes back", data)
+}
+
+/// The room in the output, and a text: its bytes must give it back.
+fn unbase32(compare: &mut Compare, input: &[u8]) -> Compared<()> {
+    let Some((room, text)) = input.split_first() else { return Ok(()) };
+    compare.unbase32(text, &mut vec![0xaa; *room as usize])?;
+    let mut data = vec![0xaa; text.len()];
+    let read = compare.unbase32(text, &mut data)?;
+    if read.number != 0 {
+        return Ok(());
+    }
+    let mut back = vec![0xaa; text.len()];
+    compare.base32(&data[..read.length], &mut back)?;
+    demand(back == text, "bytes give their BASE32 back", text)
 }

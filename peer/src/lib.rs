@@ -1,6 +1,7 @@
 //! The receipt journal of a cash register in plain Rust, written from the paper alone: the peer of libdevice.a, which it
 //! is compared with.
 
+pub mod base32;
 pub mod base64;
 #[cfg(feature = "device")]
 pub mod bench;
@@ -14,6 +15,7 @@ pub mod device;
 #[cfg(feature = "device")]
 pub mod fuzz;
 pub mod layout;
+pub mod line;
 pub mod model;
 pub mod random;
 pub mod receipt;

@@ -1,8 +1,8 @@
-//! A journal in its parts, to be changed and put together again.
+//! A journal and a code in their parts, to be changed and put together again.
 
-use crate::base64;
 use crate::crypto::Aes256;
 use crate::receipt::{Kind, chain_value, counter_after, counter_iv, encrypt_counter, read_amount, read_compact};
+use crate::{base32, base64};
 
 pub fn url_text(data: &[u8]) -> Vec<u8> {
     let mut text = vec![0; base64::letters(data.len())];
@@ -62,6 +62,11 @@ impl Entry {
         }
     }
 
+    /// The machine-readable code, whatever the parts are.
+    pub fn code(&self) -> Vec<u8> {
+        [&self.payload()[..], b"_", &padded_text(&self.signature)].concat()
+    }
+
     /// By the counter field.
     pub fn kind(&self) -> Kind {
         match self.fields.get(COUNTER).map(|field| &field[..]) {
@@ -75,6 +80,73 @@ impl Entry {
     pub fn amounts(&self) -> [i64; 5] {
         std::array::from_fn(|i| self.fields.get(FIRST_AMOUNT + i).and_then(|field| read_amount(field)).unwrap_or(0))
     }
+}
+
+/// The place of the signature after the twelve fields.
+pub const SIGNED: usize = 12;
+
+/// What has BASE64 in a code and BASE32 in its line: counter field, chain field and signature.
+pub const SPELLED: [usize; 3] = [COUNTER, CHAIN, SIGNED];
+
+/// What a code and its line say: twelve fields and the signature. Those at the places of SPELLED are the bytes themselves.
+#[derive(Clone)]
+pub struct Printed {
+    pub parts: Vec<Vec<u8>>,
+}
+
+impl Printed {
+    /// What a well spelled code says.
+    pub fn of(code: &[u8]) -> Printed {
+        let mut parts: Vec<Vec<u8>> = code[1..].split(|&byte| byte == b'_').map(<[u8]>::to_vec).collect();
+        for place in SPELLED {
+            let mut data = vec![0; parts[place].len()];
+            let length = base64::read_padded(&parts[place], &mut data).expect("well spelled");
+            data.truncate(length);
+            parts[place] = data;
+        }
+        Printed { parts }
+    }
+
+    fn texts(&self, spell: fn(&[u8]) -> Vec<u8>) -> Vec<Vec<u8>> {
+        let mut texts = self.parts.clone();
+        for place in SPELLED {
+            texts[place] = spell(&self.parts[place]);
+        }
+        texts
+    }
+
+    /// The twelve fields and the signature of the code.
+    pub fn code_texts(&self) -> Vec<Vec<u8>> {
+        self.texts(padded_text)
+    }
+
+    /// The twelve fields and the signature of the line.
+    pub fn line_texts(&self) -> Vec<Vec<u8>> {
+        self.texts(base32::padded_text)
+    }
+
+    pub fn code(&self) -> Vec<u8> {
+        joined(&self.code_texts())
+    }
+
+    pub fn line(&self) -> Vec<u8> {
+        joined(&self.line_texts())
+    }
+
+    /// The bytes of the code's payload.
+    pub fn payload_length(&self) -> usize {
+        joined(&self.code_texts()[..SIGNED]).len()
+    }
+}
+
+/// The texts with "_" before each.
+pub fn joined<T: AsRef<[u8]>>(texts: &[T]) -> Vec<u8> {
+    let mut bytes = Vec::new();
+    for text in texts {
+        bytes.push(b'_');
+        bytes.extend_from_slice(text.as_ref());
+    }
+    bytes
 }
 
 #[derive(Clone)]

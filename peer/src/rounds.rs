@@ -1,7 +1,9 @@
 //! The rounds of the differential run. A round is made from the seed and its number alone, so that it can be repeated.
 
+mod lines;
+
 use crate::calls::{Calls, Peer};
-use crate::compare::{Compare, Compared, Difference, hex};
+use crate::compare::{Compare, Compared, demand};
 use crate::layout::{DETAILS, SETTINGS, SIGNATURE, STATE, details_of, settings_bytes, state_bytes, state_of};
 use crate::model::{CHAIN, COUNTER, Entry, FIRST_AMOUNT, Journal, NUMBER, padded_text, url_text};
 use crate::random::Random;
@@ -15,6 +17,7 @@ pub fn round(compare: &mut Compare, seed: u64, number: u64) -> Compared<()> {
     let mut round = Round { random: Random::of(seed, number), compare };
     round.compare.version()?;
     round.primitives()?;
+    round.base32()?;
     round.settings()?;
     round.opening()?;
     for _ in 0..12 {
@@ -45,6 +48,13 @@ pub fn round(compare: &mut Compare, seed: u64, number: u64) -> Compared<()> {
     for _ in 0..8 {
         round.free_codes()?;
     }
+    round.lines_of(&written)?;
+    for _ in 0..6 {
+        round.free_lines()?;
+    }
+    round.line_errors()?;
+    round.lines_at_the_limits()?;
+    round.longest_receipts()?;
     round.read_of_each_kind()?;
     for _ in 0..24 {
         round.read_in_any_way(&written)?;
@@ -53,6 +63,8 @@ pub fn round(compare: &mut Compare, seed: u64, number: u64) -> Compared<()> {
     if round.random.once_in(16) {
         round.read_with_every_change(&written)?;
         round.read_under_every_change(&written)?;
+        round.lines_of_every_length()?;
+        round.lines_with_every_change(&written)?;
     }
     Ok(())
 }
@@ -268,7 +280,7 @@ impl Round<'_> {
         let mut journal = self.garbage(room);
         let mut state = self.garbage(STATE);
         let opened = self.compare.open(&settings, &mut journal, &mut state)?;
-        self.demand((number, opened) == (0, 0), "good settings are opened", &journal)?;
+        demand((number, opened) == (0, 0), "good settings are opened", &journal)?;
 
         let mut receipts = Vec::new();
         for _ in 0..1 + self.random.below(14) {
@@ -278,8 +290,8 @@ impl Round<'_> {
         journal.truncate(state_of(&state).journal_length as usize);
         let mut taken = self.garbage(STATE);
         let answer = self.compare.take_over(&journal, &given.key, given.width as usize, &mut taken)?;
-        self.demand(answer.number == 0, "the journal of a list is accepted", &journal)?;
-        self.demand(taken == state, "the state taken over is the one of the list", &journal)?;
+        demand(answer.number == 0, "the journal of a list is accepted", &journal)?;
+        demand(taken == state, "the state taken over is the one of the list", &journal)?;
         let accepted = Accepted { settings: given, journal, receipts };
         self.written_again(&accepted)?;
         Ok(accepted)
@@ -301,14 +313,6 @@ impl Round<'_> {
         let number = self.compare.issue(state, &details, &signature, journal)?;
         self.compare.figures(state)?;
         Ok((number == 0).then_some((details, signature)))
-    }
-
-    /// What must hold of both sides together.
-    fn demand(&self, holds: bool, what: &str, journal: &[u8]) -> Compared<()> {
-        if holds {
-            return Ok(());
-        }
-        Err(Difference { text: format!("does not hold: {what}\njournal {}\n", hex(journal)) })
     }
 
     /// Prepare into outputs of some lengths.
@@ -346,13 +350,13 @@ impl Round<'_> {
         let mut state = [0; STATE];
         self.compare.open(&settings, &mut journal, &mut state)?;
         let forms = accepted.forms();
-        self.demand(forms.len() == accepted.receipts.len(), "a receipt has one entry", &accepted.journal)?;
+        demand(forms.len() == accepted.receipts.len(), "a receipt has one entry", &accepted.journal)?;
         for (form, given) in forms.iter().zip(&accepted.receipts) {
             let (details, signature) = self.read_back(&settings, form, given)?;
             let number = self.compare.issue(&mut state, &details, &signature, &mut journal)?;
-            self.demand(number == 0, "a receipt of an accepted journal is issued", &accepted.journal)?;
+            demand(number == 0, "a receipt of an accepted journal is issued", &accepted.journal)?;
         }
-        self.demand(journal == accepted.journal, "the journal written again is the same", &accepted.journal)
+        demand(journal == accepted.journal, "the journal written again is the same", &accepted.journal)
     }
 
     /// What Read gives of a receipt, which must be what Issue was given.
@@ -362,8 +366,8 @@ impl Round<'_> {
         let before = signature;
         let read = self.compare.read(settings, form, &mut details, &mut signature)?;
         let receipt = (details_of(&details), signature[..read.length].to_vec());
-        self.demand(read.number == 0 && receipt == *given, "a receipt is read as it was issued", form)?;
-        self.demand(read.length != 0 || signature == before, "a signature that is not there is not written", form)?;
+        demand(read.number == 0 && receipt == *given, "a receipt is read as it was issued", form)?;
+        demand(read.length != 0 || signature == before, "a signature that is not there is not written", form)?;
         Ok(receipt)
     }
 
@@ -943,9 +947,7 @@ impl Round<'_> {
         let mut journal = good.clone();
         let place = self.random.below(3);
         let (payload, id) = (journal.entries[0].payload(), journal.id.clone());
-        let mut printed = payload.clone();
-        printed.push(b'_');
-        printed.extend(padded_text(&journal.entries[0].signature));
+        let printed = journal.entries[0].code();
         let signed = journal.entries[0].form();
         let signed = signed[..signed.len() - 1].to_vec();
         let text = self.random.pick(&[&payload[..], &printed, &signed, &id, b""]);
@@ -1079,7 +1081,7 @@ impl Round<'_> {
         let accepted = Accepted { settings, journal, receipts: Vec::new() };
         let mut taken = vec![0; STATE];
         let answer = self.compare.take_over(&accepted.journal, &settings.key, 6, &mut taken)?;
-        self.demand(answer.number == 0 && taken == state, "a long journal is accepted", &accepted.journal)?;
+        demand(answer.number == 0 && taken == state, "a long journal is accepted", &accepted.journal)?;
 
         let mut longer = Journal::of(&accepted.journal);
         let mut over = longer.entries.last().expect("entries").clone();
@@ -1155,7 +1157,7 @@ impl Round<'_> {
         self.compare.fields(code)?;
         if written.number == 0 {
             let back = Peer.code(&wide[..written.length], &mut [0; 400]);
-            self.demand(back.number == 0 && back.length == code.len(), "a code comes back", code)?;
+            demand(back.number == 0 && back.length == code.len(), "a code comes back", code)?;
         }
         Ok(())
     }
@@ -1205,11 +1207,12 @@ impl Round<'_> {
 
     // ---- receipts read back
 
-    /// A receipt of each kind and width, issued and read.
+    /// A receipt of each kind and width, issued and read, and its line.
     fn read_of_each_kind(&mut self) -> Compared<()> {
         for choice in 0..12 {
             let (settings, form, given) = self.receipt_made_by_hand(5 + choice / 3, choice as u32 % 3)?;
             self.read_back(&settings, &form, &given)?;
+            self.line_of_a_receipt(&form)?;
         }
         Ok(())
     }
@@ -1217,20 +1220,24 @@ impl Round<'_> {
     /// A receipt of this width and kind, issued from a state made by hand: the settings, the form and what was given.
     fn receipt_made_by_hand(&mut self, width: u64, kind: u32) -> Compared<([u8; SETTINGS], Vec<u8>, Given)> {
         let mut state = sample::sound_state(&self.random, 0);
-        let head = state.settings.head_length();
         state.settings.width = width;
         state.counter = 0;
         state.last_number = state.last_number.clamp(1, u32::MAX - 1);
         state.receipts = 1;
-        state.journal_length = head as u64;
         let details = Details { kind, ..sample::details(&self.random, &state) };
         let signature = sample::signature(&self.random);
-        let mut bytes = state_bytes(&state);
-        let mut journal = self.garbage(head + 2 + LONGEST_COMPACT);
-        let number = self.compare.issue(&mut bytes, &details, &signature, &mut journal)?;
-        self.demand(number == 0, "a sound state issues good details", &journal)?;
-        let form = journal[head + 2..state_of(&bytes).journal_length as usize].to_vec();
+        let form = self.form_issued(state, &details, &signature)?;
         Ok((settings_bytes(&state.settings), form, (details, signature)))
+    }
+
+    /// The form that Issue writes with good details to a journal of the head alone.
+    fn form_issued(&mut self, state: State, details: &Details, signature: &[u8]) -> Compared<Vec<u8>> {
+        let head = state.settings.head_length();
+        let mut bytes = state_bytes(&State { journal_length: head as u64, ..state });
+        let mut journal = self.garbage(head + 2 + LONGEST_COMPACT);
+        let number = self.compare.issue(&mut bytes, details, signature, &mut journal)?;
+        demand(number == 0, "a sound state issues good details", &journal)?;
+        Ok(journal[head + 2..state_of(&bytes).journal_length as usize].to_vec())
     }
 
     /// A form of the journal, or another text, under the right settings or others, into outputs of some lengths.
@@ -1336,7 +1343,7 @@ impl Round<'_> {
             self.take_over(accepted, &bytes)?;
             let read = self.compare.read(&settings, &form, &mut [0x5a; DETAILS], &mut [0xa5; SIGNATURE])?;
             // six bytes of counter have no padding to leave out
-            self.demand(read.number == 16 || form == good, "a student error is refused", &form)?;
+            demand(read.number == 16 || form == good, "a student error is refused", &form)?;
         }
         Ok(())
     }

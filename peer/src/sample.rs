@@ -1,7 +1,9 @@
-//! Random settings, states, details and signatures: good ones, and ones with something wrong.
+//! Random settings, states, details, signatures and codes: good ones, and ones with something wrong.
 
+use crate::base64;
+use crate::model::{CHAIN, COUNTER, Printed, SIGNED};
 use crate::random::Random;
-use crate::receipt::{AMOUNT_LIMIT, Date, Details};
+use crate::receipt::{AMOUNT_LIMIT, Date, Details, FAILURE, LONGEST_PAYLOAD};
 use crate::register::State;
 use crate::settings::{Name, Settings};
 
@@ -327,4 +329,42 @@ pub fn bad_signature(random: &Random) -> Vec<u8> {
             random.bytes(length)
         }
     }
+}
+
+// ---- codes
+
+/// The bytes of a payload of twelve fields that are all empty, but for "R1-".
+const LEAST_PAYLOAD: usize = 15;
+
+/// The most bytes that the counter field or the chain field can have.
+pub const LONGEST_FIELD: usize = (LONGEST_PAYLOAD - LEAST_PAYLOAD) / 4 * 3;
+
+/// The most bytes that one of the two can have where the other has so many.
+pub fn longest_beside(length: usize) -> usize {
+    (LONGEST_PAYLOAD - LEAST_PAYLOAD - base64::padded_letters(length)) / 4 * 3
+}
+
+/// The bytes of counter field and chain field: those of a receipt, a few, or as many as a payload has room for.
+pub fn field_lengths(random: &Random) -> [usize; 2] {
+    let one = random.pick(&[5 + random.below(4), random.below(11), random.below(LONGEST_FIELD + 1)]);
+    let most = longest_beside(one);
+    let other = random.pick(&[8, random.below(11), most, random.below(most + 1)]).min(most);
+    if random.once_in(2) { [one, other] } else { [other, one] }
+}
+
+/// A code with so many bytes in counter field and chain field and a payload of so many bytes, or of as few as there can
+/// be. The other fields are any bytes.
+pub fn printed(random: &Random, [counter, chain]: [usize; 2], payload: usize) -> Printed {
+    const FREE: [usize; 10] = [0, 1, 2, 3, 4, 5, 6, 7, 8, 10];
+    let mut parts = vec![Vec::new(); SIGNED + 1];
+    parts[0] = b"R1-".to_vec();
+    parts[COUNTER] = random.bytes(counter);
+    parts[CHAIN] = random.bytes(chain);
+    parts[SIGNED] = if random.once_in(4) { FAILURE.to_vec() } else { random.bytes(64) };
+    let mut printed = Printed { parts };
+    for _ in printed.payload_length()..payload {
+        let byte = random.pick(&[random.byte(), random.byte(), b'=', b'A', b'0']);
+        printed.parts[random.pick(&FREE)].push(if byte == b'_' { b'-' } else { byte });
+    }
+    printed
 }

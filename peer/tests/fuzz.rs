@@ -19,7 +19,7 @@ fn kept_and_found_inputs() {
         }
         inputs += 1;
     }
-    assert!(inputs >= 200, "{inputs} inputs");
+    assert!(inputs >= 324, "{inputs} inputs");
     // the inputs still say what they said: each of these numbers is among the answers
     let missing = compare.missing();
     for number in [0, 4, 14, 15, 16, 17, 18, 19, 20, 21] {
@@ -38,5 +38,8 @@ fn kept_and_found_inputs() {
         [("code", 0), ("code", 22), ("code", 23), ("uncode", 0), ("uncode", 23), ("uncode", 24), ("fields", 0)]
     {
         assert!(!missing.contains(&answer), "{answer:?}");
+    }
+    for call in ["line", "unline", "base32", "unbase32"] {
+        assert!(missing.iter().all(|(name, _)| *name != call), "{call}: {missing:?}");
     }
 }

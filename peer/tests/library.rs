@@ -103,3 +103,43 @@ fn read_registers_refused() {
 fn read_outputs_refused() {
     vectors::read_outputs_refused(&Library);
 }
+
+#[test]
+fn base32() {
+    vectors::base32(&Library);
+}
+
+#[test]
+fn ocr_line() {
+    vectors::ocr_line(&Library);
+}
+
+#[test]
+fn published_pair() {
+    vectors::published_pair(&Library);
+}
+
+#[test]
+fn lines_by_hand() {
+    vectors::lines_by_hand(&Library);
+}
+
+#[test]
+fn lines_refused() {
+    vectors::lines_refused(&Library);
+}
+
+#[test]
+fn unlines_refused() {
+    vectors::unlines_refused(&Library);
+}
+
+#[test]
+fn longest_line_of_a_receipt() {
+    vectors::longest_line_of_a_receipt(&Library);
+}
+
+#[test]
+fn longest_line_of_a_code() {
+    vectors::longest_line_of_a_code(&Library);
+}

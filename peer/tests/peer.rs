@@ -115,6 +115,46 @@ fn read_outputs_refused() {
     vectors::read_outputs_refused(&Peer);
 }
 
+#[test]
+fn base32() {
+    vectors::base32(&Peer);
+}
+
+#[test]
+fn ocr_line() {
+    vectors::ocr_line(&Peer);
+}
+
+#[test]
+fn published_pair() {
+    vectors::published_pair(&Peer);
+}
+
+#[test]
+fn lines_by_hand() {
+    vectors::lines_by_hand(&Peer);
+}
+
+#[test]
+fn lines_refused() {
+    vectors::lines_refused(&Peer);
+}
+
+#[test]
+fn unlines_refused() {
+    vectors::unlines_refused(&Peer);
+}
+
+#[test]
+fn longest_line_of_a_receipt() {
+    vectors::longest_line_of_a_receipt(&Peer);
+}
+
+#[test]
+fn longest_line_of_a_code() {
+    vectors::longest_line_of_a_code(&Peer);
+}
+
 fn block(text: &str) -> [u8; 16] {
     unhex(text).try_into().expect("a block")
 }

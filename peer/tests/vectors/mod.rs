@@ -96,6 +96,29 @@ pub fn sha256(side: &dyn Calls) {
     }
 }
 
+/// A text that stands for these bytes, asked both ways, or one that the reader refuses.
+fn text_row(
+    name: &str,
+    [text, result, data]: [&str; 3],
+    write: impl Fn(&[u8], &mut [u8]) -> Written,
+    read: impl Fn(&[u8], &mut [u8]) -> Written,
+) {
+    let (text, data) = (unhex(text), unhex(data));
+    let mut output = vec![0xaa; text.len() + 1];
+    let answer = read(&text, &mut output);
+    match result {
+        "ok" => {
+            assert_eq!((answer.number, &output[..answer.length]), (0, &data[..]), "{name}");
+            let mut output = vec![0xaa; text.len()];
+            assert_eq!(write(&data, &mut output), Written { number: 0, length: text.len() }, "{name}");
+            assert_eq!(output, text, "{name}");
+        }
+        "refused" => assert_eq!(answer, Written { number: 22, length: 0 }, "{name}"),
+        other => panic!("{other}"),
+    }
+    assert!(output[answer.length..].iter().all(|&byte| byte == 0xaa), "{name}: a byte after the end is changed");
+}
+
 pub fn base64(side: &dyn Calls) {
     for row in rows("tests/data/base64.tsv", 219) {
         let url = match row[1].as_str() {
@@ -103,20 +126,23 @@ pub fn base64(side: &dyn Calls) {
             "url" => 1,
             other => panic!("{other}"),
         };
-        let (text, data) = (unhex(&row[2]), unhex(&row[5]));
-        let mut output = vec![0; text.len()];
-        let read = side.unbase64(url, &text, &mut output);
-        match row[4].as_str() {
-            "ok" => {
-                assert_eq!((read.number, &output[..read.length]), (0, &data[..]), "{} {}", row[0], row[1]);
-                assert_eq!(encoded(side, url, &data), text, "{} {}", row[0], row[1]);
-            }
-            "refused" => {
-                assert_eq!((read.number, read.length), (22, 0), "{} {}", row[0], row[1]);
-                assert!(output.iter().all(|&byte| byte == 0), "{} {}", row[0], row[1]);
-            }
-            other => panic!("{other}"),
-        }
+        text_row(
+            &row[..2].join(" "),
+            [&row[2], &row[4], &row[5]],
+            |data, output| side.base64(url, data, output),
+            |text, output| side.unbase64(url, text, output),
+        );
+    }
+}
+
+pub fn base32(side: &dyn Calls) {
+    for row in rows("tests/data/base32.tsv", 103) {
+        text_row(
+            &row[0],
+            [&row[1], &row[3], &row[4]],
+            |data, output| side.base32(data, output),
+            |text, output| side.unbase32(text, output),
+        );
     }
 }
 
@@ -578,5 +604,273 @@ pub fn read_outputs_refused(side: &dyn Calls) {
     for lengths in [[71, 64], [73, 64], [0, 64], [72, 63], [72, 65], [72, 0], [72, 34], [71, 65], [64, 72], [0, 0]] {
         assert_not_read(side, &settings, &signed, lengths, 23);
         assert_not_read(side, &settings, &failed, lengths, 23);
+    }
+}
+
+// ---- the optical line
+
+/// A call that reads one text and writes another.
+type TextCall<'a> = &'a dyn Fn(&[u8], &mut [u8]) -> Written;
+
+/// What the call writes to an output that is exactly long enough. One byte less gets 23, and one more stays as it is.
+fn assert_writes(call: TextCall, text: &[u8], expected: &[u8], name: &str) {
+    let needed = expected.len();
+    for room in [needed, needed + 1] {
+        let mut output = vec![0xaa; room];
+        assert_eq!(call(text, &mut output), Written { number: 0, length: needed }, "{name}");
+        assert_eq!(&output[..needed], expected, "{name}");
+        assert!(output[needed..].iter().all(|&byte| byte == 0xaa), "{name}: a byte after the end is changed");
+    }
+    assert_refuses(call, text, 23, &[needed - 1, 0], name);
+}
+
+/// The call is refused with this number, whatever the room, and changes no output.
+fn assert_refuses(call: TextCall, text: &[u8], number: u32, rooms: &[usize], name: &str) {
+    for &room in rooms {
+        let mut output = vec![0xaa; room];
+        assert_eq!(call(text, &mut output), Written { number, length: 0 }, "{name}, room {room}");
+        assert!(output.iter().all(|&byte| byte == 0xaa), "{name}, room {room}: the output is changed");
+    }
+}
+
+/// The code has this line, and the line this code.
+fn assert_line(side: &dyn Calls, code: &[u8], line: &[u8], name: &str) {
+    assert_writes(&|code, output| side.line(code, output), code, line, name);
+    assert_writes(&|line, output| side.unline(line, output), line, code, name);
+}
+
+fn assert_no_line(side: &dyn Calls, code: &[u8], number: u32, name: &str) {
+    assert_refuses(&|code, output| side.line(code, output), code, number, &[400, 1, 0], name);
+}
+
+fn assert_no_code(side: &dyn Calls, line: &[u8], name: &str) {
+    assert_refuses(&|line, output| side.unline(line, output), line, 27, &[400, 1, 0], name);
+}
+
+pub fn ocr_line(side: &dyn Calls) {
+    for row in rows("tests/data/ocr-line.tsv", 60) {
+        let (input, output) = (unhex(&row[2]), unhex(&row[4]));
+        match (row[1].as_str(), row[3].as_str()) {
+            ("to-line", "0") => assert_line(side, &input, &output, &row[0]),
+            ("to-code", "0") => assert_line(side, &output, &input, &row[0]),
+            ("to-line", number) => assert_no_line(side, &input, number.parse().expect("a number"), &row[0]),
+            ("to-code", "27") => assert_no_code(side, &input, &row[0]),
+            other => panic!("{other:?}"),
+        }
+    }
+}
+
+/// The chain value that the ministry's paper prints in both spellings.
+pub fn published_pair(side: &dyn Calls) {
+    let mut value = [0; 8];
+    assert_eq!(side.unbase64(0, b"hArhdCTSjbM=", &mut value), Written { number: 0, length: 8 });
+    assert_writes(&|data, output| side.base32(data, output), &value, b"QQFOC5BE2KG3G===", "the published pair");
+    assert_writes(&|text, output| side.unbase32(text, output), b"QQFOC5BE2KG3G===", &value, "the published pair");
+    let code = printed(["VFJB", "hArhdCTSjbM=", FAILED.0]);
+    let line = printed(["KRJEC===", "QQFOC5BE2KG3G===", FAILED.1]);
+    assert_line(side, &code, &line, "the published pair");
+}
+
+/// The text of a failed device in BASE64 and in BASE32.
+const FAILED: (&str, &str) =
+    ("U2ljaGVyaGVpdHNlaW5yaWNodHVuZyBhdXNnZWZhbGxlbg==", "KNUWG2DFOJUGK2LUONSWS3TSNFRWQ5DVNZTSAYLVONTWKZTBNRWGK3Q=");
+
+/// A code or a line with these texts as counter field, chain field and signature.
+fn printed([counter, chain, signature]: [&str; 3]) -> Vec<u8> {
+    format!("_R1-AT0_K-1_7_2016-02-29T08:05:00_10,50_0,00_0,00_0,78_-0,05_{counter}_2a_{chain}_{signature}")
+        .into_bytes()
+}
+
+/// The same with another text at one of the three places.
+fn printed_with<'a>(mut texts: [&'a str; 3], place: usize, text: &'a str) -> String {
+    texts[place] = text;
+    String::from_utf8(printed(texts)).expect("ASCII")
+}
+
+/// Codes spelled by hand, with fields of several lengths, and their lines.
+pub fn lines_by_hand(side: &dyn Calls) {
+    for (counter, chain) in [
+        (("", ""), ("", "")),
+        (("U1RP", "KNKE6==="), ("AAAAAAAAAAA=", "AAAAAAAAAAAAA===")),
+        (("VFJB", "KRJEC==="), ("", "")),
+        (("Zg==", "MY======"), ("Zm8=", "MZXQ====")),
+        (("Zm9v", "MZXW6==="), ("Zm9vYg==", "MZXW6YQ=")),
+        (("Zm9vYmE=", "MZXW6YTB"), ("Zm9vYmFy", "MZXW6YTBOI======")),
+        // the same letters stand for other bytes
+        (("AAAAAAA=", "AAAAAAAA"), ("AAAAAAAA", "AAAAAAAAAA======")),
+    ] {
+        let code = printed([counter.0, chain.0, FAILED.0]);
+        let line = printed([counter.1, chain.1, FAILED.1]);
+        assert_line(side, &code, &line, &format!("{counter:?} {chain:?}"));
+    }
+    // other fields are copied, whatever they are
+    let code = [b"_R1-\0________\xff\n_Zg==_=_Zg==_", FAILED.0.as_bytes()].concat();
+    let line = [b"_R1-\0________\xff\n_MY======_=_MY======_", FAILED.1.as_bytes()].concat();
+    assert_line(side, &code, &line, "any bytes");
+}
+
+/// 24 and 26 in this order, and before 23.
+pub fn lines_refused(side: &dyn Calls) {
+    let good = ["Zm9v", "AAAAAAAAAAA=", FAILED.0];
+    for text in ["Zg", "Zg=", "Zg===", "Zh==", "Zm9=", "Zm8==", "====", "Z===", "Zm9-", "Zm9 ", "Zg==Zg==", "MY======"]
+    {
+        for (place, number) in [(0, 26), (1, 26), (2, 24)] {
+            let code = printed_with(good, place, text);
+            assert_no_line(side, code.as_bytes(), number, &code);
+        }
+    }
+    let code = printed_with(good, 0, good[0]);
+    for (text, other, number) in [
+        ("_R1-", "_R2-", 24),
+        ("_R1-", "R1-", 24),
+        ("_2a", "", 26),
+        ("_2a", "_2a_", 26),
+        ("_R1-AT0", "_R1-AT0_", 26),
+        ("_10,50_0,00", "_10,50", 26),
+        // 24 comes first
+        ("_2a_AAAAAAAAAAA=_U2lj", "_U2lj", 26),
+        ("_2a_AAAAAAAAAAA=_U2lj", "_U2l", 24),
+        ("bg==", "bh==", 24),
+        ("bg==", "bg", 24),
+        ("bg==", "bg==_", 24),
+        ("_U2lj", "_u2lj", 24),
+    ] {
+        assert!(code.contains(text), "{text}");
+        assert_no_line(side, code.replacen(text, other, 1).as_bytes(), number, other);
+    }
+    for code in [&b""[..], b"_", b"_R1-", b"________________", &[0xff; 400]] {
+        assert_no_line(side, code, 24, "no code");
+    }
+    assert_no_line(side, [b"_R1-_", FAILED.0.as_bytes()].concat().as_slice(), 26, "one field");
+    assert_no_line(side, &printed(["KRJEC===", "QQFOC5BE2KG3G===", FAILED.1]), 24, "a line");
+}
+
+/// 27, which comes before 23.
+pub fn unlines_refused(side: &dyn Calls) {
+    let good = ["KNKE6===", "QQFOC5BE2KG3G===", FAILED.1];
+    for text in [
+        "MY",
+        "MY=====",
+        "MY=======",
+        "my======",
+        "mY======",
+        "M1======",
+        "M0======",
+        "M8======",
+        "M9======",
+        "MZ======",
+        "MZXR====",
+        "MZXW7===",
+        "MZXW6YR=",
+        "MZX=====",
+        "MZXW6Y==",
+        "M=======",
+        "========",
+        "MZXW6YTB========",
+        "MY======MY======",
+        "=Y======",
+        "MZXW6YT ",
+        "MZXW6YTB\n",
+        "MZXW6YT-",
+        "U1RP",
+        "Zg==",
+    ] {
+        for place in 0..3 {
+            let line = printed_with(good, place, text);
+            assert_no_code(side, line.as_bytes(), &line);
+        }
+    }
+    // 63 bytes, 65, and 34 others
+    for length in [0, 33, 34, 35, 63, 65, 66, 100] {
+        let mut text = [0; 200];
+        let written = side.base32(&vec![b'S'; length], &mut text);
+        let line = printed_with(good, 2, std::str::from_utf8(&text[..written.length]).expect("letters"));
+        assert_no_code(side, line.as_bytes(), &line);
+    }
+    let line = printed_with(good, 0, good[0]);
+    for (text, other) in [
+        ("_R1-", "_R2-"),
+        ("_R1-", "R1-"),
+        ("_2a", ""),
+        ("_2a", "_2a_"),
+        ("_R1-AT0", "_R1-AT0_"),
+        ("_10,50_0,00", "_10,50"),
+        ("GK3Q=", "GK3R="),
+        ("GK3Q=", "GK3Q"),
+        ("GK3Q=", "GK3Q=_"),
+        ("_KNUWG", "_KNUWH"),
+    ] {
+        assert!(line.contains(text), "{text}");
+        assert_no_code(side, line.replacen(text, other, 1).as_bytes(), other);
+    }
+    for line in [&b""[..], b"_", b"_R1-", b"________________", &[0xff; 400], &[b'_'; 5000]] {
+        assert_no_code(side, line, "no line");
+    }
+    assert_no_code(side, &printed(["VFJB", "hArhdCTSjbM=", FAILED.0]), "a code");
+}
+
+/// The line of a code, which gives the code back.
+fn line_and_back(side: &dyn Calls, code: &[u8]) -> Vec<u8> {
+    let mut line = vec![0xaa; 400];
+    let written = side.line(code, &mut line);
+    assert_eq!(written.number, 0, "{}", String::from_utf8_lossy(code));
+    line.truncate(written.length);
+    assert_line(side, code, &line, "there and back");
+    line
+}
+
+/// The receipt with the longest fields, of each width and kind: no line is longer than 308 bytes, and some are as long.
+pub fn longest_line_of_a_receipt(side: &dyn Calls) {
+    for (width, kind, length) in [(5, 0, 300), (6, 0, 308), (7, 0, 308), (8, 0, 308), (8, 1, 300), (8, 2, 300)] {
+        let names = [Name::of(&[b'~'; 32]), Name::of(&[b'f'; 32])];
+        let settings = Settings { csp: *b"ZZ9", id: names[0], serial: names[1], width, key: [9; 32] };
+        let head = settings.head_length();
+        let held = State {
+            settings,
+            last_number: 4_294_967_294,
+            receipts: 1,
+            journal_length: head as u64,
+            ..State::default()
+        };
+        let details = Details { number: 4_294_967_295, date: GOOD_DATE, amounts: [-9_999_999_999; 5], kind };
+        let (mut held, mut journal, mut code) = (state_bytes(&held), [0; 83 + 370], [0; 284]);
+        assert_eq!(side.issue(&mut held, &details, &[0xa5; 64], &mut journal), 0);
+        let written = side.code(&journal[head + 2..side.journal_length(&held)], &mut code);
+        assert_eq!(written.number, 0);
+        assert_eq!(line_and_back(side, &code[..written.length]).len(), length, "width {width}, kind {kind}");
+    }
+}
+
+/// A code with a payload of so many bytes and so many bytes in the counter field and the chain field.
+fn code_of_lengths(side: &dyn Calls, [counter, chain]: [usize; 2], payload: usize) -> Vec<u8> {
+    let [counter, chain] = [counter, chain].map(|length| encoded(side, 0, &vec![0xa5; length]));
+    let free = payload - b"_R1-___________".len() - counter.len() - chain.len();
+    let fields = [b"_R1-_", &vec![b'x'; free][..], b"________", &counter, b"__", &chain].concat();
+    assert_eq!(fields.len(), payload);
+    [&fields[..], b"_", &encoded(side, 0, &[0x5a; 64])].concat()
+}
+
+/// Codes with the longest payload, 195 bytes, whose fields are of all lengths: no line is longer than 348 bytes, and some
+/// are as long. With one byte more there is no code, and so no line.
+pub fn longest_line_of_a_code(side: &dyn Calls) {
+    let mut longest = 0;
+    for counter in 0..=135 {
+        let left = 180 - encoded(side, 0, &vec![0; counter]).len();
+        for chain in [0, 1, 6, left / 4 * 3].into_iter().filter(|chain| chain.div_ceil(3) * 4 <= left) {
+            let line = line_and_back(side, &code_of_lengths(side, [counter, chain], 195));
+            longest = longest.max(line.len());
+        }
+    }
+    assert_eq!(longest, 348);
+    for lengths in [[126, 6], [6, 126]] {
+        assert_eq!(line_and_back(side, &code_of_lengths(side, lengths, 195)).len(), 348);
+    }
+    for lengths in [[126, 6], [6, 126], [0, 0], [8, 8], [135, 0], [0, 135]] {
+        let good = line_and_back(side, &code_of_lengths(side, lengths, 195));
+        assert_no_line(side, &code_of_lengths(side, lengths, 196), 24, "196 bytes of payload");
+        // the same byte more in the line, in a field that is copied
+        let mut line = good.clone();
+        line.insert(5, b'x');
+        assert_no_code(side, &line, "196 bytes of payload");
     }
 }

@@ -1,0 +1,2 @@
+# src/line.rs: stray bits let through in the fields of a code
+s/let length = base64::read_padded\(field, &mut data\)\?;/let mut other = field.to_vec();\n    let last = field.iter().rposition(|\&byte| byte != b'=').unwrap_or(0);\n    let length = (0..64).find_map(|_| {\n        let length = base64::read_padded(\&other, \&mut data);\n        if length.is_none() \&\& !other.is_empty() {\n            other[last] = other[last].saturating_sub(1);\n        }\n        length\n    })?;/
