@@ -116,18 +116,19 @@ module _ (s : Settings) (n : ℕ) (e : Entry) where
     compact-long-of = omega (arith, ap length is-form, length-form p, text-long (e .signature) (te .signature))
 
     module _ (ts : SettingsLengths s) (g : spellable s n e ≡ true) where
-      parts-good : partsGood p ≡ true
+      pub parts-good : partsGood (parts (payload s n (e .fields)) (signatureText (e .signature))) ≡ true
       unfolding p
       parts-good =
           let f = e .fields in
           let c = spellable-true s n e g .fields in
           rw (payload-good s n f (payload-short s n f ts (c .sized) (te .fields) (c .fields))) (text-good (e .signature) (te .signature))
 
-      parts-bytes : SettingsBytes s → PartsOfBytes p
+      pub parts-bytes : SettingsBytes s → PartsOfBytes (parts (payload s n (e .fields)) (signatureText (e .signature)))
       unfolding p
       parts-bytes bs = record { payload = payload-bytes s n (e .fields) bs; signature = text-bytes (e .signature) (te .signatureBytes) }
 
       compact-short-of : length (compact s n e) ≤ longestCompact
+      unfolding p
       compact-short-of = omega (arith, ap length is-form, form-short p parts-good)
 
       -- an entry is read back from its compact form

@@ -27,6 +27,7 @@ pub mod PaperCases
 pub mod PayloadBack
 pub mod PayloadBytes
 pub mod ReceiptFields
+pub mod ReceiptLines
 pub mod Signs
 pub mod Spellings
 pub mod Texts

@@ -11,21 +11,16 @@ use Rattle.primitives.specs.Answers.{written, answerWith, bufferWith}
 use Rattle.primitives.specs.Bytes.{AllBytes}
 use Rattle.primitives.specs.Base32.{encodedLength32}
 use Rattle.primitives.proofs.ByteLists.{bytes-nil, bytes-cons, bytes-append}
-use Rattle.receipt.specs.Settings.{SettingsLengths, SettingsBytes, settingsGood}
 use Rattle.receipt.specs.Form.{Parts}
-use Rattle.receipt.specs.Compact.{TypedEntry, spellable}
 use Rattle.receipt.specs.Code.{partsOfCode}
 use Rattle.receipt.specs.Line.{spell, CodeFields, FieldsOfBytes, countOf, payloadIn, textIn, fieldsOf, refusalOf, lineAnswer, lineBuffer, unlineAnswer, unlineBuffer, codeRemade}
-use Rattle.receipt.specs.LineLaws.{SpelledAs, FieldsAreExact, TwelveSeparators, ImageOf, HasCode, HasLine, LineIsImage, CodeHasLine, CodeAfterLine, LineAfterCode, ReceiptHasLine}
-use Rattle.receipt.specs.declared.settings.Settings.{Settings}
-use Rattle.receipt.specs.declared.entry.Entry.{Entry}
+use Rattle.receipt.specs.LineLaws.{SpelledAs, FieldsAreExact, TwelveSeparators, ImageOf, HasCode, HasLine, LineIsImage, CodeHasLine, LongestLinesAre, LineIsShort, CodeAfterLine, LineAfterCode}
 use Rattle.receipt.specs.declared.optical_line.Spelling.{Spelling}
 use Rattle.receipt.specs.declared.optical_line.Spelling.the-variants.{Base64, Base32}
 use Rattle.receipt.proofs.Codes.{code-back}
 use Rattle.receipt.proofs.MarkCounts.{one-mark, count-append, count-none}
 use Rattle.receipt.proofs.Spellings.{spell-bytes, spell-none, spelledLength, length-spell}
-use Rattle.receipt.proofs.LineFields.{good-parts, start-nine, serial-none, fields-back, fields-only, one-spelling, code-of, partsIn}
-use Rattle.receipt.proofs.ReceiptFields.{fieldsIn, codeOf, receipt-fields}
+use Rattle.receipt.proofs.LineFields.{good-parts, good-most, start-nine, serial-none, fields-back, fields-only, one-spelling, code-of, partsIn}
 use Rattle.receipt.proofs.Undoing.{round}
 
 -- ---- the reader
@@ -72,6 +67,17 @@ pub line-length : (f : CodeFields)
 unfolding textIn
 line-length f = simp length-append (omega (arith, length-payload Base32 f, length-spell Base32 (f .signature)))
 
+pub longest-lines : LongestLinesAre
+unfolding encodedLength32
+longest-lines = (refl, refl)
+
+pub line-is-short : LineIsShort
+unfolding encodedLength32
+line-is-short line code w =
+    let f = w .fields in
+    let m = good-most f (w .asLine .good) in
+    omega (arith, ap length (w .asLine .is), line-length f, payload-length f, m .0, m .1)
+
 -- ---- a code and its fields
 
 payload-bytes : (s : Spelling) (f : CodeFields) → FieldsOfBytes f → AllBytes (payloadIn s f)
@@ -79,6 +85,10 @@ unfolding payloadIn
 payload-bytes s f b =
     let mark : AllBytes (95 ∷ []) = bytes-cons (omega arith) bytes-nil in
     bytes-append (bytes-append (bytes-append (bytes-append (bytes-append (bytes-append (b .start) mark) (spell-bytes s (f .counter))) mark) (b .serial)) mark) (spell-bytes s (f .chain))
+
+pub text-bytes : (s : Spelling) (f : CodeFields) → FieldsOfBytes f → AllBytes (textIn s f)
+unfolding textIn
+text-bytes s f b = bytes-append (bytes-append (payload-bytes s f b) (bytes-cons (omega arith) bytes-nil)) (spell-bytes s (f .signature))
 
 -- the spelling of good fields in BASE64 is the code of good parts
 pub spelled-parts : (code : List ℕ) (f : CodeFields) → SpelledAs Base64 code f → partsOfCode code ≡ some (partsIn f)
@@ -194,20 +204,3 @@ line-after-code line out again b accepted room =
     round 27 (refusalOf (partsOfCode (codeRemade line out))) (textIn Base64) (textIn Base32) (fieldsOf Base32 line) (fieldsOf Base64) line out again (λ e. absurd (omega arith))
     (λ f e. fields-only Base32 line f b e .is)
     (λ f e. fields-back Base64 f (fields-only Base32 line f b e .good) (fields-only Base32 line f b e .bytes)) accepted room
-
--- ---- receipts
-
-pub receipt-has-line : ReceiptHasLine
-receipt-has-line s n e l b g te can =
-    let w = receipt-fields s n e l b g te can .asCode in
-    record {
-      line = textIn Base32 (fieldsIn s n e);
-      is = record { fields = fieldsIn s n e; asCode = w; asLine = record { good = w .good; bytes = w .bytes; is = refl } };
-    }
-
--- and only one, that of these fields
-pub receipt-line : (s : Settings) (n : ℕ) (e : Entry) → SettingsLengths s → SettingsBytes s → settingsGood s ≡ true → TypedEntry e → spellable s n e ≡ true → (line : List ℕ)
-    → ImageOf line (codeOf s n e) → line ≡ textIn Base32 (fieldsIn s n e)
-receipt-line s n e l b g te can line w =
-    let r = receipt-fields s n e l b g te can .asCode in
-    w .asLine .is ∙ ap (textIn Base32) (one-spelling Base64 (codeOf s n e) (w .fields) (fieldsIn s n e) (w .asCode) r)

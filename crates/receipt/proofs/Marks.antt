@@ -26,7 +26,7 @@ after-plain : {xs : List ℕ} (rest : List ℕ) → Plain xs → after (xs ++ (9
 after-plain rest none-left = after-mark rest
 after-plain rest (one-more {x} {xs} h p) = after-other x (xs ++ (95 ∷ rest)) h ∙ after-plain rest p
 
-no-mark : Signs (λ b. b ≡ 95 → ⊥)
+pub no-mark : Signs (λ b. b ≡ 95 → ⊥)
 no-mark =
     record {
       digit = λ d h e. omega arith;

@@ -10,7 +10,7 @@ use lib.IntN.{ℤ}
 use lib.ListN.{length, getD, take, length-append, length-take}
 use lib.Seq.{take-at}
 use Rattle.primitives.specs.Bytes.{AllBytes}
-use Rattle.primitives.proofs.ByteLists.{bytes-take, same-refl}
+use Rattle.primitives.proofs.ByteLists.{bytes-take}
 use Rattle.primitives.proofs.Rows.{both}
 use Rattle.receipt.specs.Decimal.{digits}
 use Rattle.receipt.specs.Amount.{amount, withinLimit, amountsText}
@@ -19,7 +19,7 @@ use Rattle.receipt.specs.Details.{amountsGood}
 use Rattle.receipt.specs.Settings.{between, idLetter, nameText, every, cspGood, settingsGood, SettingsLengths, SettingsBytes}
 use Rattle.receipt.specs.Texts.{beginning, cancellationText, trainingText}
 use Rattle.receipt.specs.Payload.{base64, registerPart, moment, counterContent, counterField, closing, body, payload}
-use Rattle.receipt.specs.Form.{parts, signatureGood, partsGood, failureText}
+use Rattle.receipt.specs.Form.{parts, partsGood, PartsOfBytes}
 use Rattle.receipt.specs.Compact.{TypedEntry, signatureText, spellable}
 use Rattle.receipt.specs.Code.{codeText}
 use Rattle.receipt.specs.Line.{CodeFields, FieldsOfBytes, countOf, twelve, payloadIn, textIn, codeFieldsGood}
@@ -30,33 +30,22 @@ use Rattle.receipt.specs.declared.details.Kind.the-variants.{Standard, C
 use Rattle.receipt.specs.declared.settings.Settings.{Settings}
 use Rattle.receipt.specs.declared.settings.Letters.{Letters}
 use Rattle.receipt.specs.declared.settings.Letters.the-variants.{Id, Serial}
-use Rattle.receipt.specs.declared.entry.Signature.{Signature}
 use Rattle.receipt.specs.declared.entry.Entry.{Entry}
 use Rattle.receipt.specs.declared.optical_line.Spelling.the-variants.{Base64}
-use Rattle.receipt.proofs.Texts.{cancellation-long, training-long, failure-long, failure-bytes}
-use Rattle.receipt.proofs.Signs.{Signs, each-digits, each-amount, each-date}
+use Rattle.receipt.proofs.Texts.{cancellation-long, training-long}
+use Rattle.receipt.proofs.Signs.{each-digits, each-amount, each-date}
 use Rattle.receipt.proofs.Names.{letters-bytes, letters-no-mark, text-short, good-settings}
 use Rattle.receipt.proofs.Digits.{length-digits, width-short}
 use Rattle.receipt.proofs.Cents.{amount-short}
-use Rattle.receipt.proofs.Written.{sized-short, length-register, length-moment, good, payload-short}
-use Rattle.receipt.proofs.PayloadBytes.{payload-bytes}
-use Rattle.receipt.proofs.CodeTexts.{signature-whole, signature-text, signature-most}
-use Rattle.receipt.proofs.EntryCalls.{spellable-true, text-whole, text-failed}
-use Rattle.receipt.proofs.ExactEntry.{payload-good}
+use Rattle.receipt.proofs.Written.{sized-short, length-register, length-moment, good}
+use Rattle.receipt.proofs.CodeTexts.{good-signature}
+use Rattle.receipt.proofs.EntryCalls.{spellable-true}
+use Rattle.receipt.proofs.ExactEntry.{parts-good, parts-bytes}
+use Rattle.receipt.proofs.Marks.{no-mark}
 use Rattle.receipt.proofs.MarkCounts.{one-mark, count-append, count-none, without-each}
 use Rattle.receipt.proofs.LineFields.{code-of}
 
 -- ---- texts without "_"
-
-no-mark : Signs (λ b. b ≡ 95 → ⊥)
-no-mark =
-    record {
-      digit = λ d h e. omega arith;
-      comma = λ e. omega arith;
-      minus = λ e. omega arith;
-      colon = λ e. omega arith;
-      letter = λ e. omega arith;
-    }
 
 digits-none : (n : ℕ) → countOf 95 (digits n) ≡ 0
 digits-none n = count-none 95 (digits n) (without-each (each-digits no-mark n))
@@ -161,19 +150,6 @@ module _ (n : ℕ) where
   content-bytes Cancellation counter b = letters-bytes Id cancellationText refl
   content-bytes Training counter b = letters-bytes Id trainingText refl
 
--- the text of a signature is good, and is bytes
-signature-good : (g : Signature) → length (g .bytes) ≡ 64 → AllBytes (g .bytes) → (signatureGood (signatureText g) ≡ true) × AllBytes (signatureText g)
-signature-good g l b = go (g .failed) refl
-  where
-    Fine : List ℕ → Type 0
-    Fine t = (signatureGood t ≡ true) × AllBytes t
-
-    go : (t : Bool) → g .failed ≡ t → Fine (signatureText g)
-    go true e =
-        subst Fine (text-failed g e)
-        (sym (signature-text failureText (λ q. absurd (omega (arith, failure-long))) (sym (same-refl failureText)) refl), failure-bytes)
-    go false e = subst Fine (text-whole g e) (sym (signature-whole (g .bytes) l), b)
-
 -- ---- the fields of a receipt's code
 
 unfoldable pub fieldsIn : Settings → ℕ → Entry → CodeFields
@@ -226,17 +202,15 @@ module _ (s : Settings) (n : ℕ) (e : Entry) (l : SettingsLengths s) (b : Setti
   abbrev five : length (e .fields .details .amounts) ≡ 5
   five = te .fields .amounts
 
-  signature-fine : (signatureGood (signatureText (e .signature)) ≡ true) × AllBytes (signatureText (e .signature))
-  signature-fine = signature-good (e .signature) (te .signature) (te .signatureBytes)
+  good-parts : partsGood (parts (payload s n (e .fields)) (signatureText (e .signature))) ≡ true
+  good-parts = parts-good s n e te l can
 
-  parts-good : partsGood (parts (payload s n (e .fields)) (signatureText (e .signature))) ≡ true
-  parts-good =
-      let c = spellable-true s n e can .fields in
-      rw (payload-good s n (e .fields) (payload-short s n (e .fields) l (c .sized) (te .fields) (c .fields))) (signature-fine .0)
+  all-bytes : PartsOfBytes (parts (payload s n (e .fields)) (signatureText (e .signature)))
+  all-bytes = parts-bytes s n e te l can b
 
   fields-good : codeFieldsGood (fieldsIn s n e) ≡ true
   unfolding codeFieldsGood fieldsIn
-  fields-good = rw (fields-twelve s n e five l g, payload-is s n e five) parts-good
+  fields-good = rw (fields-twelve s n e five l g, payload-is s n e five) good-parts
 
   -- the start is the payload's
   start-bytes : AllBytes (fieldsIn s n e .start)
@@ -244,7 +218,7 @@ module _ (s : Settings) (n : ℕ) (e : Entry) (l : SettingsLengths s) (b : Setti
   start-bytes =
       let f : CodeFields = fieldsIn s n e in
       let is : payload s n (e .fields) ≡ f .start ++ rest f = sym (payload-is s n e five) ∙ simp append-assoc in
-      subst AllBytes (ap (take (length (f .start))) is ∙ take-at (f .start) (rest f) (length (f .start)) refl) (bytes-take (length (f .start)) (payload-bytes s n (e .fields) b))
+      subst AllBytes (ap (take (length (f .start))) is ∙ take-at (f .start) (rest f) (length (f .start)) refl) (bytes-take (length (f .start)) (all-bytes .payload))
     where
       rest : CodeFields → List ℕ
       rest f = (95 ∷ []) ++ (base64 (f .counter) ++ ((95 ∷ []) ++ (f .serial ++ ((95 ∷ []) ++ base64 (f .chain)))))
@@ -257,7 +231,7 @@ module _ (s : Settings) (n : ℕ) (e : Entry) (l : SettingsLengths s) (b : Setti
         counter = content-bytes n (e .fields .details .kind) (e .fields .counter) (te .fields .counterBytes);
         serial = bytes-take (s .serial .len) (b .serial);
         chain = te .fields .chainBytes;
-        signature = signature-fine .1;
+        signature = all-bytes .signature;
       }
 
   start-short : length (fieldsIn s n e .start) ≤ 136
@@ -286,5 +260,5 @@ module _ (s : Settings) (n : ℕ) (e : Entry) (l : SettingsLengths s) (b : Setti
         counter = content-short n (e .fields .details .kind) (e .fields .counter) (te .fields .counter);
         serial = text-short (s .serial) (l .serial);
         chain = te .fields .chain;
-        signature = signature-most (signatureText (e .signature)) (signature-fine .0);
+        signature = good-signature (parts (payload s n (e .fields)) (signatureText (e .signature))) good-parts;
       }

@@ -9,9 +9,10 @@ use lib.ListN.{length, take, drop}
 use Rattle.primitives.specs.Answers.{answerWith, bufferWith}
 use Rattle.primitives.specs.Bytes.{AllBytes}
 use Rattle.primitives.specs.Base64.{encoding, decoding}
-use Rattle.primitives.specs.Base32.{encoding32, decoding32}
+use Rattle.primitives.specs.Base32.{encoding32, decoding32, encodedLength32}
 use Rattle.primitives.specs.declared.base64.Alphabet.the-variants.{Standard}
 use Rattle.primitives.specs.declared.answer.Answer.{Answer}
+use Rattle.receipt.specs.Payload.{longestPayload}
 use Rattle.receipt.specs.Form.{part, Parts, parts, partsGood}
 use Rattle.receipt.specs.Code.{lastAt, partsOfCode}
 use Rattle.receipt.specs.Texts.{separator}
@@ -69,6 +70,14 @@ textIn s f = payloadIn s f ++ (separator ∷ []) ++ spell s (f .signature)
 -- "a code that passes Uncode's 24", and so the limit of the payload, is asked of the code, for a line too
 unfoldable pub codeFieldsGood : CodeFields → Bool
 codeFieldsGood f = twelve f && partsGood (parts (payloadIn Base64 f) (f .signature))
+
+-- the longest line of a receipt: counter field and chain field grow by 4 bytes each, and "_" and the signature follow the payload
+abbrev pub longestLine : ℕ
+longestLine = longestPayload + 8 + 1 + encodedLength32 64
+
+-- the longest line of any code, whose counter and chain fields may be longer
+abbrev pub longestAnyLine : ℕ
+longestAnyLine = longestPayload + 48 + 1 + encodedLength32 64
 
 -- ---- reading them
 

@@ -1,4 +1,4 @@
--- Laws of the optical line, as statements; the proofs are in proofs/Lines.antt.
+-- Laws of the optical line, as statements; the proofs are in proofs/Lines.antt and proofs/ReceiptLines.antt.
 use Prim.Native.Nat.{ℕ, _≤_}
 use mathlib.Core.Path.{_≡_}
 use mathlib.Core.Bool.{true}
@@ -11,10 +11,10 @@ use Rattle.primitives.specs.Answers.{written}
 use Rattle.receipt.specs.Settings.{SettingsLengths, SettingsBytes, settingsGood}
 use Rattle.receipt.specs.Payload.{payload}
 use Rattle.receipt.specs.Form.{Parts, parts}
-use Rattle.receipt.specs.Compact.{TypedEntry, signatureText, spellable}
-use Rattle.receipt.specs.Code.{codeText, partsOfCode}
+use Rattle.receipt.specs.Compact.{TypedEntry, signatureText, compact, spellable}
+use Rattle.receipt.specs.Code.{codeText, partsOfCode, codeAnswer, codeBuffer}
 use Rattle.receipt.specs.Texts.{separator}
-use Rattle.receipt.specs.Line.{CodeFields, FieldsOfBytes, countOf, twelve, codeFieldsGood, payloadIn, textIn, fieldsOf, lineAnswer, lineBuffer, lineMade, unlineAnswer, unlineBuffer, codeRemade}
+use Rattle.receipt.specs.Line.{CodeFields, FieldsOfBytes, countOf, twelve, codeFieldsGood, payloadIn, textIn, longestLine, longestAnyLine, fieldsOf, lineAnswer, lineBuffer, lineMade, unlineAnswer, unlineBuffer, codeRemade}
 use Rattle.receipt.specs.declared.settings.Settings.{Settings}
 use Rattle.receipt.specs.declared.entry.Entry.{Entry}
 use Rattle.receipt.specs.declared.optical_line.Spelling.{Spelling}
@@ -91,6 +91,16 @@ LineAfterCode =
     (line out again : List ℕ) → AllBytes line → unlineAnswer line out .number ≡ 0 → length line ≤ length again
     → (lineAnswer (codeRemade line out) again ≡ record { number = 0; length = length line }) × (lineBuffer (codeRemade line out) again ≡ overwrite again 0 line)
 
+-- ---- lengths
+
+-- the numbers that the header names
+abbrev pub LongestLinesAre : Type 0
+LongestLinesAre = (longestLine ≡ 308) × (longestAnyLine ≡ 348)
+
+-- no code has a longer line
+abbrev pub LineIsShort : Type 0
+LineIsShort = (line code : List ℕ) → ImageOf line code → length line ≤ longestAnyLine
+
 -- ---- receipts
 
 -- the code of every receipt has a line
@@ -98,3 +108,18 @@ abbrev pub ReceiptHasLine : Type 0
 ReceiptHasLine =
     (s : Settings) (n : ℕ) (e : Entry) → SettingsLengths s → SettingsBytes s → settingsGood s ≡ true → TypedEntry e → spellable s n e ≡ true
     → HasLine (codeText (parts (payload s n (e .fields)) (signatureText (e .signature))))
+
+-- of a compact form: Code makes this code of it and then this line is made, which is turned back into that code; and the line is short
+pub record LineOf (form : List ℕ) : Type 0 where
+  pub code : List ℕ
+  pub line : List ℕ
+  pub coded : (out : List ℕ) → (codeAnswer form out ≡ written out code) × (codeBuffer form out ≡ placed out 0 code)
+  pub lined : (out : List ℕ) → (lineAnswer code out ≡ written out line) × (lineBuffer code out ≡ placed out 0 line)
+  pub back : (out : List ℕ) → (unlineAnswer line out ≡ written out code) × (unlineBuffer line out ≡ placed out 0 code)
+  pub short : length line ≤ longestLine
+
+-- so for the compact form of every receipt
+abbrev pub FormHasLine : Type 0
+FormHasLine =
+    (s : Settings) (n : ℕ) (e : Entry) → SettingsLengths s → SettingsBytes s → settingsGood s ≡ true → TypedEntry e → spellable s n e ≡ true
+    → LineOf (compact s n e)
