@@ -1,8 +1,9 @@
 -- STAND-IN: the laws of BASE32.
-use Prim.Native.Nat.{ℕ, _<_}
+use Prim.Native.Nat.{ℕ, _+_, _*_, _≤_, _<_}
 use mathlib.Core.Path.{_≡_}
 use mathlib.Core.List.{List}
 use mathlib.Core.Option.{some}
+use native.Mathlib.Omega.{arith}
 use lib.ListN.{length, getD}
 use Rattle.primitives.specs.Bytes.{AllBytes}
 use Rattle.primitives.specs.Base32.{encoding32, decoding32, encodedLength32}
@@ -13,6 +14,10 @@ use Rattle.primitives.proofs.Base64Laws as laws
 pub length-encoding32 : (xs : List ℕ) → length (encoding32 xs) ≡ encodedLength32 (length xs)
 unfolding encoding32 encodedLength32
 length-encoding32 xs = lengths.length-encoding Standard xs
+
+pub length32-most : (xs : List ℕ) → length (encoding32 xs) ≤ 2 * length xs + 8
+unfolding encodedLength32
+length32-most xs = omega (arith, length-encoding32 xs)
 
 pub encoding-bytes32 : (xs : List ℕ) → AllBytes (encoding32 xs)
 unfolding encoding32

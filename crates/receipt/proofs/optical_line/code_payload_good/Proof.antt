@@ -1,0 +1,57 @@
+use borrow.Author.Needs.{needs}
+use Rattle.receipt.proofs.optical_line.code_payload_good.Statement.{statement}
+use Rattle.receipt.proofs.optical_line.code_payload_good.Tie as tie
+use Rattle.receipt.proofs.optical_line.code_payload_good.Reads as reads
+use Rattle.receipt.proofs.optical_line.code_payload_good.Lts as lts
+use Rattle.primitives.proofs.base64_length.Reads as base64-length-reads
+use Rattle.receipt.proofs.form.payload_good.Reads as payload-good-reads
+
+-- src/optical_line.rt:196:9
+payload-good-requires : tie.Need-payload-good-requires
+payload-good-requires c κs = search needs
+
+-- src/optical_line.rt:197:9
+returns : tie.Need-returns
+returns c = ?
+
+-- src/optical_line.rt:199:9
+base64-length-requires : tie.Need-base64-length-requires
+base64-length-requires c κs = search needs
+
+-- src/optical_line.rt:200:9
+base64-length-requires-2 : tie.Need-base64-length-requires-2
+base64-length-requires-2 c κs = search needs
+
+-- src/optical_line.rt:201:5
+add-result : tie.Need-add-result
+add-result c = search needs
+
+-- src/optical_line.rt:201:5
+add-result-2 : tie.Need-add-result-2
+add-result-2 c = ?
+
+-- src/optical_line.rt:201:5
+add-result-3 : tie.Need-add-result-3
+add-result-3 c = ?
+
+-- src/optical_line.rt:201:5
+add-result-4 : tie.Need-add-result-4
+add-result-4 c = ?
+
+-- src/optical_line.rt:192:1
+returns-2 : tie.Need-returns-2
+returns-2 c = ?
+
+pub code-payload-good-spec : {M : Type 1} → statement M
+code-payload-good-spec =
+    tie.close
+    (tie.spec
+    payload-good-requires
+    returns
+    base64-length-requires
+    base64-length-requires-2
+    add-result
+    add-result-2
+    add-result-3
+    add-result-4
+    returns-2)

@@ -1,0 +1,68 @@
+use borrow.Author.Needs.{needs}
+use Rattle.receipt.proofs.optical_line.put_fields.Statement.{statement}
+use Rattle.receipt.proofs.optical_line.put_fields.Tie as tie
+use Rattle.receipt.proofs.optical_line.put_fields.Reads as reads
+use Rattle.receipt.proofs.optical_line.put_fields.Lts as lts
+use Rattle.primitives.proofs.put.Reads as put-reads
+use Rattle.receipt.proofs.optical_line.put_marked.Reads as put-marked-reads
+use Rattle.receipt.proofs.optical_line.text_length.Reads as text-length-reads
+
+-- src/optical_line.rt:252:9
+text-length-requires : tie.Need-text-length-requires
+text-length-requires c κs = search needs
+
+-- src/optical_line.rt:254:9
+returns : tie.Need-returns
+returns c = ?
+
+-- src/optical_line.rt:259:9
+put-marked-requires : tie.Need-put-marked-requires
+put-marked-requires c κs = ?
+
+-- src/optical_line.rt:260:17
+slice-aggregate-put : tie.Need-slice-aggregate-put
+slice-aggregate-put c = search needs
+
+-- src/optical_line.rt:260:5
+put-requires : tie.Need-put-requires
+put-requires c κs = search needs
+
+-- src/optical_line.rt:261:54
+add-put-marked : tie.Need-add-put-marked
+add-put-marked c = ?
+
+-- src/optical_line.rt:261:9
+put-marked-requires-2 : tie.Need-put-marked-requires-2
+put-marked-requires-2 c κs = ?
+
+-- src/optical_line.rt:262:26
+slice-aggregate-put-marked : tie.Need-slice-aggregate-put-marked
+slice-aggregate-put-marked c = search needs
+
+-- src/optical_line.rt:262:5
+put-marked-requires-3 : tie.Need-put-marked-requires-3
+put-marked-requires-3 c κs = ?
+
+-- src/optical_line.rt:247:1
+same-length : tie.Need-same-length
+same-length c = search needs
+
+-- src/optical_line.rt:247:1
+returns-2 : tie.Need-returns-2
+returns-2 c = ?
+
+pub put-fields-spec : {M : Type 1} → statement M
+put-fields-spec =
+    tie.close
+    (tie.spec
+    text-length-requires
+    returns
+    put-marked-requires
+    slice-aggregate-put
+    put-requires
+    add-put-marked
+    put-marked-requires-2
+    slice-aggregate-put-marked
+    put-marked-requires-3
+    same-length
+    returns-2)
