@@ -1,8 +1,9 @@
 -- What the private readers and writers of code and line promise their callers. Only their contracts use this, not the definitions of the calls.
-use Prim.Native.Nat.{ℕ, _+_}
+use Prim.Native.Nat.{ℕ, _+_, _<_}
 use mathlib.Core.Bool.{false, cond}
 use mathlib.Core.List.{List, [], _∷_, _++_}
 use mathlib.Core.Option.{Option, none, some}
+use mathlib.Core.Path.{_≡_}
 use lib.Dec.{leb}
 use lib.ListN.{length, take, drop}
 use Rattle.receipt.specs.Texts.{separator}
@@ -35,6 +36,14 @@ marksOf text =
       chain = chainMark text;
       signature = signatureMark text;
     }
+
+-- and all of them are there
+pub record AllThere (m : Marks) (text : List ℕ) : Type 0 where
+  pub is : m ≡ marksOf text
+  pub counter : m .counter < m .serial
+  pub serial : m .serial < m .chain
+  pub chain : m .chain < m .signature
+  pub signature : m .signature < length text
 
 -- the bytes of a field that is read into a buffer, if they fit
 abbrev pub fitting : ℕ → Option (List ℕ) → Option (List ℕ)

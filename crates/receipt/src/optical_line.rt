@@ -28,7 +28,7 @@ ghost use Rattle.receipt.specs.Payload.{longestPayload};
 ghost use Rattle.receipt.specs.Form.{payloadGood};
 ghost use Rattle.receipt.specs.Line.{spell, unspell, countOf, payloadIn, textIn, codeFieldsGood, goodFields, fieldsOf, lineAnswer, lineBuffer, unlineAnswer, unlineBuffer};
 ghost use Rattle.receipt.specs.declared.optical_line.Spelling.the-variants.{Base64};
-ghost use Rattle.receipt.specs.LineReading.{codeFields, marked, marksOf, fitting, bytesRead, threeRead, threeOf, noThree};
+ghost use Rattle.receipt.specs.LineReading.{codeFields, marked, marksOf, AllThere, fitting, bytesRead, threeRead, threeOf, noThree};
 
 // How counter field, chain field and signature are spelled: in a code in BASE64, in a line in BASE32.
 pub(crate) enum Spelling {
@@ -145,7 +145,7 @@ fn no_three() -> Three
 
 // Reads the three spelled fields, each to the start of a buffer.
 fn read_three(spelling: Spelling, text: &[u8], m: Marks, counter: &mut [u8], chain: &mut [u8], signature: &mut [u8]) -> Three
-    requires { ⌜ (m ≡ marksOf (now text)) × (m .there ≡ true) × (length (now counter) ≡ longestPayload) × (length (now chain) ≡ longestPayload) × (length (now signature) ≡ 64) ⌝ }
+    requires { ⌜ AllThere m (now text) × (length (now counter) ≡ longestPayload) × (length (now chain) ≡ longestPayload) × (length (now signature) ≡ 64) ⌝ }
     ensures { λ r. ⌜ (r .counter ≤ longestPayload) × (r .chain ≤ longestPayload) × (r .signature ≤ 64)
         × (threeRead r (now (counter .exit)) (now (chain .exit)) (now (signature .exit)) ≡ threeOf spelling (now (text .entry))) ⌝ }
 {

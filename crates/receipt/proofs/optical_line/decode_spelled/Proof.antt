@@ -1,3 +1,5 @@
+-- The bytes in each spelling.
+use Rattle.receipt.proofs.LineCalls.{decode-as}
 use borrow.Author.Needs.{needs}
 use Rattle.receipt.proofs.optical_line.decode_spelled.Statement.{statement}
 use Rattle.receipt.proofs.optical_line.decode_spelled.Tie as tie
@@ -28,7 +30,9 @@ same-length c = search needs
 
 -- src/optical_line.rt:63:1
 returns : tie.Need-returns
-returns c = ?
+returns c =
+    let start = c .before .before .before .before .before .before .before .before in
+    decode-as (start .args .text .now) (start .args .out .now) (c .before .before .before .before .enum-told .given .1) (c .before .before .base64-decode .ensures)
 
 -- src/optical_line.rt:63:1
 same-length-2 : tie.Need-same-length-2
@@ -36,7 +40,9 @@ same-length-2 c = search needs
 
 -- src/optical_line.rt:63:1
 returns-2 : tie.Need-returns-2
-returns-2 c = ?
+returns-2 c =
+    let start = c .before .before .before .before .before .before .before .before in
+    decode-as (start .args .text .now) (start .args .out .now) (c .before .before .before .before .enum-told2 .given .1) (c .before .before .base32-decode .ensures)
 
 pub decode-spelled-spec : {M : Type 1} → statement M
 decode-spelled-spec =

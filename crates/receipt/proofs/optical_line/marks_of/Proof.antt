@@ -1,3 +1,7 @@
+-- Each mark is the last one before the mark that was found.
+use Rattle.receipt.proofs.LineCalls.{last-within, marks-found}
+use Rattle.receipt.proofs.Finding.{last-most}
+use native.Mathlib.Omega.{arith}
 use borrow.Author.Needs.{needs}
 use Rattle.receipt.proofs.optical_line.marks_of.Statement.{statement}
 use Rattle.receipt.proofs.optical_line.marks_of.Tie as tie
@@ -19,7 +23,7 @@ part-last-at-start c = search needs
 
 -- src/optical_line.rt:115:31
 part-last-at-end : tie.Need-part-last-at-end
-part-last-at-end c = ?
+part-last-at-end c = omega (arith, c .last-at .ensures, last-most 95 (c .before .before .args .text .now))
 
 -- src/optical_line.rt:115:9
 last-at-requires-2 : tie.Need-last-at-requires-2
@@ -35,7 +39,7 @@ part-last-at-start-2 c = search needs
 
 -- src/optical_line.rt:116:32
 part-last-at-end-2 : tie.Need-part-last-at-end-2
-part-last-at-end-2 c = ?
+part-last-at-end-2 c = last-within 95 (c .before .before .before .before .args .text .now) _ (c .last-at2 .ensures) .1
 
 -- src/optical_line.rt:116:9
 last-at-requires-3 : tie.Need-last-at-requires-3
@@ -51,7 +55,7 @@ part-last-at-start-3 c = search needs
 
 -- src/optical_line.rt:117:33
 part-last-at-end-3 : tie.Need-part-last-at-end-3
-part-last-at-end-3 c = ?
+part-last-at-end-3 c = last-within 95 (c .before .before .before .before .before .before .args .text .now) _ (c .last-at3 .ensures) .1
 
 -- src/optical_line.rt:117:9
 last-at-requires-4 : tie.Need-last-at-requires-4
@@ -59,7 +63,9 @@ last-at-requires-4 c κs = search needs
 
 -- src/optical_line.rt:111:1
 returns : tie.Need-returns
-returns c = ?
+returns c =
+    marks-found (c .before .before .before .before .before .before .before .before .args .text .now) (c .before .before .before .before .before .before .last-at .ensures) (c .before .before .before .before .last-at2 .ensures) (c .before .before .last-at3 .ensures)
+    (c .last-at4 .ensures)
 
 pub marks-of-spec : {M : Type 1} → statement M
 marks-of-spec =

@@ -1,3 +1,5 @@
+-- Three writes in a row.
+use Rattle.receipt.proofs.LineCalls.{put-marked}
 use borrow.Author.Needs.{needs}
 use Rattle.receipt.proofs.optical_line.put_marked.Statement.{statement}
 use Rattle.receipt.proofs.optical_line.put_marked.Tie as tie
@@ -36,7 +38,10 @@ same-length c = search needs
 
 -- src/optical_line.rt:235:1
 returns : tie.Need-returns
-returns c = ?
+returns c =
+    let start = c .before .before .before .before .before .before .before .before .before .before .before .before .before .before .before .before in
+    put-marked (start .args .spelling) (start .args .front .now) (start .args .s .now) (start .args .out .now) (start .args .at) (start .pre)
+    (c .before .before .before .before .before .before .before .before .before .before .before .put .ensures .1) (c .before .before .before .before .before .before .put2 .ensures .1) (c .before .before .put-spelled .ensures)
 
 pub put-marked-spec : {M : Type 1} → statement M
 put-marked-spec =

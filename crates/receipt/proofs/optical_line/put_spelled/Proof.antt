@@ -1,3 +1,5 @@
+-- The text in each spelling.
+use Rattle.receipt.proofs.LineCalls.{put-as}
 use borrow.Author.Needs.{needs}
 use Rattle.receipt.proofs.optical_line.put_spelled.Statement.{statement}
 use Rattle.receipt.proofs.optical_line.put_spelled.Tie as tie
@@ -28,7 +30,9 @@ same-length c = search needs
 
 -- src/optical_line.rt:52:1
 returns : tie.Need-returns
-returns c = ?
+returns c =
+    let start = c .before .before .before .before .before .before .before .before in
+    put-as (start .args .s .now) (start .args .out .now) (start .args .at) (c .before .before .before .before .enum-told .given .1) (c .before .before .base64-encode .ensures)
 
 -- src/optical_line.rt:52:1
 same-length-2 : tie.Need-same-length-2
@@ -36,7 +40,9 @@ same-length-2 c = search needs
 
 -- src/optical_line.rt:52:1
 returns-2 : tie.Need-returns-2
-returns-2 c = ?
+returns-2 c =
+    let start = c .before .before .before .before .before .before .before .before in
+    put-as (start .args .s .now) (start .args .out .now) (start .args .at) (c .before .before .before .before .enum-told2 .given .1) (c .before .before .base32-encode .ensures)
 
 pub put-spelled-spec : {M : Type 1} → statement M
 put-spelled-spec =

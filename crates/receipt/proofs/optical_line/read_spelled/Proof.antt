@@ -1,3 +1,7 @@
+-- What each answer of the reader leaves at the start of the buffer.
+use Rattle.receipt.proofs.LineCalls.{read-upto, read-refused, read-full}
+use Rattle.receipt.specs.Line.{unspell}
+use mathlib.Core.Path.{sym, _∙_}
 use borrow.Author.Needs.{needs}
 use Rattle.receipt.proofs.optical_line.read_spelled.Statement.{statement}
 use Rattle.receipt.proofs.optical_line.read_spelled.Tie as tie
@@ -27,7 +31,11 @@ same-length c = search needs
 
 -- src/optical_line.rt:79:1
 returns : tie.Need-returns
-returns c = ?
+returns c =
+    let read = c .before .before .before .before .before in
+    let start = read .before .before .before .before in
+    read-upto (unspell (start .args .spelling) (start .args .text .now)) (start .args .out .now)
+    (sym (c .before .n .given .1) ∙ read .decode-spelled .ensures .0) (read .decode-spelled .ensures .1)
 
 -- src/optical_line.rt:79:1
 same-length-2 : tie.Need-same-length-2
@@ -35,7 +43,11 @@ same-length-2 c = search needs
 
 -- src/optical_line.rt:79:1
 returns-2 : tie.Need-returns-2
-returns-2 c = ?
+returns-2 c =
+    let read = c .before .before .before .before in
+    let start = read .before .before .before .before in
+    read-refused (unspell (start .args .spelling) (start .args .text .now)) (start .args .out .now) _
+    (sym (c .enum-told .given .1) ∙ read .decode-spelled .ensures .0)
 
 -- src/optical_line.rt:79:1
 same-length-3 : tie.Need-same-length-3
@@ -43,7 +55,11 @@ same-length-3 c = search needs
 
 -- src/optical_line.rt:79:1
 returns-3 : tie.Need-returns-3
-returns-3 c = ?
+returns-3 c =
+    let read = c .before .before .before .before in
+    let start = read .before .before .before .before in
+    read-full (unspell (start .args .spelling) (start .args .text .now)) (start .args .out .now) _
+    (sym (c .enum-told2 .given .1) ∙ read .decode-spelled .ensures .0)
 
 pub read-spelled-spec : {M : Type 1} → statement M
 read-spelled-spec =

@@ -1,3 +1,5 @@
+-- The length of the text in each spelling.
+use Rattle.receipt.proofs.LineCalls.{long-64, long-32}
 use borrow.Author.Needs.{needs}
 use Rattle.receipt.proofs.optical_line.spelled_length.Statement.{statement}
 use Rattle.receipt.proofs.optical_line.spelled_length.Tie as tie
@@ -24,11 +26,11 @@ base32-length-requires c κs = search needs
 
 -- src/optical_line.rt:42:1
 returns : tie.Need-returns
-returns c = ?
+returns c = long-64 (c .before .before .before .before .args .s .now) (c .before .enum-told .given .1) (c .base64-length .ensures)
 
 -- src/optical_line.rt:42:1
 returns-2 : tie.Need-returns-2
-returns-2 c = ?
+returns-2 c = long-32 (c .before .before .before .before .args .s .now) (c .before .enum-told2 .given .1) (c .base32-length .ensures)
 
 pub spelled-length-spec : {M : Type 1} → statement M
 spelled-length-spec =
