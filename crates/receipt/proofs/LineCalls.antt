@@ -3,6 +3,7 @@ use Prim.Native.Nat.{ℕ, suc, _+_, _-_, _*_, _/_, _≤_, _<_}
 use mathlib.Core.Path.{_≡_, refl, sym, ap, _∙_, subst}
 use mathlib.Core.Bool.{Bool, true, false, cond, not, _&&_, and-true, and-false}
 use mathlib.Core.List.{List, [], _∷_, _++_, append-assoc}
+use mathlib.Core.Logic.{_⊎_, inl, inr, ⊎-elim}
 use mathlib.Core.Option.{Option, none, some, Option·map}
 use native.Mathlib.Numerals.{add-one}
 use native.Mathlib.Omega.{arith}
@@ -19,6 +20,7 @@ use Rattle.primitives.specs.declared.answer.Answer.{Answer}
 use Rattle.primitives.specs.declared.base64.Decoded.the-variants.{Upto, Refused, NoRoom}
 use Rattle.primitives.specs.declared.base64.Alphabet.the-variants.{Standard}
 use Rattle.primitives.proofs.Over.{placed-room, after-room, room-true, room-false, length-placed, length-over, then}
+use Rattle.primitives.proofs.Answers.{written-room, written-full}
 use Rattle.primitives.proofs.Questions.{yes, no}
 use Rattle.primitives.proofs.Rows.{both}
 use Rattle.primitives.proofs.Base64Lengths.{length-encoding}
@@ -26,12 +28,13 @@ use Rattle.primitives.proofs.Base32Laws.{length-encoding32, length32-most}
 use Rattle.receipt.specs.Payload.{longestPayload}
 use Rattle.receipt.specs.Texts.{beginning}
 use Rattle.receipt.specs.Form.{part, Parts, parts, payloadGood, signatureGood, partsGood}
-use Rattle.receipt.specs.Code.{lastAt}
-use Rattle.receipt.specs.FormReading.{short}
-use Rattle.receipt.specs.Line.{spell, unspell, CodeFields, countOf, twelve, payloadIn, textIn, codeFieldsGood, signatureMark, chainMark, serialMark, counterMark, marksThere, goodFields, withFields, fieldsOf}
+use Rattle.receipt.specs.Code.{lastAt, partsOfCode}
+use Rattle.receipt.specs.FormReading.{short, found}
+use Rattle.receipt.specs.Line.{spell, unspell, CodeFields, countOf, twelve, payloadIn, textIn, codeFieldsGood, signatureMark, chainMark, serialMark, counterMark, marksThere, goodFields, withFields, fieldsOf, refusalOf, lineAnswer, lineBuffer}
 use Rattle.receipt.specs.LineReading.{codeFields, marked, marksOf, AllThere, fitting, bytesRead, ThreeFields, three, threeOf, threeRead, noThree}
 use Rattle.receipt.specs.declared.optical_line.Spelling.{Spelling}
 use Rattle.receipt.specs.declared.optical_line.Spelling.the-variants.{Base64, Base32}
+use Rattle.receipt.specs.declared.form.Reading.{Reading}
 use Rattle.receipt.specs.declared.optical_line.Marks.{Marks}
 use Rattle.receipt.specs.declared.optical_line.Bytes.{Bytes}
 use Rattle.receipt.specs.declared.optical_line.Three.{Three}
@@ -190,6 +193,57 @@ all-there {m} text e t =
       signature = ltb-true (signatureMark text) (length text) (b₁ .0);
     }
 
+-- ---- the three spelled fields
+
+pub three-none : {r : Three} (x y z : List ℕ) {o : Option ThreeFields} → r ≡ noThree → none ≡ o
+    → (r .counter ≤ 195) × (r .chain ≤ 195) × (r .signature ≤ 64) × (threeRead r x y z ≡ o)
+unfolding threeRead
+three-none x y z e n = rw e (omega arith, omega arith, omega arith, n)
+
+module _ (s : Spelling) (text : List ℕ) (m : Marks) (is : m ≡ marksOf text) where
+  three-at : threeOf s text
+      ≡ three (fitting 195 (unspell s (part (m .counter + 1) (m .serial) text))) (fitting 195 (unspell s (part (m .chain + 1) (m .signature) text))) (fitting 64 (unspell s (drop (m .signature + 1) text)))
+  unfolding threeOf
+  three-at = rw is
+
+  module _ (c₀ : List ℕ) (x : Bytes) (c₁ : List ℕ) (l₁ : length c₀ ≡ 195)
+      (px : (x .length ≤ length c₀) × (bytesRead x c₁ ≡ fitting (length c₀) (unspell s (part (m .counter + 1) (m .serial) text)))) where
+    first-is : fitting 195 (unspell s (part (m .counter + 1) (m .serial) text)) ≡ bytesRead x c₁
+    first-is = ap (λ (n : ℕ). fitting n (unspell s (part (m .counter + 1) (m .serial) text))) (sym l₁) ∙ sym (px .1)
+
+    pub no-counter : not (x .good) ≡ true → none ≡ threeOf s text
+    unfolding bytesRead
+    no-counter t = rw (three-at, first-is, not-true (x .good) t)
+
+    module _ (t : not (x .good) ≡ false) (h₀ : List ℕ) (y : Bytes) (h₁ : List ℕ) (l₂ : length h₀ ≡ 195)
+        (py : (y .length ≤ length h₀) × (bytesRead y h₁ ≡ fitting (length h₀) (unspell s (part (m .chain + 1) (m .signature) text)))) where
+      second-is : fitting 195 (unspell s (part (m .chain + 1) (m .signature) text)) ≡ bytesRead y h₁
+      second-is = ap (λ (n : ℕ). fitting n (unspell s (part (m .chain + 1) (m .signature) text))) (sym l₂) ∙ sym (py .1)
+
+      pub no-chain : not (y .good) ≡ true → none ≡ threeOf s text
+      unfolding bytesRead
+      no-chain u = rw (three-at, first-is, second-is, not-false (x .good) t, not-true (y .good) u)
+
+      pub three-found : not (y .good) ≡ false → (s₀ : List ℕ) (z : Bytes) (s₁ : List ℕ) → length s₀ ≡ 64
+          → (z .length ≤ length s₀) × (bytesRead z s₁ ≡ fitting (length s₀) (unspell s (take (length text - (m .signature + 1)) (drop (m .signature + 1) text))))
+          → (x .length ≤ 195) × (y .length ≤ 195) × (z .length ≤ 64)
+          × (threeRead (record { good = z .good; counter = x .length; chain = y .length; signature = z .length }) c₁ h₁ s₁ ≡ threeOf s text)
+      unfolding bytesRead threeRead
+      three-found u s₀ z s₁ l₃ pz = (
+        omega (arith, px .0),
+        omega (arith, py .0),
+        omega (arith, pz .0),
+        rw (three-at, first-is, second-is, third, not-false (x .good) t, not-false (y .good) u) (go (z .good)),
+      )
+        where
+          third : fitting 64 (unspell s (drop (m .signature + 1) text)) ≡ bytesRead z s₁
+          third = (λ i. fitting (sym l₃ i) (unspell s (sym (lent-rest text (m .signature + 1)) i))) ∙ sym (pz .1)
+
+          go : (g : Bool) → cond g (some (record { counter = take (x .length) c₁; chain = take (y .length) h₁; signature = take (z .length) s₁ })) none
+              ≡ three (some (take (x .length) c₁)) (some (take (y .length) h₁)) (cond g (some (take (z .length) s₁)) none)
+          go true = refl
+          go false = refl
+
 -- ---- counting
 
 module _ (b : ℕ) (s : List ℕ) (i : ℕ) where
@@ -204,6 +258,14 @@ module _ (b : ℕ) (s : List ℕ) (i : ℕ) where
   pub count-end : length s ≤ i → countOf b (drop i s) ≡ 0
   unfolding countOf
   count-end h = rw (drop-of-length-le s h)
+
+-- a turn of the loop
+module _ (b : ℕ) (s : List ℕ) (i n : ℕ) {n′ : ℕ} (h : i < length s) (inv : (i ≤ length s) × (n ≤ i) × (n + countOf b (drop i s) ≡ countOf b s)) where
+  pub counted : getD s i 0 ≡ b → n′ ≡ n + 1 → (i + 1 ≤ length s) × (n′ ≤ i + 1) × (n′ + countOf b (drop (i + 1) s) ≡ countOf b s)
+  counted e q = let k = count-yes b s i h e in (omega arith, omega arith, omega arith)
+
+  pub passed : (getD s i 0 ≡ b → ⊥) → n′ ≡ n → (i + 1 ≤ length s) × (n′ ≤ i + 1) × (n′ + countOf b (drop (i + 1) s) ≡ countOf b s)
+  passed e q = let k = count-no b s i h e in (omega arith, omega arith, omega arith)
 
 pub count-most : (b : ℕ) (s : List ℕ) → countOf b s ≤ length s
 unfolding countOf
@@ -417,3 +479,125 @@ module _ (s : Spelling) (f : CodeFields) (out : List ℕ) (refused : ℕ) {g : B
   pub put-some : {a : Answer} {out′ : List ℕ} → not g ≡ false → (a ≡ written out (textIn s f)) × (out′ ≡ placed out 0 (textIn s f))
       → (a ≡ answerWith refused (Option·map (textIn s) (goodFields f)) out) × (out′ ≡ bufferWith (Option·map (textIn s) (goodFields f)) out)
   put-some t h = rw (yes e t) h
+
+-- ---- respelling
+
+-- the fields of which three were read
+after : List ℕ → List ℕ → Option ThreeFields → Option CodeFields
+after start serial none = none
+after start serial (some t) = goodFields (codeFields start (t .counter) serial (t .chain) (t .signature))
+
+-- a field that does not fit its buffer is too long for good fields
+module _ (start x serial y z : List ℕ) where
+  too-long : (195 < length x) ⊎ ((195 < length y) ⊎ (64 < length z)) → codeFieldsGood (codeFields start x serial y z) ≡ false
+  too-long h = go (codeFieldsGood (codeFields start x serial y z)) refl
+    where
+      go : (t : Bool) → codeFieldsGood (codeFields start x serial y z) ≡ t → t ≡ false
+      go true g =
+          let k = good-sizes (codeFields start x serial y z) g in
+          ⊎-elim (λ w. absurd (omega arith)) (⊎-elim (λ w. absurd (omega arith)) (λ w. absurd (omega arith))) h
+      go false g = refl
+
+  fit-all : goodFields (codeFields start x serial y z) ≡ after start serial (three (fitting 195 (some x)) (fitting 195 (some y)) (fitting 64 (some z)))
+  unfolding after
+  fit-all = go (leb (length x) 195) refl (leb (length y) 195) refl (leb (length z) 64) refl
+    where
+      go : (a : Bool) → leb (length x) 195 ≡ a → (b : Bool) → leb (length y) 195 ≡ b → (c : Bool) → leb (length z) 64 ≡ c
+          → goodFields (codeFields start x serial y z) ≡ after start serial (three (cond a (some x) none) (cond b (some y) none) (cond c (some z) none))
+      go true p true q true r = refl
+      go true p true q false r = rw (too-long (inr (inr (leb-false (length z) 64 r))))
+      go true p false q c r = rw (too-long (inr (inl (leb-false (length y) 195 q))))
+      go false p b q c r = rw (too-long (inl (leb-false (length x) 195 p)))
+
+fit-fields : (start serial : List ℕ) (o₁ o₂ o₃ : Option (List ℕ)) → withFields start o₁ serial o₂ o₃ ≡ after start serial (three (fitting 195 o₁) (fitting 195 o₂) (fitting 64 o₃))
+unfolding after
+fit-fields start serial none o₂ o₃ = refl
+fit-fields start serial (some x) none o₃ = go (leb (length x) 195)
+  where
+    go : (a : Bool) → none ≡ after start serial (three (cond a (some x) none) none (fitting 64 o₃))
+    go true = refl
+    go false = refl
+fit-fields start serial (some x) (some y) none = go (leb (length x) 195) (leb (length y) 195)
+  where
+    go : (a b : Bool) → none ≡ after start serial (three (cond a (some x) none) (cond b (some y) none) none)
+    go true true = refl
+    go true false = refl
+    go false b = refl
+fit-fields start serial (some x) (some y) (some z) = fit-all start x serial y z
+
+module _ (from to : Spelling) (text out : List ℕ) (refused : ℕ) {m : Marks} (is : m ≡ marksOf text) where
+  pub no-marks : not (m .there) ≡ true → (record { number = refused; length = 0 } ≡ answerWith refused (Option·map (textIn to) (fieldsOf from text)) out) × (out ≡ bufferWith (Option·map (textIn to) (fieldsOf from text)) out)
+  unfolding fieldsOf
+  no-marks t =
+      let g : marksThere text ≡ false = ap (λ (k : Marks). k .there) (sym is) ∙ not-true (m .there) t in
+      (rw g, rw g)
+
+  module _ (there : not (m .there) ≡ false) (r : Three) (x y z : List ℕ) (e : threeRead r x y z ≡ threeOf from text) where
+    fields-are : fieldsOf from text ≡ after (take (counterMark text) text) (part (serialMark text + 1) (chainMark text) text) (threeRead r x y z)
+    unfolding fieldsOf threeOf
+    fields-are =
+        let g : marksThere text ≡ true = ap (λ (k : Marks). k .there) (sym is) ∙ not-false (m .there) there in
+        rw (g, e) (fit-fields (take (counterMark text) text) (part (serialMark text + 1) (chainMark text) text)
+        (unspell from (part (counterMark text + 1) (serialMark text) text)) (unspell from (part (chainMark text + 1) (signatureMark text) text)) (unspell from (drop (signatureMark text + 1) text)))
+
+    pub no-fields : not (r .good) ≡ true → (record { number = refused; length = 0 } ≡ answerWith refused (Option·map (textIn to) (fieldsOf from text)) out) × (out ≡ bufferWith (Option·map (textIn to) (fieldsOf from text)) out)
+    unfolding threeRead after
+    no-fields t =
+        let q : fieldsOf from text ≡ none = rw (not-true (r .good) t) at fields-are in
+        (rw q, rw q)
+
+    are-found : not (r .good) ≡ false
+        → fieldsOf from text ≡ goodFields (codeFields (take (m .counter - 0) text) (take (r .counter - 0) x) (part (m .serial + 1) (m .chain) text) (take (r .chain - 0) y) (take (r .signature - 0) z))
+    unfolding threeRead after
+    are-found t =
+        rw (lent-front text (m .counter), lent-front x (r .counter), lent-front y (r .chain), lent-front z (r .signature), is) (rw (not-false (r .good) t) at fields-are)
+
+    pub some-fields : {a : Answer} {out′ : List ℕ} → not (r .good) ≡ false
+        → (a ≡ answerWith refused (Option·map (textIn to) (goodFields (codeFields (take (m .counter - 0) text) (take (r .counter - 0) x) (part (m .serial + 1) (m .chain) text) (take (r .chain - 0) y) (take (r .signature - 0) z)))) out)
+        × (out′ ≡ bufferWith (Option·map (textIn to) (goodFields (codeFields (take (m .counter - 0) text) (take (r .counter - 0) x) (part (m .serial + 1) (m .chain) text) (take (r .chain - 0) y) (take (r .signature - 0) z)))) out)
+        → (a ≡ answerWith refused (Option·map (textIn to) (fieldsOf from text)) out) × (out′ ≡ bufferWith (Option·map (textIn to) (fieldsOf from text)) out)
+    some-fields t h = rw (are-found t) h
+
+-- ---- the calls
+
+-- the number of a refusal says nothing of a text
+keeps : (n k : ℕ) (o : Option (List ℕ)) (out : List ℕ) {a : Answer} → a ≡ answerWith n o out → (a .number ≡ n → ⊥) → a ≡ answerWith k o out
+keeps n k none out e h = absurd (h (ap (λ (b : Answer). b .number) e))
+keeps n k (some text) out e h = e
+
+no-text : (o : Option (List ℕ)) (out : List ℕ) {a : Answer} → a ≡ answerWith 26 o out → a .number ≡ 26 → o ≡ none
+no-text none out e h = refl
+no-text (some text) out {a} e h = go (leb (length text) (length out)) refl
+  where
+    go : (t : Bool) → leb (length text) (length out) ≡ t → some text ≡ none
+    go true q =
+        let w : a ≡ record { number = 0; length = length text } = e ∙ written-room out text (leb-true (length text) (length out) q) in
+        absurd (omega (arith, ap (λ (b : Answer). b .number) w))
+    go false q =
+        let w : a ≡ record { number = 23; length = 0 } = e ∙ written-full out text (leb-false (length text) (length out) q) in
+        absurd (omega (arith, ap (λ (b : Answer). b .number) w))
+
+module _ (code out : List ℕ) {a : Answer} {out′ : List ℕ}
+    (h : (a ≡ answerWith 26 (Option·map (textIn Base32) (fieldsOf Base64 code)) out) × (out′ ≡ bufferWith (Option·map (textIn Base32) (fieldsOf Base64 code)) out)) where
+  o : Option (List ℕ)
+  o = Option·map (textIn Base32) (fieldsOf Base64 code)
+
+  pub line-answered : (a .number ≡ 26 → ⊥) → (a ≡ lineAnswer code out) × (out′ ≡ lineBuffer code out)
+  unfolding lineAnswer lineBuffer
+  line-answered n = (keeps 26 (refusalOf (partsOfCode code)) (Option·map (textIn Base32) (fieldsOf Base64 code)) out (h .0) n, h .1)
+
+  module _ (n : a .number ≡ 26) (sig : List ℕ) (r : Reading) (e : found (r .good) (take (r .payload) code) (take (r .signature) sig) ≡ partsOfCode code) where
+    nothing-there : Option·map (textIn Base32) (fieldsOf Base64 code) ≡ none
+    nothing-there = no-text (Option·map (textIn Base32) (fieldsOf Base64 code)) out (h .0) n
+
+    pub line-refused : r .good ≡ true → (a ≡ lineAnswer code out) × (out′ ≡ lineBuffer code out)
+    unfolding lineAnswer lineBuffer found
+    line-refused t =
+        let q : some (parts (take (r .payload) code) (take (r .signature) sig)) ≡ partsOfCode code = rw t at e in
+        (rw (sym q) (h .0), h .1)
+
+    pub no-code : r .good ≡ false → (record { number = 24; length = 0 } ≡ lineAnswer code out) × (out′ ≡ lineBuffer code out)
+    unfolding lineAnswer lineBuffer found
+    no-code t =
+        let q : none ≡ partsOfCode code = rw t at e in
+        (rw (nothing-there, sym q), h .1)

@@ -1,5 +1,5 @@
 -- The loop's invariant: what was counted, and what is left to be counted.
-use Rattle.receipt.proofs.LineCalls.{count-yes, count-no, count-end}
+use Rattle.receipt.proofs.LineCalls.{counted, passed, count-end}
 use Rattle.receipt.specs.Line.{countOf}
 use borrow.Author.Needs.{needs}
 use lib.ListN.{length, drop}
@@ -40,7 +40,11 @@ loop-less c = search needs
 
 -- src/optical_line.rt:182:5
 loop-again : tie.Need-loop-again Inv-loop μ-loop
-loop-again c = ⊎-elim (λ w. ?) (λ w. ?) (c .if1 .came)
+loop-again c =
+    let loop = c .before .before .before in
+    let start = loop .before in
+    ⊎-elim (λ w. counted (start .args .b) (start .args .s .now) (loop .loop .i) (loop .loop .n) (c .before .before .loop-test .taken) (loop .loop .inv) (w .0 .taken) (w .1))
+    (λ w. passed (start .args .b) (start .args .s .now) (loop .loop .i) (loop .loop .n) (c .before .before .loop-test .taken) (loop .loop .inv) (w .0 .left) (w .1)) (c .if1 .came)
 
 -- src/optical_line.rt:177:1
 returns : tie.Need-returns Inv-loop μ-loop

@@ -1,6 +1,7 @@
 -- Each mark is the last one before the mark that was found.
 use Rattle.receipt.proofs.LineCalls.{last-within, marks-found}
 use Rattle.receipt.proofs.Finding.{last-most}
+use Prim.Native.Nat.{_-_}
 use native.Mathlib.Omega.{arith}
 use borrow.Author.Needs.{needs}
 use Rattle.receipt.proofs.optical_line.marks_of.Statement.{statement}
@@ -39,7 +40,7 @@ part-last-at-start-2 c = search needs
 
 -- src/optical_line.rt:116:32
 part-last-at-end-2 : tie.Need-part-last-at-end-2
-part-last-at-end-2 c = last-within 95 (c .before .before .before .before .args .text .now) _ (c .last-at2 .ensures) .1
+part-last-at-end-2 c = last-within 95 (c .before .before .before .before .args .text .now) (c .before .before .last-at .result - 0) (c .last-at2 .ensures) .1
 
 -- src/optical_line.rt:116:9
 last-at-requires-3 : tie.Need-last-at-requires-3
@@ -55,7 +56,7 @@ part-last-at-start-3 c = search needs
 
 -- src/optical_line.rt:117:33
 part-last-at-end-3 : tie.Need-part-last-at-end-3
-part-last-at-end-3 c = last-within 95 (c .before .before .before .before .before .before .args .text .now) _ (c .last-at3 .ensures) .1
+part-last-at-end-3 c = last-within 95 (c .before .before .before .before .before .before .args .text .now) (c .before .before .last-at2 .result - 0) (c .last-at3 .ensures) .1
 
 -- src/optical_line.rt:117:9
 last-at-requires-4 : tie.Need-last-at-requires-4
