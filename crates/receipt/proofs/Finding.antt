@@ -153,6 +153,10 @@ module _ (b : ℕ) (s : List ℕ) where
       go k true = omega arith
       go k false = k
 
+  pub last-most : lastAt b s ≤ length s
+  unfolding lastAt
+  last-most = before-most (length s) (omega arith)
+
 -- the last b is followed by a list without it
 module _ (b : ℕ) (xs ys : List ℕ) (w : Without b ys) where
   text : List ℕ

@@ -12,6 +12,7 @@ pub mod Form
 pub mod FormReading
 pub mod Line
 pub mod LineLaws
+pub mod LineReading
 pub mod Payload
 pub mod PayloadReading
 pub mod Separated

@@ -39,6 +39,8 @@ pub use machine_code::code;
 pub use machine_code::fields;
 pub use machine_code::id_place;
 pub use machine_code::uncode;
+pub use optical_line::line;
+pub use optical_line::unline;
 pub use payload::PayloadFields;
 pub use settings::Letters;
 pub use settings::Name;

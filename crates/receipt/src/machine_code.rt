@@ -26,7 +26,7 @@ ghost use Rattle.primitives.specs.Answers.{written};
 // ---- reading
 
 // The place of the last b; the slice's length if there is none.
-fn last_at(b: u8, s: &[u8]) -> usize
+pub(crate) fn last_at(b: u8, s: &[u8]) -> usize
     ensures { λ r. ⌜ r ≡ lastAt b (now (s .entry)) ⌝ }
 {
     let mut i = s.len();
@@ -40,7 +40,7 @@ fn last_at(b: u8, s: &[u8]) -> usize
 }
 
 // Reads the parts of a code: the payload is its start, the signature is written to the start of a buffer.
-fn read_code(code: &[u8], signature: &mut [u8]) -> Reading
+pub(crate) fn read_code(code: &[u8], signature: &mut [u8]) -> Reading
     requires { ⌜ length (now signature) ≡ 64 ⌝ }
     ensures { λ r. ⌜ (r .payload ≤ length (now (code .entry))) × (r .signature ≤ 64)
         × (partsRead r (now (code .entry)) (now (signature .exit)) ≡ partsOfCode (now (code .entry))) ⌝ }

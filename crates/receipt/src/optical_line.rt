@@ -1,7 +1,341 @@
 // The optical line of a code, for printers that cannot draw a square code, and the way back.
+use super::form::LONGEST_PAYLOAD;
+use super::form::payload_good;
+use super::form::signature_good;
+use super::machine_code::last_at;
+use super::machine_code::read_code;
+use primitives::Alphabet;
+use primitives::Answer;
+use primitives::Decoded;
+use primitives::base32_decode;
+use primitives::base32_encode;
+use primitives::base32_length;
+use primitives::base64_decode;
+use primitives::base64_encode;
+use primitives::base64_length;
+use primitives::put;
+ghost use mathlib.Core.Path.{_≡_};
+ghost use mathlib.Core.Bool.{true};
+ghost use mathlib.Core.List.{[], _∷_, _++_};
+ghost use mathlib.Core.Option.{Option·map};
+ghost use Prim.Native.Nat.{_+_, _*_, _≤_};
+ghost use lib.ListN.{length};
+ghost use Rattle.primitives.specs.Place.{overwrite, placed, placeAfter};
+ghost use Rattle.primitives.specs.Base64.{answerOf, bufferOf};
+ghost use Rattle.primitives.specs.Answers.{written, answerWith, bufferWith};
+ghost use Rattle.receipt.specs.Texts.{separator};
+ghost use Rattle.receipt.specs.Payload.{longestPayload};
+ghost use Rattle.receipt.specs.Form.{payloadGood};
+ghost use Rattle.receipt.specs.Line.{spell, unspell, countOf, payloadIn, textIn, codeFieldsGood, goodFields, fieldsOf, lineAnswer, lineBuffer, unlineAnswer, unlineBuffer};
+ghost use Rattle.receipt.specs.declared.optical_line.Spelling.the-variants.{Base64};
+ghost use Rattle.receipt.specs.LineReading.{codeFields, marked, marksOf, AllThere, fitting, bytesRead, threeRead, threeOf, noThree};
 
 // How counter field, chain field and signature are spelled: in a code in BASE64, in a line in BASE32.
-pub enum Spelling {
+pub(crate) enum Spelling {
     Base64,
     Base32,
+}
+
+// ---- the spelled fields
+
+// The length of the text of a field.
+fn spelled_length(spelling: Spelling, s: &[u8]) -> usize
+    ensures { λ r. ⌜ (r ≡ length (spell spelling (now (s .entry)))) × (r ≤ 2 * length (now (s .entry)) + 8) ⌝ }
+{
+    match spelling {
+        Spelling::Base64 => base64_length(Alphabet::Standard, s),
+        Spelling::Base32 => base32_length(s),
+    }
+}
+
+// Writes the text of a field at a place; returns the place after it.
+fn put_spelled(spelling: Spelling, s: &[u8], out: &mut [u8], at: usize) -> usize
+    ensures { λ r. let y : _ = spell spelling (now (s .entry)) in
+        ⌜ (r ≡ placeAfter (now (out .entry)) at y) × (now (out .exit) ≡ placed (now (out .entry)) at y) ⌝ }
+{
+    match spelling {
+        Spelling::Base64 => base64_encode(Alphabet::Standard, s, out, at),
+        Spelling::Base32 => base32_encode(s, out, at),
+    }
+}
+
+// Writes the bytes of a field to the start of a buffer.
+fn decode_spelled(spelling: Spelling, text: &[u8], out: &mut [u8]) -> Decoded
+    ensures { λ r. let o : _ = unspell spelling (now (text .entry)) in
+        ⌜ (r ≡ answerOf o (now (out .entry)) 0) × (now (out .exit) ≡ bufferOf o (now (out .entry)) 0) ⌝ }
+{
+    match spelling {
+        Spelling::Base64 => base64_decode(Alphabet::Standard, text, out, 0),
+        Spelling::Base32 => base32_decode(text, out, 0),
+    }
+}
+
+// What was read of a field: whether its text is canonical and its bytes fit, and how many they are.
+struct Bytes {
+    good: bool,
+    length: usize,
+}
+
+fn read_spelled(spelling: Spelling, text: &[u8], out: &mut [u8]) -> Bytes
+    ensures { λ r. ⌜ (r .length ≤ length (now (out .entry)))
+        × (bytesRead r (now (out .exit)) ≡ fitting (length (now (out .entry))) (unspell spelling (now (text .entry)))) ⌝ }
+{
+    match decode_spelled(spelling, text, out) {
+        Decoded::Upto(n) => Bytes {
+            good: true,
+            length: n,
+        },
+        Decoded::Refused => Bytes {
+            good: false,
+            length: 0,
+        },
+        Decoded::NoRoom => Bytes {
+            good: false,
+            length: 0,
+        },
+    }
+}
+
+// ---- reading
+
+// The places of the last four '_' of a text, which stand before counter field, serial, chain field and signature, and whether all are there.
+struct Marks {
+    there: bool,
+    counter: usize,
+    serial: usize,
+    chain: usize,
+    signature: usize,
+}
+
+// Where there is no '_' any more, the end of the part that was searched is found, for the marks before it too.
+fn marks_of(text: &[u8]) -> Marks
+    ensures { λ r. ⌜ r ≡ marksOf (now (text .entry)) ⌝ }
+{
+    let signature = last_at(b'_', text);
+    let chain = last_at(b'_', &text[0..signature]);
+    let serial = last_at(b'_', &text[0..chain]);
+    let counter = last_at(b'_', &text[0..serial]);
+    Marks {
+        there: counter < serial,
+        counter: counter,
+        serial: serial,
+        chain: chain,
+        signature: signature,
+    }
+}
+
+// What was read of the three spelled fields: whether all are canonical and fit, and how many bytes each has.
+struct Three {
+    good: bool,
+    counter: usize,
+    chain: usize,
+    signature: usize,
+}
+
+fn no_three() -> Three
+    ensures { λ r. ⌜ r ≡ noThree ⌝ }
+{
+    Three {
+        good: false,
+        counter: 0,
+        chain: 0,
+        signature: 0,
+    }
+}
+
+// Reads the three spelled fields, each to the start of a buffer.
+fn read_three(spelling: Spelling, text: &[u8], m: Marks, counter: &mut [u8], chain: &mut [u8], signature: &mut [u8]) -> Three
+    requires { ⌜ AllThere m (now text) × (length (now counter) ≡ longestPayload) × (length (now chain) ≡ longestPayload) × (length (now signature) ≡ 64) ⌝ }
+    ensures { λ r. ⌜ (r .counter ≤ longestPayload) × (r .chain ≤ longestPayload) × (r .signature ≤ 64)
+        × (threeRead r (now (counter .exit)) (now (chain .exit)) (now (signature .exit)) ≡ threeOf spelling (now (text .entry))) ⌝ }
+{
+    let a = m.counter + 1;
+    let b = m.serial;
+    let c = m.chain + 1;
+    let d = m.signature;
+    let e = d + 1;
+    let x = read_spelled(spelling, &text[a..b], counter);
+    if !x.good {
+        return no_three();
+    }
+    let y = read_spelled(spelling, &text[c..d], chain);
+    if !y.good {
+        return no_three();
+    }
+    let z = read_spelled(spelling, &text[e..], signature);
+    Three {
+        good: z.good,
+        counter: x.length,
+        chain: y.length,
+        signature: z.length,
+    }
+}
+
+// ---- asking
+
+// How often b occurs.
+fn count_of(b: u8, s: &[u8]) -> usize
+    ensures { λ r. ⌜ r ≡ countOf b (now (s .entry)) ⌝ }
+{
+    let mut n: usize = 0;
+    let mut i: usize = 0;
+    while i < s.len() {
+        if s[i] == b {
+            n += 1;
+        }
+        i += 1;
+    }
+    n
+}
+
+// The payload of the code is good: it begins as its first nine fields do, and is at most as long as allowed.
+fn code_payload_good(start: &[u8], counter: &[u8], serial: &[u8], chain: &[u8]) -> bool
+    requires { ⌜ (4 ≤ length (now start)) × (length (now counter) ≤ longestPayload) × (length (now chain) ≤ longestPayload) ⌝ }
+    ensures { λ r. ⌜ r ≡ payloadGood (payloadIn Base64 (codeFields (now (start .entry)) (now (counter .entry)) (now (serial .entry)) (now (chain .entry)) [])) ⌝ }
+{
+    if !payload_good(start) {
+        return false;
+    }
+    let tenth = base64_length(Alphabet::Standard, counter);
+    let twelfth = base64_length(Alphabet::Standard, chain);
+    start.len() + tenth + serial.len() + twelfth + 3 <= LONGEST_PAYLOAD
+}
+
+// Twelve fields, a good payload and a good signature.
+fn fields_good(start: &[u8], counter: &[u8], serial: &[u8], chain: &[u8], signature: &[u8]) -> bool
+    requires { ⌜ (length (now counter) ≤ longestPayload) × (length (now chain) ≤ longestPayload) ⌝ }
+    ensures { λ r. ⌜ r ≡ codeFieldsGood (codeFields (now (start .entry)) (now (counter .entry)) (now (serial .entry)) (now (chain .entry)) (now (signature .entry))) ⌝ }
+{
+    if count_of(b'_', start) != 9 {
+        return false;
+    }
+    if count_of(b'_', serial) != 0 {
+        return false;
+    }
+    if !code_payload_good(start, counter, serial, chain) {
+        return false;
+    }
+    signature_good(signature)
+}
+
+// ---- writing
+
+// The length of a code or of a line.
+fn text_length(spelling: Spelling, start: &[u8], counter: &[u8], serial: &[u8], chain: &[u8], signature: &[u8]) -> usize
+    requires { ⌜ codeFieldsGood (codeFields (now start) (now counter) (now serial) (now chain) (now signature)) ≡ true ⌝ }
+    ensures { λ r. ⌜ r ≡ length (textIn spelling (codeFields (now (start .entry)) (now (counter .entry)) (now (serial .entry)) (now (chain .entry)) (now (signature .entry)))) ⌝ }
+{
+    let x = spelled_length(spelling, counter);
+    let y = spelled_length(spelling, chain);
+    let z = spelled_length(spelling, signature);
+    start.len() + x + serial.len() + y + z + 4
+}
+
+// Writes a text, '_' and a spelled field at a place; returns the place after them.
+fn put_marked(spelling: Spelling, front: &[u8], s: &[u8], out: &mut [u8], at: usize) -> usize
+    requires { ⌜ at + length (marked spelling (now front) (now s)) ≤ length (now out) ⌝ }
+    ensures { λ r. let y : _ = marked spelling (now (front .entry)) (now (s .entry)) in
+        ⌜ (r ≡ at + length y) × (now (out .exit) ≡ overwrite (now (out .entry)) at y) ⌝ }
+{
+    put(out, at, front);
+    let mark = at + front.len();
+    put(out, mark, b"_");
+    put_spelled(spelling, s, out, mark + 1)
+}
+
+// Writes a code or a line to the start of the output.
+fn put_fields(spelling: Spelling, start: &[u8], counter: &[u8], serial: &[u8], chain: &[u8], signature: &[u8], out: &mut [u8]) -> Answer
+    requires { ⌜ codeFieldsGood (codeFields (now start) (now counter) (now serial) (now chain) (now signature)) ≡ true ⌝ }
+    ensures { λ r. let y : _ = textIn spelling (codeFields (now (start .entry)) (now (counter .entry)) (now (serial .entry)) (now (chain .entry)) (now (signature .entry))) in
+        ⌜ (r ≡ written (now (out .entry)) y) × (now (out .exit) ≡ placed (now (out .entry)) 0 y) ⌝ }
+{
+    let length = text_length(spelling, start, counter, serial, chain, signature);
+    if out.len() < length {
+        return Answer {
+            number: 23,
+            length: 0,
+        };
+    }
+    let p = put_marked(spelling, start, counter, out, 0);
+    put(out, p, b"_");
+    let q = put_marked(spelling, serial, chain, out, p + 1);
+    put_marked(spelling, b"", signature, out, q);
+    Answer {
+        number: 0,
+        length: length,
+    }
+}
+
+// Writes the text of good fields.
+fn put_good(spelling: Spelling, start: &[u8], counter: &[u8], serial: &[u8], chain: &[u8], signature: &[u8], out: &mut [u8], refused: u32) -> Answer
+    requires { ⌜ (length (now counter) ≤ longestPayload) × (length (now chain) ≤ longestPayload) ⌝ }
+    ensures { λ r. let o : _ = Option·map (textIn spelling) (goodFields (codeFields (now (start .entry)) (now (counter .entry)) (now (serial .entry)) (now (chain .entry)) (now (signature .entry)))) in
+        ⌜ (r ≡ answerWith refused o (now (out .entry))) × (now (out .exit) ≡ bufferWith o (now (out .entry))) ⌝ }
+{
+    if !fields_good(start, counter, serial, chain, signature) {
+        return Answer {
+            number: refused,
+            length: 0,
+        };
+    }
+    put_fields(spelling, start, counter, serial, chain, signature, out)
+}
+
+// ---- the calls
+
+// Writes the fields of a text in another spelling, or answers `refused` if the text has no good fields.
+fn respell(from: Spelling, to: Spelling, text: &[u8], out: &mut [u8], refused: u32) -> Answer
+    ensures { λ r. let o : _ = Option·map (textIn to) (fieldsOf from (now (text .entry))) in
+        ⌜ (r ≡ answerWith refused o (now (out .entry))) × (now (out .exit) ≡ bufferWith o (now (out .entry))) ⌝ }
+{
+    let m = marks_of(text);
+    if !m.there {
+        return Answer {
+            number: refused,
+            length: 0,
+        };
+    }
+    let mut counter = [0u8; LONGEST_PAYLOAD];
+    let mut chain = [0u8; LONGEST_PAYLOAD];
+    let mut signature = [0u8; 64];
+    let r = read_three(from, text, m, &mut counter, &mut chain, &mut signature);
+    if !r.good {
+        return Answer {
+            number: refused,
+            length: 0,
+        };
+    }
+    let a = m.counter;
+    let b = m.serial + 1;
+    let c = m.chain;
+    let x = r.counter;
+    let y = r.chain;
+    let z = r.signature;
+    put_good(to, &text[0..a], &counter[0..x], &text[b..c], &chain[0..y], &signature[0..z], out, refused)
+}
+
+// Writes the line of a code to the start of the output. A code? 24. Twelve fields, canonical ones? 26. Output long enough? 23.
+pub fn line(code: &[u8], out: &mut [u8]) -> Answer
+    ensures { λ r. ⌜ (r ≡ lineAnswer (now (code .entry)) (now (out .entry))) × (now (out .exit) ≡ lineBuffer (now (code .entry)) (now (out .entry))) ⌝ }
+{
+    let r = respell(Spelling::Base64, Spelling::Base32, code, out, 26);
+    if r.number != 26 {
+        return r;
+    }
+    let mut signature = [0u8; 64];
+    let p = read_code(code, &mut signature);
+    if p.good {
+        return r;
+    }
+    Answer {
+        number: 24,
+        length: 0,
+    }
+}
+
+// Writes the code of a line to the start of the output. The line of a code? 27. Output long enough? 23.
+pub fn unline(line: &[u8], out: &mut [u8]) -> Answer
+    ensures { λ r. ⌜ (r ≡ unlineAnswer (now (line .entry)) (now (out .entry))) × (now (out .exit) ≡ unlineBuffer (now (line .entry)) (now (out .entry))) ⌝ }
+{
+    respell(Spelling::Base32, Spelling::Base64, line, out, 27)
 }
