@@ -16,6 +16,8 @@ use Rattle.primitives.specs.declared.base64.Alphabet.{Alphabet}
 use Rattle.primitives.specs.declared.base64.Alphabet.the-variants.{Standard, UrlSafe}
 use Rattle.primitives.specs.declared.base64.Decoded.{Decoded}
 use Rattle.primitives.specs.declared.base64.Decoded.the-variants.{Upto, NoRoom}
+use Rattle.primitives.specs.Base32.{encoding32, decoding32, encodedLength32}
+use Rattle.primitives.proofs.Base32Laws.{length-encoding32}
 use Rattle.primitives.proofs.Base64Lengths.{length-encoding}
 use Rattle.primitives.proofs.Digest.{length-sha256}
 use Rattle.primitives.proofs.Over.{placed-room, after-room, after-full}
@@ -23,7 +25,7 @@ use Rattle.receipt.specs.Code.{idPlace}
 use Rattle.primitives.specs.Answers.{written, answerWith, bufferWith}
 use Rattle.primitives.specs.declared.answer.Answer.{Answer}
 use Rattle.receipt.specs.declared.machine_code.Part.{Part}
-use Rattle.device.specs.Texts.{fieldsNumber, fieldsLength, hashNumber, hashBuffer, alphabetOf, encodeAnswer, encodeBuffer, decodeAnswer, decodeBuffer, writtenNumber, decodedLength, decodedNumber}
+use Rattle.device.specs.Texts.{fieldsNumber, fieldsLength, hashNumber, hashBuffer, alphabetOf, encodeAnswer, encodeBuffer, decodeAnswer, decodeBuffer, encodeAnswer32, encodeBuffer32, decodeAnswer32, decodeBuffer32, writtenNumber, decodedLength, decodedNumber}
 use Rattle.primitives.proofs.Answers as answers
 use Rattle.primitives.proofs.Answers.{written-is, written-room}
 
@@ -56,7 +58,7 @@ module _ (m out : List ℕ) where
   hash-done h e q =
       rw (le-leb 32 (length out) h) (refl, q ∙ ap (placed out 0) e ∙ placed-room out 0 (sha256 m) (omega (arith, length-sha256 m)))
 
--- ---- BASE64
+-- ---- BASE64 and BASE32
 
 -- a text is empty exactly if there are no bytes
 text-some : (a : Alphabet) (n : ℕ) → 0 < n → 0 < encodedLength a n
@@ -80,46 +82,50 @@ module _ (n end : ℕ) where
   unfolding writtenNumber
   written-done h k = rw (ne-eqb n 0 h, ne-eqb end 0 k)
 
-module _ (a : Alphabet) (xs out : List ℕ) where
-  size : length (encoding a xs) ≡ encodedLength a (length xs)
-  size = length-encoding a xs
-
-  fitted : 0 + length (encoding a xs) ≤ length out → 0 ≡ writtenNumber (length xs) (0 + length (encoding a xs))
-  fitted h = go (length xs) (size)
+-- a text that is empty exactly if there are no bytes
+module _ (xs text out : List ℕ) (some : 0 < length xs → 0 < length text) (none : length xs ≡ 0 → length text ≡ 0) where
+  fitted : 0 ≡ writtenNumber (length xs) (0 + length text)
+  fitted = go (length xs) some
     where
-      go : (n : ℕ) → length (encoding a xs) ≡ encodedLength a n → 0 ≡ writtenNumber n (0 + length (encoding a xs))
-      go zero e = written-none zero (0 + length (encoding a xs)) refl
-      go (suc n) e =
-          let l = text-some a (suc n) (omega arith) in
-          written-done (suc n) (0 + length (encoding a xs)) (λ z. omega arith) (λ z. omega arith)
+      go : (n : ℕ) → (0 < n → 0 < length text) → 0 ≡ writtenNumber n (0 + length text)
+      go zero f = written-none zero (0 + length text) refl
+      go (suc n) f =
+          let l = f (omega arith) in
+          written-done (suc n) (0 + length text) (λ z. omega arith) (λ z. omega arith)
 
-  cut-off : length out < 0 + length (encoding a xs) → 23 ≡ writtenNumber (length xs) 0
-  cut-off h =
-      let l = size in
-      let t = text-none a in
-      written-full (length xs) 0 (λ z. let q = ap (encodedLength a) z in omega arith) refl
+  cut-off : length out < 0 + length text → 23 ≡ writtenNumber (length xs) 0
+  cut-off h = written-full (length xs) 0 (λ z. let q = none z in omega arith) refl
 
-  pub encoded : {n end : ℕ} → end ≡ placeAfter out 0 (encoding a xs) → n ≡ writtenNumber (length xs) end
-      → (n ≡ written out (encoding a xs) .number) × (end ≡ written out (encoding a xs) .length)
-  encoded {n} {end} e q = go (leb (0 + length (encoding a xs)) (length out)) refl
+  pub encoded : {n end : ℕ} → end ≡ placeAfter out 0 text → n ≡ writtenNumber (length xs) end
+      → (n ≡ written out text .number) × (end ≡ written out text .length)
+  encoded {n} {end} e q = go (leb (0 + length text) (length out)) refl
     where
-      go : (t : Bool) → leb (0 + length (encoding a xs)) (length out) ≡ t → (n ≡ written out (encoding a xs) .number) × (end ≡ written out (encoding a xs) .length)
+      go : (t : Bool) → leb (0 + length text) (length out) ≡ t → (n ≡ written out text .number) × (end ≡ written out text .length)
       go true f =
-          let r = leb-true (0 + length (encoding a xs)) (length out) f in
-          let w = e ∙ after-room out 0 (encoding a xs) r in
-          rw (written-room out (encoding a xs) (omega arith)) (q ∙ ap (writtenNumber (length xs)) w ∙ sym (fitted r), w ∙ omega arith)
+          let r = leb-true (0 + length text) (length out) f in
+          let w = e ∙ after-room out 0 text r in
+          rw (written-room out text (omega arith)) (q ∙ ap (writtenNumber (length xs)) w ∙ sym fitted, w ∙ omega arith)
       go false f =
-          let r = leb-false (0 + length (encoding a xs)) (length out) f in
-          let w = e ∙ after-full out 0 (encoding a xs) r in
-          rw (answers.written-full out (encoding a xs) (omega arith)) (q ∙ ap (writtenNumber (length xs)) w ∙ sym (cut-off r), w)
+          let r = leb-false (0 + length text) (length out) f in
+          let w = e ∙ after-full out 0 text r in
+          rw (answers.written-full out text (omega arith)) (q ∙ ap (writtenNumber (length xs)) w ∙ sym (cut-off r), w)
 
 pub encode-is : (url : ℕ) (xs out : List ℕ) {a : Alphabet} {n end : ℕ} {b : List ℕ} → a ≡ alphabetOf url
     → (end ≡ placeAfter out 0 (encoding a xs)) × (b ≡ placed out 0 (encoding a xs)) → n ≡ writtenNumber (length xs) end
     → (n ≡ encodeAnswer url xs out .number) × (b ≡ encodeBuffer url xs out) × (end ≡ encodeAnswer url xs out .length)
 unfolding encodeAnswer encodeBuffer
 encode-is url xs out ea p q =
-    let r = encoded (alphabetOf url) xs out (p .0 ∙ ap (λ (x : Alphabet). placeAfter out 0 (encoding x xs)) ea) q in
+    let a : Alphabet = alphabetOf url in
+    let r = encoded xs (encoding a xs) out (λ h. let l = text-some a (length xs) h in omega (arith, length-encoding a xs)) (λ h. length-encoding a xs ∙ ap (encodedLength a) h ∙ text-none a)
+    (p .0 ∙ ap (λ (x : Alphabet). placeAfter out 0 (encoding x xs)) ea) q in
     (r .0, p .1 ∙ ap (λ (x : Alphabet). placed out 0 (encoding x xs)) ea, r .1)
+
+pub encode-is-32 : (xs out : List ℕ) {n end : ℕ} {b : List ℕ} → (end ≡ placeAfter out 0 (encoding32 xs)) × (b ≡ placed out 0 (encoding32 xs)) → n ≡ writtenNumber (length xs) end
+    → (n ≡ encodeAnswer32 xs out .number) × (b ≡ encodeBuffer32 xs out) × (end ≡ encodeAnswer32 xs out .length)
+unfolding encodeAnswer32 encodeBuffer32 encodedLength32
+encode-is-32 xs out p q =
+    let r = encoded xs (encoding32 xs) out (λ h. omega (arith, length-encoding32 xs)) (λ h. length-encoding32 xs ∙ ap encodedLength32 h) (p .0) q in
+    (r .0, p .1, r .1)
 
 module _ (out : List ℕ) where
   number-of : (o : Option (List ℕ)) → decodedNumber (answerOf o out 0) ≡ answerWith 22 o out .number
@@ -142,13 +148,22 @@ module _ (out : List ℕ) where
   buffer-of none = refl
   buffer-of (some ys) = refl
 
+-- what a reader answers, as number, output and length
+module _ (out : List ℕ) (o : Option (List ℕ)) where
+  pub read-is : {d : Decoded} {n end : ℕ} {b : List ℕ} → (d ≡ answerOf o out 0) × (b ≡ bufferOf o out 0) → end ≡ decodedLength d → n ≡ decodedNumber d
+      → (n ≡ answerWith 22 o out .number) × (b ≡ bufferWith o out) × (end ≡ answerWith 22 o out .length)
+  read-is p ql qn = (qn ∙ ap decodedNumber (p .0) ∙ number-of out o, p .1 ∙ buffer-of out o, ql ∙ ap decodedLength (p .0) ∙ length-of out o)
+
 pub decode-is : (url : ℕ) (text out : List ℕ) {a : Alphabet} {d : Decoded} {n end : ℕ} {b : List ℕ} → a ≡ alphabetOf url
     → (d ≡ B.decodeAnswer a text out 0) × (b ≡ B.decodeBuffer a text out 0) → end ≡ decodedLength d → n ≡ decodedNumber d
     → (n ≡ decodeAnswer url text out .number) × (b ≡ decodeBuffer url text out) × (end ≡ decodeAnswer url text out .length)
 unfolding decodeAnswer decodeBuffer
-decode-is url text out {d = d} ea p ql qn =
-    let e : d ≡ answerOf (decoding (alphabetOf url) text) out 0 = p .0 ∙ ap (λ (x : Alphabet). answerOf (decoding x text) out 0) ea in (
-      qn ∙ ap decodedNumber e ∙ number-of out (decoding (alphabetOf url) text),
-      p .1 ∙ ap (λ (x : Alphabet). bufferOf (decoding x text) out 0) ea ∙ buffer-of out (decoding (alphabetOf url) text),
-      ql ∙ ap decodedLength e ∙ length-of out (decoding (alphabetOf url) text),
-    )
+decode-is url text out ea p ql qn =
+    read-is out (decoding (alphabetOf url) text)
+    (p .0 ∙ ap (λ (x : Alphabet). answerOf (decoding x text) out 0) ea, p .1 ∙ ap (λ (x : Alphabet). bufferOf (decoding x text) out 0) ea) ql qn
+
+pub decode-is-32 : (text out : List ℕ) {d : Decoded} {n end : ℕ} {b : List ℕ}
+    → (d ≡ answerOf (decoding32 text) out 0) × (b ≡ bufferOf (decoding32 text) out 0) → end ≡ decodedLength d → n ≡ decodedNumber d
+    → (n ≡ decodeAnswer32 text out .number) × (b ≡ decodeBuffer32 text out) × (end ≡ decodeAnswer32 text out .length)
+unfolding decodeAnswer32 decodeBuffer32
+decode-is-32 text out = read-is out (decoding32 text)

@@ -6,6 +6,7 @@ use lib.Dec.{leb, eqb}
 use lib.ListN.{length}
 use Rattle.primitives.specs.Place.{overwrite, placed}
 use Rattle.primitives.specs.Sha256.{sha256}
+use Rattle.primitives.specs.Base32.{encoding32, decoding32}
 use Rattle.primitives.specs.Base64.{encoding, decoding}
 use Rattle.primitives.specs.declared.base64.Alphabet.{Alphabet}
 use Rattle.primitives.specs.declared.base64.Alphabet.the-variants.{Standard, UrlSafe}
@@ -53,6 +54,22 @@ decodeAnswer url text out = answerWith 22 (decoding (alphabetOf url) text) out
 
 unfoldable pub decodeBuffer : ℕ → List ℕ → List ℕ → List ℕ
 decodeBuffer url text out = bufferWith (decoding (alphabetOf url) text) out
+
+-- ---- BASE32
+
+-- 23 if the text does not fit
+unfoldable pub encodeAnswer32 : List ℕ → List ℕ → Answer
+encodeAnswer32 xs out = written out (encoding32 xs)
+
+unfoldable pub encodeBuffer32 : List ℕ → List ℕ → List ℕ
+encodeBuffer32 xs out = placed out 0 (encoding32 xs)
+
+-- 22 if the text is not canonical, 23 if its bytes do not fit
+unfoldable pub decodeAnswer32 : List ℕ → List ℕ → Answer
+decodeAnswer32 text out = answerWith 22 (decoding32 text) out
+
+unfoldable pub decodeBuffer32 : List ℕ → List ℕ → List ℕ
+decodeBuffer32 text out = bufferWith (decoding32 text) out
 
 -- ---- the answers of the primitives, as numbers
 

@@ -1,9 +1,10 @@
-// The machine-readable code, and calls for tests: SHA-256 and BASE64.
+// The machine-readable code, the optical line, and calls for tests: SHA-256, BASE64 and BASE32.
 use primitives::Alphabet;
 use primitives::Decoded;
 ghost use mathlib.Core.Path.{_≡_};
 ghost use Rattle.receipt.specs.Code.{codeAnswer, codeBuffer, uncodeAnswer, uncodeBuffer, idPlace};
-ghost use Rattle.device.specs.Texts.{writtenNumber, decodedLength, decodedNumber, fieldsNumber, fieldsLength, hashNumber, hashBuffer, alphabetOf, encodeAnswer, encodeBuffer, decodeAnswer, decodeBuffer};
+ghost use Rattle.receipt.specs.Line.{lineAnswer, lineBuffer, unlineAnswer, unlineBuffer};
+ghost use Rattle.device.specs.Texts.{writtenNumber, decodedLength, decodedNumber, fieldsNumber, fieldsLength, hashNumber, hashBuffer, alphabetOf, encodeAnswer, encodeBuffer, decodeAnswer, decodeBuffer, encodeAnswer32, encodeBuffer32, decodeAnswer32, decodeBuffer32};
 
 // ---- the machine-readable code
 
@@ -50,6 +51,34 @@ pub extern "C" fn ditgrux_fields(code: &[u8], start: &mut usize, length: &mut us
         return 24;
     }
     0
+}
+
+// ---- the optical line
+
+// Writes the optical line of a code. Questions 24, 26 and 23.
+#[no_mangle]
+pub extern "C" fn ditgrux_line(code: &[u8], output: &mut [u8], length: &mut usize) -> u32
+    ensures { λ r.
+        ⌜ (r ≡ lineAnswer (now (code .entry)) (now (output .entry)) .number)
+        × (now (output .exit) ≡ lineBuffer (now (code .entry)) (now (output .entry)))
+        × (now (length .exit) ≡ lineAnswer (now (code .entry)) (now (output .entry)) .length) ⌝ }
+{
+    let answer = receipt::line(code, output);
+    *length = answer.length;
+    answer.number
+}
+
+// Writes the code of an optical line. Questions 27 and 23.
+#[no_mangle]
+pub extern "C" fn ditgrux_unline(line: &[u8], output: &mut [u8], length: &mut usize) -> u32
+    ensures { λ r.
+        ⌜ (r ≡ unlineAnswer (now (line .entry)) (now (output .entry)) .number)
+        × (now (output .exit) ≡ unlineBuffer (now (line .entry)) (now (output .entry)))
+        × (now (length .exit) ≡ unlineAnswer (now (line .entry)) (now (output .entry)) .length) ⌝ }
+{
+    let answer = receipt::unline(line, output);
+    *length = answer.length;
+    answer.number
 }
 
 // ---- for tests
@@ -145,6 +174,32 @@ pub extern "C" fn ditgrux_unbase64(
 {
     let alphabet = alphabet_of(url);
     let decoded = primitives::base64_decode(alphabet, text, output, 0);
+    *length = decoded_length(decoded);
+    decoded_number(decoded)
+}
+
+// Writes the BASE32 of bytes. 23 if it does not fit.
+#[no_mangle]
+pub extern "C" fn ditgrux_base32(data: &[u8], output: &mut [u8], length: &mut usize) -> u32
+    ensures { λ r.
+        ⌜ (r ≡ encodeAnswer32 (now («data» .entry)) (now (output .entry)) .number)
+        × (now (output .exit) ≡ encodeBuffer32 (now («data» .entry)) (now (output .entry)))
+        × (now (length .exit) ≡ encodeAnswer32 (now («data» .entry)) (now (output .entry)) .length) ⌝ }
+{
+    let end = primitives::base32_encode(data, output, 0);
+    *length = end;
+    written_number(data.len(), end)
+}
+
+// Writes the bytes of a text in BASE32. 22 if the text is not canonical, 23 if its bytes do not fit.
+#[no_mangle]
+pub extern "C" fn ditgrux_unbase32(text: &[u8], output: &mut [u8], length: &mut usize) -> u32
+    ensures { λ r.
+        ⌜ (r ≡ decodeAnswer32 (now (text .entry)) (now (output .entry)) .number)
+        × (now (output .exit) ≡ decodeBuffer32 (now (text .entry)) (now (output .entry)))
+        × (now (length .exit) ≡ decodeAnswer32 (now (text .entry)) (now (output .entry)) .length) ⌝ }
+{
+    let decoded = primitives::base32_decode(text, output, 0);
     *length = decoded_length(decoded);
     decoded_number(decoded)
 }

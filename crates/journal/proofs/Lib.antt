@@ -16,6 +16,7 @@ pub mod Places
 pub mod PreparedTexts
 pub mod ReadBySteps
 pub mod Readings
+pub mod ReceiptLines
 pub mod Refusals
 pub mod Registers
 pub mod Remaining

@@ -8,6 +8,8 @@ use Rattle.primitives.specs.Place.{overwrite}
 use Rattle.primitives.specs.Number.{bytesOf}
 use Rattle.receipt.specs.Chain.{hashInput}
 use Rattle.receipt.specs.Form.{secondDot}
+use Rattle.receipt.specs.Compact.{compact}
+use Rattle.receipt.specs.LineLaws.{LineOf}
 use Rattle.receipt.specs.declared.settings.Settings.{Settings}
 use Rattle.receipt.specs.declared.details.Details.{Details}
 use Rattle.receipt.specs.declared.entry.Entry.{Entry}
@@ -97,6 +99,12 @@ abbrev pub InputsDiffer : Type 0
 InputsDiffer =
     (j key : List ℕ) (n : ℕ) (v : Valid j key n) (a b c : List Entry) (e f : Entry) → v .entries ≡ a ++ (e ∷ (b ++ (f ∷ c)))
     → hashInput (v .settings .id) (e .fields .details .number) ≡ hashInput (v .settings .id) (f .fields .details .number) → ⊥
+
+-- every receipt of a valid journal has an optical line: Code makes its code, the line is made of that, and is turned back into it
+abbrev pub EveryReceiptHasLine : Type 0
+EveryReceiptHasLine =
+    (j key : List ℕ) (n : ℕ) (v : Valid j key n) (before : List Entry) (e : Entry) (later : List Entry) → v .entries ≡ before ++ (e ∷ later)
+    → LineOf (compact (v .settings) n e)
 
 -- ---- Issue
 

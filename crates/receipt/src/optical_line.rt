@@ -144,7 +144,14 @@ fn no_three() -> Three
 }
 
 // Reads the three spelled fields, each to the start of a buffer.
-fn read_three(spelling: Spelling, text: &[u8], m: Marks, counter: &mut [u8], chain: &mut [u8], signature: &mut [u8]) -> Three
+fn read_three(
+    spelling: Spelling,
+    text: &[u8],
+    m: Marks,
+    counter: &mut [u8],
+    chain: &mut [u8],
+    signature: &mut [u8],
+) -> Three
     requires { ⌜ AllThere m (now text) × (length (now counter) ≡ longestPayload) × (length (now chain) ≡ longestPayload) × (length (now signature) ≡ 64) ⌝ }
     ensures { λ r. ⌜ (r .counter ≤ longestPayload) × (r .chain ≤ longestPayload) × (r .signature ≤ 64)
         × (threeRead r (now (counter .exit)) (now (chain .exit)) (now (signature .exit)) ≡ threeOf spelling (now (text .entry))) ⌝ }
@@ -221,7 +228,14 @@ fn fields_good(start: &[u8], counter: &[u8], serial: &[u8], chain: &[u8], signat
 // ---- writing
 
 // The length of a code or of a line.
-fn text_length(spelling: Spelling, start: &[u8], counter: &[u8], serial: &[u8], chain: &[u8], signature: &[u8]) -> usize
+fn text_length(
+    spelling: Spelling,
+    start: &[u8],
+    counter: &[u8],
+    serial: &[u8],
+    chain: &[u8],
+    signature: &[u8],
+) -> usize
     requires { ⌜ codeFieldsGood (codeFields (now start) (now counter) (now serial) (now chain) (now signature)) ≡ true ⌝ }
     ensures { λ r. ⌜ r ≡ length (textIn spelling (codeFields (now (start .entry)) (now (counter .entry)) (now (serial .entry)) (now (chain .entry)) (now (signature .entry)))) ⌝ }
 {
@@ -244,7 +258,15 @@ fn put_marked(spelling: Spelling, front: &[u8], s: &[u8], out: &mut [u8], at: us
 }
 
 // Writes a code or a line to the start of the output.
-fn put_fields(spelling: Spelling, start: &[u8], counter: &[u8], serial: &[u8], chain: &[u8], signature: &[u8], out: &mut [u8]) -> Answer
+fn put_fields(
+    spelling: Spelling,
+    start: &[u8],
+    counter: &[u8],
+    serial: &[u8],
+    chain: &[u8],
+    signature: &[u8],
+    out: &mut [u8],
+) -> Answer
     requires { ⌜ codeFieldsGood (codeFields (now start) (now counter) (now serial) (now chain) (now signature)) ≡ true ⌝ }
     ensures { λ r. let y : _ = textIn spelling (codeFields (now (start .entry)) (now (counter .entry)) (now (serial .entry)) (now (chain .entry)) (now (signature .entry))) in
         ⌜ (r ≡ written (now (out .entry)) y) × (now (out .exit) ≡ placed (now (out .entry)) 0 y) ⌝ }
@@ -267,7 +289,16 @@ fn put_fields(spelling: Spelling, start: &[u8], counter: &[u8], serial: &[u8], c
 }
 
 // Writes the text of good fields.
-fn put_good(spelling: Spelling, start: &[u8], counter: &[u8], serial: &[u8], chain: &[u8], signature: &[u8], out: &mut [u8], refused: u32) -> Answer
+fn put_good(
+    spelling: Spelling,
+    start: &[u8],
+    counter: &[u8],
+    serial: &[u8],
+    chain: &[u8],
+    signature: &[u8],
+    out: &mut [u8],
+    refused: u32,
+) -> Answer
     requires { ⌜ (length (now counter) ≤ longestPayload) × (length (now chain) ≤ longestPayload) ⌝ }
     ensures { λ r. let o : _ = Option·map (textIn spelling) (goodFields (codeFields (now (start .entry)) (now (counter .entry)) (now (serial .entry)) (now (chain .entry)) (now (signature .entry)))) in
         ⌜ (r ≡ answerWith refused o (now (out .entry))) × (now (out .exit) ≡ bufferWith o (now (out .entry))) ⌝ }
@@ -311,7 +342,16 @@ fn respell(from: Spelling, to: Spelling, text: &[u8], out: &mut [u8], refused: u
     let x = r.counter;
     let y = r.chain;
     let z = r.signature;
-    put_good(to, &text[0..a], &counter[0..x], &text[b..c], &chain[0..y], &signature[0..z], out, refused)
+    put_good(
+        to,
+        &text[0..a],
+        &counter[0..x],
+        &text[b..c],
+        &chain[0..y],
+        &signature[0..z],
+        out,
+        refused,
+    )
 }
 
 // Writes the line of a code to the start of the output. A code? 24. Twelve fields, canonical ones? 26. Output long enough? 23.
