@@ -1,18 +1,24 @@
 -- The statements of specs/Laws.antt, each by the laws of the other files.
 use Prim.Native.Nat.{ℕ, _+_, _≤_}
-use mathlib.Core.Path.{_≡_, refl, ap, _∙_}
+use mathlib.Core.Path.{_≡_, refl, sym, ap, _∙_}
 use mathlib.Core.Bool.{Bool, true, false, cond}
 use mathlib.Core.List.{List}
+use mathlib.Core.Option.{some}
 use native.Mathlib.Omega.{arith}
 use borrow.Author.Tests.{leb-true}
 use lib.Dec.{leb}
 use lib.ListN.{length, getD, take, drop}
 use Rattle.primitives.specs.Place.{overwrite, room, placed}
+use Rattle.primitives.specs.BaseRule.{readText}
 use Rattle.primitives.specs.Base64.{decoding}
+use Rattle.primitives.specs.Base32.{decoding32}
 use Rattle.primitives.specs.Aes.{sub}
-use Rattle.primitives.specs.Laws.{DecodingUndoesEncoding, DecodingIsExact, OneEncoding, EncodedLengthIs, NumberIsReadBack, NumberBytesAreKept, ComplementIsReadBack, ComplementIsKept, CounterIsReadBack, CounterBytesAreKept, ExclusiveOrTwice, InverseIsInverse, DoublingIsTimesTwo, TriplingIsTimesThree, SubstitutionFollowsRule, WritingTouchesNoOther, WritingKeepsLength, WrittenIsThere}
+use Rattle.primitives.specs.Laws.{DecodingUndoesEncoding, DecodingIsExact, OneEncoding, EncodedLengthIs, RuleReadsBack, RuleIsExact, Base64FollowsRule, DecodingUndoesEncoding32, DecodingIsExact32, OneEncoding32, EncodedLengthIs32, NumberIsReadBack, NumberBytesAreKept, ComplementIsReadBack, ComplementIsKept, CounterIsReadBack, CounterBytesAreKept, ExclusiveOrTwice, InverseIsInverse, DoublingIsTimesTwo, TriplingIsTimesThree, SubstitutionFollowsRule, WritingTouchesNoOther, WritingKeepsLength, WrittenIsThere}
 use Rattle.primitives.proofs.Base64Laws.{decode-encode, encode-decode, encoding-injective, decoded-bytes}
 use Rattle.primitives.proofs.Base64Lengths.{length-encoding}
+use Rattle.primitives.proofs.Base64Rule.{encoding-rule, decoding-rule}
+use Rattle.primitives.proofs.BaseTexts.{read-back, read-bytes, text-only}
+use Rattle.primitives.proofs.Base32Laws.{decode-encode32, encode-decode32, decoded-bytes32, length-encoding32}
 use Rattle.primitives.proofs.Numbers.{value-bytesOf, bytesOf-value}
 use Rattle.primitives.proofs.Twos.{of-twos, fits-of, twos-of, counter-back, fits-value, counter-again}
 use Rattle.primitives.proofs.Xors.{xorFirst-back}
@@ -34,6 +40,35 @@ one-encoding = encoding-injective
 
 pub encoded-length-is : EncodedLengthIs
 encoded-length-is = length-encoding
+
+-- ---- the rule of BASE64 and BASE32
+
+pub rule-reads-back : RuleReadsBack
+rule-reads-back = read-back
+
+pub rule-is-exact : RuleIsExact
+rule-is-exact b g text xs p =
+    (λ e. (read-bytes b g text xs e, text-only b g text xs e p), λ q. ap (readText b) (q .1) ∙ read-back b g xs (q .0))
+
+pub base64-follows-rule : Base64FollowsRule
+base64-follows-rule a = (encoding-rule a, decoding-rule a)
+
+-- ---- BASE32
+
+pub decoding-undoes-encoding32 : DecodingUndoesEncoding32
+decoding-undoes-encoding32 = decode-encode32
+
+pub decoding-is-exact32 : DecodingIsExact32
+decoding-is-exact32 text xs p =
+    (λ e. (decoded-bytes32 text xs e, encode-decode32 text xs p e), λ q. ap decoding32 (q .1) ∙ decode-encode32 xs (q .0))
+
+pub one-encoding32 : OneEncoding32
+one-encoding32 xs ys p q e =
+    let s : some xs ≡ some ys = sym (decode-encode32 xs p) ∙ ap decoding32 e ∙ decode-encode32 ys q in
+    cc
+
+pub encoded-length-is32 : EncodedLengthIs32
+encoded-length-is32 = length-encoding32
 
 -- ---- numbers and counters
 

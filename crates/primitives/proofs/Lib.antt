@@ -7,6 +7,7 @@ pub mod Base64Laws
 pub mod Base64Lengths
 pub mod Base64Letters
 pub mod Base64Loops
+pub mod Base64Rule
 pub mod BaseGroups
 pub mod BaseTexts
 pub mod ByteLists

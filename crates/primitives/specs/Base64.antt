@@ -9,6 +9,7 @@ use mathlib.Core.Path.{_≡_}
 use lib.Dec.{ltb, leb, eqb}
 use lib.ListN.{length, getD, take, replicate}
 use Rattle.primitives.specs.Place.{room, placed}
+use Rattle.primitives.specs.BaseRule.{Base}
 use Rattle.primitives.specs.declared.base64.Alphabet.{Alphabet}
 use Rattle.primitives.specs.declared.base64.Alphabet.the-variants.{Standard, UrlSafe}
 use Rattle.primitives.specs.declared.base64.Decoded.{Decoded}
@@ -38,6 +39,14 @@ digit a c =
     cond (leb (code "A") c && leb c (code "Z")) (c - code "A")
     (cond (leb (code "a") c && leb c (code "z")) (26 + (c - code "a"))
     (cond (leb (code "0") c && leb c (code "9")) (52 + (c - code "0")) (cond (eqb c (letter62 a)) 62 (cond (eqb c (letter63 a)) 63 64))))
+
+-- the same as a base of specs/BaseRule.antt: letters of 6 bits, in groups of four; UrlSafe has no padding
+abbrev pub groupLetters : Alphabet → ℕ
+groupLetters Standard = 4
+groupLetters UrlSafe = 1
+
+abbrev pub base64 : Alphabet → Base
+base64 a = record { bits = 6; group = groupLetters a; letter = letter a; digit = digit a }
 
 -- ---- section 4: three bytes are a group of 24 bits, and so are four numbers of 6 bits
 

@@ -11,7 +11,9 @@ use Rattle.primitives.specs.Bytes.{AllBytes}
 use Rattle.primitives.specs.Place.{room, placed}
 use Rattle.primitives.specs.Number.{bytesOf, valueOf}
 use Rattle.primitives.specs.Counter.{widthGood, fitsIn, counterFits, twos, ofTwos, counterBytes, counterValue, xorFirst}
-use Rattle.primitives.specs.Base64.{encoding, encodedLength, decoding}
+use Rattle.primitives.specs.BaseRule.{Base, GoodBase, textOf, readText}
+use Rattle.primitives.specs.Base64.{base64, encoding, encodedLength, decoding}
+use Rattle.primitives.specs.Base32.{encoding32, decoding32, encodedLength32}
 use Rattle.primitives.specs.Field.{xtime, times, inverse}
 use Rattle.primitives.specs.Aes.{affine, SBox}
 use Rattle.primitives.specs.declared.base64.Alphabet.{Alphabet}
@@ -35,6 +37,45 @@ OneEncoding = (a : Alphabet) (xs ys : List ℕ) → AllBytes xs → AllBytes ys 
 -- the length of a text, from the number of bytes alone
 abbrev pub EncodedLengthIs : Type 0
 EncodedLengthIs = (a : Alphabet) (xs : List ℕ) → length (encoding a xs) ≡ encodedLength a (length xs)
+
+-- ---- BASE64 and BASE32 follow one rule
+
+-- over every good base: what was written is read back
+abbrev pub RuleReadsBack : Type 0
+RuleReadsBack = (b : Base) → GoodBase b → (xs : List ℕ) → AllBytes xs → readText b (textOf b xs) ≡ some xs
+
+-- over every good base: a text is read as xs exactly if xs are bytes and the text is theirs; so any other text is refused
+abbrev pub RuleIsExact : Type 0
+RuleIsExact =
+    (b : Base) → GoodBase b → (text xs : List ℕ) → AllBytes text
+    → (readText b text ≡ some xs → AllBytes xs × (text ≡ textOf b xs)) × (AllBytes xs × (text ≡ textOf b xs) → readText b text ≡ some xs)
+
+-- BASE64, over both alphabets, writes and reads as the rule says
+abbrev pub Base64FollowsRule : Type 0
+Base64FollowsRule =
+    (a : Alphabet)
+    → ((xs : List ℕ) → AllBytes xs → encoding a xs ≡ textOf (base64 a) xs)
+    × ((text : List ℕ) → AllBytes text → decoding a text ≡ readText (base64 a) text)
+
+-- ---- BASE32, which is defined by the rule
+
+-- decoding what was encoded gives it back
+abbrev pub DecodingUndoesEncoding32 : Type 0
+DecodingUndoesEncoding32 = (xs : List ℕ) → AllBytes xs → decoding32 (encoding32 xs) ≡ some xs
+
+-- a text decodes to xs exactly if xs are bytes and the text is their encoding; so any other text is refused
+abbrev pub DecodingIsExact32 : Type 0
+DecodingIsExact32 =
+    (text xs : List ℕ) → AllBytes text
+    → (decoding32 text ≡ some xs → AllBytes xs × (text ≡ encoding32 xs)) × (AllBytes xs × (text ≡ encoding32 xs) → decoding32 text ≡ some xs)
+
+-- different bytes have different texts
+abbrev pub OneEncoding32 : Type 0
+OneEncoding32 = (xs ys : List ℕ) → AllBytes xs → AllBytes ys → encoding32 xs ≡ encoding32 ys → xs ≡ ys
+
+-- the length of a text, from the number of bytes alone
+abbrev pub EncodedLengthIs32 : Type 0
+EncodedLengthIs32 = (xs : List ℕ) → length (encoding32 xs) ≡ encodedLength32 (length xs)
 
 -- ---- numbers as bytes, for every count of bytes
 
