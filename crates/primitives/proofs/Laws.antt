@@ -13,12 +13,12 @@ use Rattle.primitives.specs.BaseRule.{readText}
 use Rattle.primitives.specs.Base64.{decoding}
 use Rattle.primitives.specs.Base32.{decoding32}
 use Rattle.primitives.specs.Aes.{sub}
-use Rattle.primitives.specs.Laws.{DecodingUndoesEncoding, DecodingIsExact, OneEncoding, EncodedLengthIs, RuleReadsBack, RuleIsExact, Base64FollowsRule, DecodingUndoesEncoding32, DecodingIsExact32, OneEncoding32, EncodedLengthIs32, NumberIsReadBack, NumberBytesAreKept, ComplementIsReadBack, ComplementIsKept, CounterIsReadBack, CounterBytesAreKept, ExclusiveOrTwice, InverseIsInverse, DoublingIsTimesTwo, TriplingIsTimesThree, SubstitutionFollowsRule, WritingTouchesNoOther, WritingKeepsLength, WrittenIsThere}
+use Rattle.primitives.specs.Laws.{DecodingUndoesEncoding, DecodingIsExact, OneEncoding, EncodedLengthIs, RuleReadsBack, RuleIsExact, BasesAreGood, Base64FollowsRule, DecodingUndoesEncoding32, DecodingIsExact32, OneEncoding32, EncodedLengthIs32, NumberIsReadBack, NumberBytesAreKept, ComplementIsReadBack, ComplementIsKept, CounterIsReadBack, CounterBytesAreKept, ExclusiveOrTwice, InverseIsInverse, DoublingIsTimesTwo, TriplingIsTimesThree, SubstitutionFollowsRule, WritingTouchesNoOther, WritingKeepsLength, WrittenIsThere}
 use Rattle.primitives.proofs.Base64Laws.{decode-encode, encode-decode, encoding-injective, decoded-bytes}
 use Rattle.primitives.proofs.Base64Lengths.{length-encoding}
-use Rattle.primitives.proofs.Base64Rule.{encoding-rule, decoding-rule}
+use Rattle.primitives.proofs.Base64Rule.{base64-good, encoding-rule, decoding-rule}
 use Rattle.primitives.proofs.BaseTexts.{read-back, read-bytes, text-only}
-use Rattle.primitives.proofs.Base32Laws.{decode-encode32, encode-decode32, decoded-bytes32, length-encoding32}
+use Rattle.primitives.proofs.Base32Laws.{base32-good, decode-encode32, encode-decode32, decoded-bytes32, length-encoding32}
 use Rattle.primitives.proofs.Numbers.{value-bytesOf, bytesOf-value}
 use Rattle.primitives.proofs.Twos.{of-twos, fits-of, twos-of, counter-back, fits-value, counter-again}
 use Rattle.primitives.proofs.Xors.{xorFirst-back}
@@ -49,6 +49,9 @@ rule-reads-back = read-back
 pub rule-is-exact : RuleIsExact
 rule-is-exact b g text xs p =
     (λ e. (read-bytes b g text xs e, text-only b g text xs e p), λ q. ap (readText b) (q .1) ∙ read-back b g xs (q .0))
+
+pub bases-are-good : BasesAreGood
+bases-are-good = (base64-good, base32-good)
 
 pub base64-follows-rule : Base64FollowsRule
 base64-follows-rule a = (encoding-rule a, decoding-rule a)

@@ -13,7 +13,7 @@ use Rattle.primitives.specs.Number.{bytesOf, valueOf}
 use Rattle.primitives.specs.Counter.{widthGood, fitsIn, counterFits, twos, ofTwos, counterBytes, counterValue, xorFirst}
 use Rattle.primitives.specs.BaseRule.{Base, GoodBase, textOf, readText}
 use Rattle.primitives.specs.Base64.{base64, encoding, encodedLength, decoding}
-use Rattle.primitives.specs.Base32.{encoding32, decoding32, encodedLength32}
+use Rattle.primitives.specs.Base32.{base32, encoding32, decoding32, encodedLength32}
 use Rattle.primitives.specs.Field.{xtime, times, inverse}
 use Rattle.primitives.specs.Aes.{affine, SBox}
 use Rattle.primitives.specs.declared.base64.Alphabet.{Alphabet}
@@ -49,6 +49,10 @@ abbrev pub RuleIsExact : Type 0
 RuleIsExact =
     (b : Base) → GoodBase b → (text xs : List ℕ) → AllBytes text
     → (readText b text ≡ some xs → AllBytes xs × (text ≡ textOf b xs)) × (AllBytes xs × (text ≡ textOf b xs) → readText b text ≡ some xs)
+
+-- and both are good bases
+abbrev pub BasesAreGood : Type 0
+BasesAreGood = ((a : Alphabet) → GoodBase (base64 a)) × GoodBase base32
 
 -- BASE64, over both alphabets, writes and reads as the rule says
 abbrev pub Base64FollowsRule : Type 0
