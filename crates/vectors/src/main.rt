@@ -13,7 +13,7 @@ fn answer(topic: u8, line: &[u8]) {
     match topic {
         b's' => primitive::sha256_row(line),
         b'a' => primitive::aes256_row(line),
-        b'b' => primitive::base64_row(line),
+        b'b' => primitive::base_row(line),
         b'n' => primitive::counter_row(line),
         b'h' => receipts::chain_row(line),
         b'i' => receipts::iv_row(line),
@@ -75,6 +75,7 @@ fn run_primitives() {
     run(b's', b"sha256.tsv");
     run(b'a', b"aes256.tsv");
     run(b'b', b"base64.tsv");
+    run(b'b', b"base32.tsv");
     run(b'n', b"counter-bytes.tsv");
 }
 
@@ -83,6 +84,7 @@ fn run_receipts() {
     run(b'i', b"counter-iv.tsv");
     run(b'c', b"counter.tsv");
     run(b'm', b"code.tsv");
+    run(b'm', b"ocr-line.tsv");
     run(b'o', b"compact.tsv");
     run(b'v', b"amount.tsv");
 }

@@ -36,47 +36,73 @@ pub(crate) fn aes256_row(line: &[u8]) {
     print_hex(field(line, 0), &parted, 16);
 }
 
-fn alphabet_of(name: &[u8]) -> Alphabet {
+// The bases of the vectors: padded BASE64, BASE64-URL and BASE32.
+enum Base {
+    Standard,
+    UrlSafe,
+    Base32,
+}
+
+fn base_of(name: &[u8]) -> Base {
     if 0 < name.len() {
         if name[0] == b'u' {
-            return Alphabet::UrlSafe;
+            return Base::UrlSafe;
+        }
+        if name[0] == b'b' {
+            return Base::Base32;
         }
     }
-    Alphabet::Standard
+    Base::Standard
+}
+
+fn encode(base: Base, bytes: &[u8], out: &mut [u8]) -> usize {
+    match base {
+        Base::Standard => primitives::base64_encode(Alphabet::Standard, bytes, out, 0),
+        Base::UrlSafe => primitives::base64_encode(Alphabet::UrlSafe, bytes, out, 0),
+        Base::Base32 => primitives::base32_encode(bytes, out, 0),
+    }
+}
+
+fn decode(base: Base, text: &[u8], out: &mut [u8]) -> Decoded {
+    match base {
+        Base::Standard => primitives::base64_decode(Alphabet::Standard, text, out, 0),
+        Base::UrlSafe => primitives::base64_decode(Alphabet::UrlSafe, text, out, 0),
+        Base::Base32 => primitives::base32_decode(text, out, 0),
+    }
 }
 
 // The text of bytes.
-fn encoded(name: &[u8], alphabet: Alphabet, bytes: &[u8]) {
+fn encoded(name: &[u8], base: Base, bytes: &[u8]) {
     let mut out = [0u8; 1024];
-    let n = primitives::base64_encode(alphabet, bytes, &mut out, 0);
+    let n = encode(base, bytes, &mut out);
     print_first(name, &out, n);
 }
 
 // Bytes that were read, and their text again.
-fn decoded(name: &[u8], alphabet: Alphabet, bytes: &[u8], n: usize) {
+fn decoded(name: &[u8], base: Base, bytes: &[u8], n: usize) {
     print_hex(name, bytes, n);
     if n <= bytes.len() {
-        encoded(name, alphabet, &bytes[0..n]);
+        encoded(name, base, &bytes[0..n]);
     }
 }
 
 // What the strict reader makes of a text's first n bytes; what it reads is written again.
-fn print_decoded(name: &[u8], alphabet: Alphabet, text: &[u8], n: usize) {
+fn print_decoded(name: &[u8], base: Base, text: &[u8], n: usize) {
     let mut bytes = [0u8; 1024];
     if text.len() < n {
         return;
     }
-    match primitives::base64_decode(alphabet, &text[0..n], &mut bytes, 0) {
-        Decoded::Upto(m) => decoded(name, alphabet, &bytes, m),
+    match decode(base, &text[0..n], &mut bytes) {
+        Decoded::Upto(m) => decoded(name, base, &bytes, m),
         Decoded::Refused => print(name, b"refused"),
         Decoded::NoRoom => print(name, b"no room"),
     }
 }
 
-pub(crate) fn base64_row(line: &[u8]) {
+pub(crate) fn base_row(line: &[u8]) {
     let mut text = [0u8; 1024];
     let n = unhex(field(line, 2), &mut text);
-    print_decoded(field(line, 0), alphabet_of(field(line, 1)), &text, n);
+    print_decoded(field(line, 0), base_of(field(line, 1)), &text, n);
 }
 
 // A counter's bytes, where it fits, and the counter back from them.

@@ -64,11 +64,13 @@ fn print_answer(name: &[u8], a: Answer, out: &[u8]) {
         22 => print(name, b"refused 22"),
         23 => print(name, b"refused 23"),
         24 => print(name, b"refused 24"),
+        26 => print(name, b"refused 26"),
+        27 => print(name, b"refused 27"),
         _ => print(name, b"refused"),
     }
 }
 
-// A call of code, uncode or fields on the first n bytes of a text.
+// A call of code, uncode, line, unline ("back") or fields on the first n bytes of a text.
 fn call(name: &[u8], which: u8, text: &[u8], n: usize) {
     let mut out = [0u8; 512];
     if text.len() < n {
@@ -77,6 +79,8 @@ fn call(name: &[u8], which: u8, text: &[u8], n: usize) {
     match which {
         b'c' => print_answer(name, receipt::code(&text[0..n], &mut out), &out),
         b'u' => print_answer(name, receipt::uncode(&text[0..n], &mut out), &out),
+        b'l' => print_answer(name, receipt::line(&text[0..n], &mut out), &out),
+        b'b' => print_answer(name, receipt::unline(&text[0..n], &mut out), &out),
         _ => {
             let id = receipt::fields(&text[0..n]);
             print(name, id);
