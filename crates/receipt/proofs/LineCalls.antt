@@ -1,5 +1,5 @@
 -- What the functions of the optical line show at their returns, over plain lists.
-use Prim.Native.Nat.{ℕ, suc, _+_, _-_, _*_, _/_, _≤_, _<_}
+use Prim.Native.Nat.{ℕ, suc, _+_, _-_, _*_, _/_, _^_, _≤_, _<_}
 use mathlib.Core.Path.{_≡_, refl, sym, ap, _∙_, subst}
 use mathlib.Core.Bool.{Bool, true, false, cond, not, _&&_, and-true, and-false}
 use mathlib.Core.List.{List, [], _∷_, _++_, append-assoc}
@@ -9,8 +9,10 @@ use native.Mathlib.Numerals.{add-one}
 use native.Mathlib.Omega.{arith}
 use borrow.Author.Tests.{lt-ltb, le-ltb, ltb-true, ltb-false, le-leb, lt-leb, leb-true, leb-false, eq-eqb, ne-eqb, not-true, not-false}
 use denote.Enum.Declared.{tagOf}
+use mir.Syntax.{w64}
+use mir.Val.{Fits}
 use lib.Dec.{ltb, leb, eqb}
-use lib.ListN.{length, getD, take, drop, length-append, length-take, drop-of-length-le}
+use lib.ListN.{length, getD, take, drop, length-append, length-take, length-drop, drop-of-length-le}
 use lib.Seq.{drop-cons, take-append-le, take-all, take-at, drop-at}
 use Rattle.primitives.specs.Place.{overwrite, placed, room, placeAfter}
 use Rattle.primitives.specs.Bytes.{same}
@@ -34,7 +36,7 @@ use Rattle.receipt.specs.Form.{part, Parts, parts, payloadGood, signatur
 use Rattle.receipt.specs.Code.{lastAt, partsOfCode}
 use Rattle.receipt.specs.FormReading.{short, found}
 use Rattle.receipt.specs.Line.{spell, unspell, CodeFields, countOf, twelve, payloadIn, textIn, codeFieldsGood, signatureMark, chainMark, serialMark, counterMark, marksThere, goodFields, withFields, fieldsOf, refusalOf, lineAnswer, lineBuffer}
-use Rattle.receipt.specs.LineReading.{codeFields, fieldsAt, marked, marksOf, AllThere, ThreeFields, three, threeOf, threeRead, noThree}
+use Rattle.receipt.specs.LineReading.{codeFields, fieldsAt, marked, marksOf, AllThere, EndsIn, ThreeFields, three, threeOf, threeRead, noThree}
 use Rattle.receipt.specs.declared.optical_line.Spelling.{Spelling}
 use Rattle.receipt.specs.declared.optical_line.Spelling.the-variants.{Base64, Base32}
 use Rattle.receipt.specs.declared.form.Reading.{Reading}
@@ -150,6 +152,39 @@ all-there {m} text e t =
       signature = ltb-true (signatureMark text) (length text) (b₁ .0);
     }
 
+-- the parts between them lie in the text
+pub record Places (m : Marks) (text : List ℕ) : Type 0 where
+  pub counter : m .counter ≤ length text
+  pub after-counter : m .counter + 1 ≤ m .serial
+  pub serial : m .serial ≤ length text
+  pub after-serial : m .serial + 1 ≤ m .chain
+  pub chain : m .chain ≤ length text
+  pub after-chain : m .chain + 1 ≤ m .signature
+  pub signature : m .signature ≤ length text
+  pub after-signature : m .signature + 1 ≤ length text
+
+pub places : {m : Marks} {text : List ℕ} → AllThere m text → Places m text
+places h =
+    record {
+      counter = omega arith;
+      after-counter = omega arith;
+      serial = omega arith;
+      after-serial = omega arith;
+      chain = omega arith;
+      after-chain = omega arith;
+      signature = omega arith;
+      after-signature = omega arith;
+    }
+
+pub next-fits : (x : ℕ) {n : ℕ} → x + 1 ≤ n → n < 2 ^ 64 → Fits w64 (x + 1)
+next-fits x h k = omega arith
+
+pub part-most : (a e : ℕ) (s : List ℕ) {n : ℕ} → length s ≤ n → length (part a e s) ≤ n
+part-most a e s h = omega (arith, length-take (e - a) (drop a s), length-drop a s)
+
+pub ends-in : {t : Three} {buffer : List ℕ} → EndsIn t buffer → (t .counter ≤ length buffer) × (t .chain ≤ length buffer)
+ends-in h = (omega arith, omega arith)
+
 -- ---- the three spelled fields
 
 -- what was read
@@ -217,9 +252,9 @@ module _ (x y z rest : List ℕ) (n₁ n₂ n₃ : ℕ) (e₁ : n₁ ≡ length 
       ∙ ap (take (n₃ - n₂)) (drop-at (x ++ y) (z ++ rest) n₂ (omega (arith, length-append x y))) ∙ take-at z rest (n₃ - n₂) (omega arith)
 
 pub three-none : {r : Three} (buffer : List ℕ) {o : Option ThreeFields} → r ≡ noThree → none ≡ o
-    → (r .counter ≤ r .chain) × (r .chain ≤ r .signature) × (r .signature ≤ 259) × (threeRead r buffer ≡ o)
+    → EndsIn r buffer × (threeRead r buffer ≡ o)
 unfolding threeRead
-three-none buffer e n = rw e (omega arith, omega arith, omega arith, n)
+three-none buffer e n = rw e (record { counter = omega arith; chain = omega arith; signature = omega arith }, n)
 
 module _ (s : Spelling) (text : List ℕ) (m : Marks) (is : m ≡ marksOf text) (out : List ℕ) (l : length out ≡ 259) where
   abbrev o₁ : Option (List ℕ)
@@ -313,17 +348,18 @@ module _ (s : Spelling) (text : List ℕ) (m : Marks) (is : m ≡ marksOf text) 
           unfolding overwrite
           buffer-is = put₃
 
+          l₃ : length out₃ ≡ 259
+          l₃ = ap length (g₃ .put) ∙ length-over out₂ n₂ (g₃ .bytes) (omega (arith, g₃ .end, g₃ .fits)) ∙ l₂
+
           three-are : three o₁ o₂ o₃ ≡ some (record { counter = x; chain = y; signature = z })
           unfolding x y z
           three-are = rw (g₁ .is, g₂ .is, g₃ .is, le-leb (length (g₁ .bytes) + length (g₂ .bytes) + length (g₃ .bytes)) 259 (omega (arith, end₁, end₂, end₃, small)))
 
-          pub three-found : (n₁ ≤ n₂) × (n₂ ≤ n₃) × (n₃ ≤ 259) × (threeRead (record { good = true; counter = n₁; chain = n₂; signature = n₃ }) out₃ ≡ threeOf s text)
+          pub three-found : EndsIn (record { good = true; counter = n₁; chain = n₂; signature = n₃ }) out₃ × (threeRead (record { good = true; counter = n₁; chain = n₂; signature = n₃ }) out₃ ≡ threeOf s text)
           unfolding threeRead
           three-found =
               let rest : List ℕ = drop (0 + length (x ++ y ++ z)) out in (
-                omega (arith, end₂),
-                omega (arith, end₃),
-                small,
+                record { counter = omega (arith, end₂); chain = omega (arith, end₃); signature = omega (arith, small, l₃) },
                 ap (λ (b : List ℕ). threeRead (record { good = true; counter = n₁; chain = n₂; signature = n₃ }) b) buffer-is
                     ∙ (λ i. some (record { counter = one x y z rest n₁ n₂ n₃ end₁ end₂ end₃ i; chain = two x y z rest n₁ n₂ n₃ end₁ end₂ end₃ i; signature = last x y z rest n₁ n₂ n₃ end₁ end₂ end₃ i }))
                     ∙ sym three-are ∙ sym three-at,

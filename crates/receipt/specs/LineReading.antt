@@ -1,5 +1,5 @@
 -- What the private readers and writers of code and line promise their callers. Only their contracts use this, not the definitions of the calls.
-use Prim.Native.Nat.{ℕ, _+_, _<_}
+use Prim.Native.Nat.{ℕ, _+_, _≤_, _<_}
 use mathlib.Core.Bool.{false, cond}
 use mathlib.Core.List.{List, [], _∷_, _++_}
 use mathlib.Core.Option.{Option, none, some}
@@ -73,6 +73,12 @@ threeRead t buffer =
     cond (t .good)
     (some (record { counter = part 0 (t .counter) buffer; chain = part (t .counter) (t .chain) buffer; signature = part (t .chain) (t .signature) buffer }))
     none
+
+-- which is long enough for them
+pub record EndsIn (t : Three) (buffer : List ℕ) : Type 0 where
+  pub counter : t .counter ≤ t .chain
+  pub chain : t .chain ≤ t .signature
+  pub signature : t .signature ≤ length buffer
 
 -- the answer if one is refused
 abbrev pub noThree : Three

@@ -28,7 +28,7 @@ ghost use Rattle.receipt.specs.Payload.{longestPayload};
 ghost use Rattle.receipt.specs.Form.{payloadGood};
 ghost use Rattle.receipt.specs.Line.{spell, unspell, countOf, payloadIn, textIn, codeFieldsGood, goodFields, fieldsOf, lineAnswer, lineBuffer, unlineAnswer, unlineBuffer};
 ghost use Rattle.receipt.specs.declared.optical_line.Spelling.the-variants.{Base64};
-ghost use Rattle.receipt.specs.LineReading.{longestFields, codeFields, fieldsAt, marked, marksOf, AllThere, threeRead, threeOf, noThree};
+ghost use Rattle.receipt.specs.LineReading.{longestFields, codeFields, fieldsAt, marked, marksOf, AllThere, EndsIn, threeRead, threeOf, noThree};
 
 // How counter field, chain field and signature are spelled: in a code in BASE64, in a line in BASE32.
 pub(crate) enum Spelling {
@@ -123,8 +123,7 @@ fn no_three() -> Three
 // Reads the three spelled fields, one after the other to the start of a buffer.
 fn read_three(spelling: Spelling, text: &[u8], m: Marks, out: &mut [u8]) -> Three
     requires { ⌜ AllThere m (now text) × (length (now out) ≡ longestFields) ⌝ }
-    ensures { λ r. ⌜ (r .counter ≤ r .chain) × (r .chain ≤ r .signature) × (r .signature ≤ longestFields)
-        × (threeRead r (now (out .exit)) ≡ threeOf spelling (now (text .entry))) ⌝ }
+    ensures { λ r. ⌜ EndsIn r (now (out .exit)) × (threeRead r (now (out .exit)) ≡ threeOf spelling (now (text .entry))) ⌝ }
 {
     let a = m.counter + 1;
     let b = m.serial;
@@ -245,7 +244,7 @@ fn put_fields(spelling: Spelling, start: &[u8], counter: &[u8], serial: &[u8], c
 
 // Writes the text of good fields, which stand in a text and in a buffer; answers `refused` if they are not good.
 fn put_good(spelling: Spelling, text: &[u8], m: Marks, bytes: &[u8], t: Three, out: &mut [u8], refused: u32) -> Answer
-    requires { ⌜ AllThere m (now text) × (length (now bytes) ≡ longestFields) × (t .counter ≤ t .chain) × (t .chain ≤ t .signature) × (t .signature ≤ longestFields) ⌝ }
+    requires { ⌜ AllThere m (now text) × EndsIn t (now bytes) × (length (now bytes) ≤ longestFields) ⌝ }
     ensures { λ r. let o : _ = Option·map (textIn spelling) (goodFields (fieldsAt m (now (text .entry)) t (now (bytes .entry)))) in
         ⌜ (r ≡ answerWith refused o (now (out .entry))) × (now (out .exit) ≡ bufferWith o (now (out .entry))) ⌝ }
 {

@@ -1,5 +1,6 @@
+use native.Mathlib.Omega.{arith}
 -- Each field is read after the one before it; the first that is refused or does not fit ends it.
-use Rattle.receipt.proofs.LineCalls.{three-none, no-counter, no-chain, no-signature, three-found}
+use Rattle.receipt.proofs.LineCalls.{places, next-fits, three-none, no-counter, no-chain, no-signature, three-found}
 use borrow.Author.Needs.{needs}
 use Rattle.receipt.proofs.optical_line.read_three.Statement.{statement}
 use Rattle.receipt.proofs.optical_line.read_three.Tie as tie
@@ -10,19 +11,19 @@ use Rattle.receipt.proofs.optical_line.no_three.Reads as no-three-reads
 
 -- src/optical_line.rt:129:13
 add-a : tie.Need-add-a
-add-a c = search needs
+add-a c = next-fits (c .before .before .before .args .m .counter) (places (c .before .before .before .pre .0) .after-counter) (omega (arith, places (c .before .before .before .pre .0), c .before .before .before .good))
 
 -- src/optical_line.rt:131:53
 sub-decode-spelled : tie.Need-sub-decode-spelled
-sub-decode-spelled c = search needs
+sub-decode-spelled c = places (c .before .before .before .pre .0) .after-counter
 
 -- src/optical_line.rt:131:53
 part-decode-spelled-start : tie.Need-part-decode-spelled-start
-part-decode-spelled-start c = search needs
+part-decode-spelled-start c = places (c .before .before .before .pre .0) .after-counter
 
 -- src/optical_line.rt:131:53
 part-decode-spelled-end : tie.Need-part-decode-spelled-end
-part-decode-spelled-end c = search needs
+part-decode-spelled-end c = places (c .before .before .before .pre .0) .serial
 
 -- src/optical_line.rt:131:28
 decode-spelled-requires : tie.Need-decode-spelled-requires
@@ -48,19 +49,19 @@ returns c =
 
 -- src/optical_line.rt:134:13
 add-c : tie.Need-add-c
-add-c c = search needs
+add-c c = next-fits (c .before .before .before .before .before .before .before .before .before .before .before .before .args .m .chain) (places (c .before .before .before .before .before .before .before .before .before .before .before .before .pre .0) .after-chain) (omega (arith, places (c .before .before .before .before .before .before .before .before .before .before .before .before .pre .0), c .before .before .before .before .before .before .before .before .before .before .before .before .good))
 
 -- src/optical_line.rt:136:53
 sub-decode-spelled-2 : tie.Need-sub-decode-spelled-2
-sub-decode-spelled-2 c = search needs
+sub-decode-spelled-2 c = places (c .before .before .before .before .before .before .before .before .before .before .before .before .pre .0) .after-chain
 
 -- src/optical_line.rt:136:53
 part-decode-spelled-start-2 : tie.Need-part-decode-spelled-start-2
-part-decode-spelled-start-2 c = search needs
+part-decode-spelled-start-2 c = places (c .before .before .before .before .before .before .before .before .before .before .before .before .pre .0) .after-chain
 
 -- src/optical_line.rt:136:53
 part-decode-spelled-end-2 : tie.Need-part-decode-spelled-end-2
-part-decode-spelled-end-2 c = search needs
+part-decode-spelled-end-2 c = places (c .before .before .before .before .before .before .before .before .before .before .before .before .pre .0) .signature
 
 -- src/optical_line.rt:136:28
 decode-spelled-requires-2 : tie.Need-decode-spelled-requires-2
@@ -87,15 +88,15 @@ returns-2 c =
 
 -- src/optical_line.rt:139:13
 add-e : tie.Need-add-e
-add-e c = search needs
+add-e c = next-fits (c .before .before .before .before .before .before .before .before .before .before .before .before .before .before .before .before .before .before .before .before .args .m .signature) (places (c .before .before .before .before .before .before .before .before .before .before .before .before .before .before .before .before .before .before .before .before .pre .0) .after-signature) (omega (arith, c .before .before .before .before .before .before .before .before .before .before .before .before .before .before .before .before .before .before .before .before .good))
 
 -- src/optical_line.rt:140:53
 sub-decode-spelled-3 : tie.Need-sub-decode-spelled-3
-sub-decode-spelled-3 c = search needs
+sub-decode-spelled-3 c = places (c .before .before .before .before .before .before .before .before .before .before .before .before .before .before .before .before .before .before .before .before .pre .0) .after-signature
 
 -- src/optical_line.rt:140:53
 part-decode-spelled-start-3 : tie.Need-part-decode-spelled-start-3
-part-decode-spelled-start-3 c = search needs
+part-decode-spelled-start-3 c = places (c .before .before .before .before .before .before .before .before .before .before .before .before .before .before .before .before .before .before .before .before .pre .0) .after-signature
 
 -- src/optical_line.rt:140:53
 part-decode-spelled-end-3 : tie.Need-part-decode-spelled-end-3

@@ -33,7 +33,7 @@ returns-2 c =
     let start = c .before .before .before .before .before .before .before .before .before .before in
     let t = c .before .before .before .read-three in
     no-fields (start .args .from) (start .args .to) (start .args .text .now) (start .args .out .now) (start .args .refused) (c .before .before .before .before .before .before .before .marks-of .ensures) (c .before .before .before .before .before .if1 .left)
-    (t .result) (t .last .1 .1 .1 .0) (t .ensures .3) (c .if2 .taken)
+    (t .result) (t .last .1 .1 .1 .0) (t .ensures .1) (c .if2 .taken)
 
 -- src/optical_line.rt:294:27
 slice-aggregate-put-good : tie.Need-slice-aggregate-put-good
@@ -44,10 +44,8 @@ put-good-requires : tie.Need-put-good-requires
 put-good-requires c κs =
     let t = c .before .before .before .before .before .read-three in (
       all-there (c .before .before .before .before .before .before .before .before .before .before .before .before .args .text .now) (c .before .before .before .before .before .before .before .before .before .marks-of .ensures) (c .before .before .before .before .before .before .before .if1 .left),
-      search needs,
       t .ensures .0,
-      t .ensures .1,
-      t .ensures .2,
+      search needs,
     )
 
 -- src/optical_line.rt:275:1
@@ -60,7 +58,7 @@ returns-3 c =
     let start = c .before .before .before .before .before .before .before .before .before .before .before .before .before .before .before in
     let t = c .before .before .before .before .before .before .before .before .read-three in
     some-fields (start .args .from) (start .args .to) (start .args .text .now) (start .args .out .now) (start .args .refused) (c .before .before .before .before .before .before .before .before .before .before .before .before .marks-of .ensures) (c .before .before .before .before .before .before .before .before .before .before .if1 .left)
-    (t .result) (t .last .1 .1 .1 .0) (t .ensures .3) (c .before .before .before .before .before .if2 .left) (c .before .before .put-good .ensures)
+    (t .result) (t .last .1 .1 .1 .0) (t .ensures .1) (c .before .before .before .before .before .if2 .left) (c .before .before .put-good .ensures)
 
 pub respell-spec : {M : Type 1} → statement M
 respell-spec =
