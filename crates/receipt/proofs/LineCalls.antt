@@ -1,5 +1,5 @@
 -- What the functions of the optical line show at their returns, over plain lists.
-use Prim.Native.Nat.{ℕ, suc, _+_, _-_, _*_, _/_, _≤_, _<_}
+use Prim.Native.Nat.{ℕ, suc, _+_, _-_, _*_, _/_, _^_, _≤_, _<_}
 use mathlib.Core.Path.{_≡_, refl, sym, ap, _∙_, subst}
 use mathlib.Core.Bool.{Bool, true, false, cond, not, _&&_, and-true, and-false}
 use mathlib.Core.List.{List, [], _∷_, _++_, append-assoc}
@@ -8,17 +8,22 @@ use mathlib.Core.Option.{Option, none, some, Option·map}
 use native.Mathlib.Numerals.{add-one}
 use native.Mathlib.Omega.{arith}
 use borrow.Author.Tests.{lt-ltb, le-ltb, ltb-true, ltb-false, le-leb, lt-leb, leb-true, leb-false, eq-eqb, ne-eqb, not-true, not-false}
+use denote.Enum.Declared.{tagOf}
+use mir.Syntax.{w64}
+use mir.Val.{Fits}
 use lib.Dec.{ltb, leb, eqb}
-use lib.ListN.{length, getD, take, drop, length-append, length-take, drop-of-length-le}
-use lib.Seq.{drop-cons, take-append-le, take-all, length-take-le}
+use lib.ListN.{length, getD, take, drop, length-append, length-take, length-drop, drop-of-length-le}
+use lib.Seq.{drop-cons, take-append-le, take-all, take-at, drop-at}
 use Rattle.primitives.specs.Place.{overwrite, placed, room, placeAfter}
 use Rattle.primitives.specs.Bytes.{same}
 use Rattle.primitives.specs.Base64.{answerOf, bufferOf, encoding}
 use Rattle.primitives.specs.Base32.{encodedLength32}
 use Rattle.primitives.specs.Answers.{written, answerWith, bufferWith}
 use Rattle.primitives.specs.declared.answer.Answer.{Answer}
+use Rattle.primitives.specs.declared.base64.Decoded.{Decoded}
 use Rattle.primitives.specs.declared.base64.Decoded.the-variants.{Upto, Refused, NoRoom}
 use Rattle.primitives.specs.declared.base64.Alphabet.the-variants.{Standard}
+use Rattle.primitives.proofs.base64.Decoded.{the-type}
 use Rattle.primitives.proofs.Over.{placed-room, after-room, room-true, room-false, length-placed, length-over, then}
 use Rattle.primitives.proofs.Answers.{written-room, written-full}
 use Rattle.primitives.proofs.Questions.{yes, no}
@@ -31,12 +36,11 @@ use Rattle.receipt.specs.Form.{part, Parts, parts, payloadGood, signatur
 use Rattle.receipt.specs.Code.{lastAt, partsOfCode}
 use Rattle.receipt.specs.FormReading.{short, found}
 use Rattle.receipt.specs.Line.{spell, unspell, CodeFields, countOf, twelve, payloadIn, textIn, codeFieldsGood, signatureMark, chainMark, serialMark, counterMark, marksThere, goodFields, withFields, fieldsOf, refusalOf, lineAnswer, lineBuffer}
-use Rattle.receipt.specs.LineReading.{codeFields, marked, marksOf, AllThere, fitting, bytesRead, ThreeFields, three, threeOf, threeRead, noThree}
+use Rattle.receipt.specs.LineReading.{codeFields, fieldsAt, marked, marksOf, AllThere, EndsIn, ThreeFields, three, threeOf, threeRead, noThree}
 use Rattle.receipt.specs.declared.optical_line.Spelling.{Spelling}
 use Rattle.receipt.specs.declared.optical_line.Spelling.the-variants.{Base64, Base32}
 use Rattle.receipt.specs.declared.form.Reading.{Reading}
 use Rattle.receipt.specs.declared.optical_line.Marks.{Marks}
-use Rattle.receipt.specs.declared.optical_line.Bytes.{Bytes}
 use Rattle.receipt.specs.declared.optical_line.Three.{Three}
 use Rattle.receipt.proofs.Finding.{last-most}
 use Rattle.receipt.proofs.CodeTexts.{good-payload, good-signature}
@@ -57,54 +61,9 @@ module _ {s : Spelling} (xs : List ℕ) where
       → (r ≡ placeAfter out at (spell s xs)) × (out′ ≡ placed out at (spell s xs))
   put-as out at e h = rw e h
 
-  pub decode-as : (out : List ℕ) {v : Spelling} {r : _} {out′ : List ℕ} → s ≡ v → (r ≡ answerOf (unspell v xs) out 0) × (out′ ≡ bufferOf (unspell v xs) out 0)
-      → (r ≡ answerOf (unspell s xs) out 0) × (out′ ≡ bufferOf (unspell s xs) out 0)
-  decode-as out e h = rw e h
-
--- the match on the decoder's answer
-module _ (o : Option (List ℕ)) (out : List ℕ) where
-  pub read-upto : {n : ℕ} {out′ : List ℕ} → Upto n ≡ answerOf o out 0 → out′ ≡ bufferOf o out 0
-      → (n ≤ length out) × (bytesRead (record { good = true; length = n }) out′ ≡ fitting (length out) o)
-  unfolding bytesRead
-  read-upto {n} {out′} e b = (decoded-upto o out e b .0, cases o e (decoded-upto o out e b .1))
-    where
-      cases : (q : Option (List ℕ)) → Upto n ≡ answerOf q out 0 → take n out′ ≡ short (length out) q → some (take n out′) ≡ fitting (length out) q
-      cases none f d = let z : _≡_ {A = ℕ} 0 1 = cc in absurd (omega arith)
-      cases (some ys) f d = fits (leb (length ys) (length out)) refl d
-        where
-          fits : (t : Bool) → leb (length ys) (length out) ≡ t → take n out′ ≡ cond t ys [] → some (take n out′) ≡ cond t (some ys) none
-          fits true q d = ap some d
-          fits false q d =
-              let k : Upto n ≡ NoRoom = rw (room-false out 0 ys (omega (arith, leb-false (length ys) (length out) q))) at f in
-              let z : _≡_ {A = ℕ} 0 1 = cc in
-              absurd (omega arith)
-
-  pub read-refused : (out′ : List ℕ) → Refused ≡ answerOf o out 0 → (0 ≤ length out) × (bytesRead (record { good = false; length = 0 }) out′ ≡ fitting (length out) o)
-  unfolding bytesRead
-  read-refused out′ e = (omega arith, cases o e)
-    where
-      cases : (q : Option (List ℕ)) → Refused ≡ answerOf q out 0 → none ≡ fitting (length out) q
-      cases none f = refl
-      cases (some ys) f = fits (room out 0 ys) f
-        where
-          fits : (t : Bool) → Refused ≡ cond t (Upto (0 + length ys)) NoRoom → none ≡ fitting (length out) (some ys)
-          fits true k = let z : _≡_ {A = ℕ} 0 1 = cc in absurd (omega arith)
-          fits false k = let z : _≡_ {A = ℕ} 0 1 = cc in absurd (omega arith)
-
-  pub read-full : (out′ : List ℕ) → NoRoom ≡ answerOf o out 0 → (0 ≤ length out) × (bytesRead (record { good = false; length = 0 }) out′ ≡ fitting (length out) o)
-  unfolding bytesRead
-  read-full out′ e = (omega arith, cases o e)
-    where
-      cases : (q : Option (List ℕ)) → NoRoom ≡ answerOf q out 0 → none ≡ fitting (length out) q
-      cases none f = refl
-      cases (some ys) f = fits (leb (length ys) (length out)) refl
-        where
-          fits : (t : Bool) → leb (length ys) (length out) ≡ t → none ≡ cond t (some ys) none
-          fits true q =
-              let k : NoRoom ≡ Upto (0 + length ys) = rw (room-true out 0 ys (omega (arith, leb-true (length ys) (length out) q))) at f in
-              let z : _≡_ {A = ℕ} 0 1 = cc in
-              absurd (omega arith)
-          fits false q = refl
+  pub decode-as : (out : List ℕ) (at : ℕ) {v : Spelling} {r : Decoded} {out′ : List ℕ} → s ≡ v → (r ≡ answerOf (unspell v xs) out at) × (out′ ≡ bufferOf (unspell v xs) out at)
+      → (r ≡ answerOf (unspell s xs) out at) × (out′ ≡ bufferOf (unspell s xs) out at)
+  decode-as out at e h = rw e h
 
 -- ---- the marks
 
@@ -193,56 +152,218 @@ all-there {m} text e t =
       signature = ltb-true (signatureMark text) (length text) (b₁ .0);
     }
 
+-- the parts between them lie in the text
+pub record Places (m : Marks) (text : List ℕ) : Type 0 where
+  pub counter : m .counter ≤ length text
+  pub after-counter : m .counter + 1 ≤ m .serial
+  pub serial : m .serial ≤ length text
+  pub after-serial : m .serial + 1 ≤ m .chain
+  pub chain : m .chain ≤ length text
+  pub after-chain : m .chain + 1 ≤ m .signature
+  pub signature : m .signature ≤ length text
+  pub after-signature : m .signature + 1 ≤ length text
+
+pub places : {m : Marks} {text : List ℕ} → AllThere m text → Places m text
+places h =
+    record {
+      counter = omega arith;
+      after-counter = omega arith;
+      serial = omega arith;
+      after-serial = omega arith;
+      chain = omega arith;
+      after-chain = omega arith;
+      signature = omega arith;
+      after-signature = omega arith;
+    }
+
+pub next-fits : (x : ℕ) {n : ℕ} → x + 1 ≤ n → n < 2 ^ 64 → Fits w64 (x + 1)
+next-fits x h k = omega arith
+
+pub part-most : (a e : ℕ) (s : List ℕ) {n : ℕ} → length s ≤ n → length (part a e s) ≤ n
+part-most a e s h = omega (arith, length-take (e - a) (drop a s), length-drop a s)
+
+pub ends-in : {t : Three} {buffer : List ℕ} → EndsIn t buffer → (t .counter ≤ length buffer) × (t .chain ≤ length buffer)
+ends-in h = (omega arith, omega arith)
+
 -- ---- the three spelled fields
 
-pub three-none : {r : Three} (x y z : List ℕ) {o : Option ThreeFields} → r ≡ noThree → none ≡ o
-    → (r .counter ≤ 195) × (r .chain ≤ 195) × (r .signature ≤ 64) × (threeRead r x y z ≡ o)
-unfolding threeRead
-three-none x y z e n = rw e (omega arith, omega arith, omega arith, n)
+-- what was read
+record Got (o : Option (List ℕ)) (out : List ℕ) (at n : ℕ) (out′ : List ℕ) : Type 0 where
+  bytes : List ℕ
+  is : o ≡ some bytes
+  end : n ≡ at + length bytes
+  fits : n ≤ length out
+  put : out′ ≡ overwrite out at bytes
 
-module _ (s : Spelling) (text : List ℕ) (m : Marks) (is : m ≡ marksOf text) where
-  three-at : threeOf s text
-      ≡ three (fitting 195 (unspell s (part (m .counter + 1) (m .serial) text))) (fitting 195 (unspell s (part (m .chain + 1) (m .signature) text))) (fitting 64 (unspell s (drop (m .signature + 1) text)))
-  unfolding threeOf
-  three-at = rw is
-
-  module _ (c₀ : List ℕ) (x : Bytes) (c₁ : List ℕ) (l₁ : length c₀ ≡ 195)
-      (px : (x .length ≤ length c₀) × (bytesRead x c₁ ≡ fitting (length c₀) (unspell s (part (m .counter + 1) (m .serial) text)))) where
-    first-is : fitting 195 (unspell s (part (m .counter + 1) (m .serial) text)) ≡ bytesRead x c₁
-    first-is = ap (λ (n : ℕ). fitting n (unspell s (part (m .counter + 1) (m .serial) text))) (sym l₁) ∙ sym (px .1)
-
-    pub no-counter : not (x .good) ≡ true → none ≡ threeOf s text
-    unfolding bytesRead
-    no-counter t = rw (three-at, first-is, not-true (x .good) t)
-
-    module _ (t : not (x .good) ≡ false) (h₀ : List ℕ) (y : Bytes) (h₁ : List ℕ) (l₂ : length h₀ ≡ 195)
-        (py : (y .length ≤ length h₀) × (bytesRead y h₁ ≡ fitting (length h₀) (unspell s (part (m .chain + 1) (m .signature) text)))) where
-      second-is : fitting 195 (unspell s (part (m .chain + 1) (m .signature) text)) ≡ bytesRead y h₁
-      second-is = ap (λ (n : ℕ). fitting n (unspell s (part (m .chain + 1) (m .signature) text))) (sym l₂) ∙ sym (py .1)
-
-      pub no-chain : not (y .good) ≡ true → none ≡ threeOf s text
-      unfolding bytesRead
-      no-chain u = rw (three-at, first-is, second-is, not-false (x .good) t, not-true (y .good) u)
-
-      pub three-found : not (y .good) ≡ false → (s₀ : List ℕ) (z : Bytes) (s₁ : List ℕ) → length s₀ ≡ 64
-          → (z .length ≤ length s₀) × (bytesRead z s₁ ≡ fitting (length s₀) (unspell s (take (length text - (m .signature + 1)) (drop (m .signature + 1) text))))
-          → (x .length ≤ 195) × (y .length ≤ 195) × (z .length ≤ 64)
-          × (threeRead (record { good = z .good; counter = x .length; chain = y .length; signature = z .length }) c₁ h₁ s₁ ≡ threeOf s text)
-      unfolding bytesRead threeRead
-      three-found u s₀ z s₁ l₃ pz = (
-        omega (arith, px .0),
-        omega (arith, py .0),
-        omega (arith, pz .0),
-        rw (three-at, first-is, second-is, third, not-false (x .good) t, not-false (y .good) u) (go (z .good)),
-      )
+module _ (o : Option (List ℕ)) (out : List ℕ) (at : ℕ) {d : Decoded} (e : d ≡ answerOf o out at) where
+  got : {n : ℕ} {out′ : List ℕ} → d ≡ Upto n → out′ ≡ bufferOf o out at → Got o out at n out′
+  got {n} {out′} u = cases o e
+    where
+      cases : (q : Option (List ℕ)) → d ≡ answerOf q out at → out′ ≡ bufferOf q out at → Got q out at n out′
+      cases none f b = let z : _≡_ {A = ℕ} 0 1 = cc in absurd (omega arith)
+      cases (some ys) f b = fits (leb (at + length ys) (length out)) refl
         where
-          third : fitting 64 (unspell s (drop (m .signature + 1) text)) ≡ bytesRead z s₁
-          third = (λ i. fitting (sym l₃ i) (unspell s (sym (lent-rest text (m .signature + 1)) i))) ∙ sym (pz .1)
+          fits : (t : Bool) → leb (at + length ys) (length out) ≡ t → Got (some ys) out at n out′
+          fits true q =
+              let h : at + length ys ≤ length out = leb-true (at + length ys) (length out) q in
+              let k : d ≡ Upto (at + length ys) = rw (room-true out at ys h) at f in
+              let w : n ≡ at + length ys = cc in
+              record { bytes = ys; is = refl; end = w; fits = omega arith; put = b ∙ placed-room out at ys h }
+          fits false q =
+              let k : d ≡ NoRoom = rw (room-false out at ys (leb-false (at + length ys) (length out) q)) at f in
+              let z : _≡_ {A = ℕ} 0 1 = cc in
+              absurd (omega arith)
 
-          go : (g : Bool) → cond g (some (record { counter = take (x .length) c₁; chain = take (y .length) h₁; signature = take (z .length) s₁ })) none
-              ≡ three (some (take (x .length) c₁)) (some (take (y .length) h₁)) (cond g (some (take (z .length) s₁)) none)
-          go true = refl
-          go false = refl
+  -- where nothing was read, the text is refused or its bytes do not fit
+  not-got : (tagOf the-type d ≡ 1) ⊎ (tagOf the-type d ≡ 2) → (ys : List ℕ) → o ≡ some ys → length out < at + length ys
+  not-got t ys is = go (leb (at + length ys) (length out)) refl
+    where
+      go : (b : Bool) → leb (at + length ys) (length out) ≡ b → length out < at + length ys
+      go false q = leb-false (at + length ys) (length out) q
+      go true q =
+          let h : at + length ys ≤ length out = leb-true (at + length ys) (length out) q in
+          let f : d ≡ answerOf (some ys) out at = e ∙ ap (λ (x : Option (List ℕ)). answerOf x out at) is in
+          let k : d ≡ Upto (at + length ys) = rw (room-true out at ys h) at f in
+          ⊎-elim (λ w. absurd (omega (arith, rw k at w))) (λ w. absurd (omega (arith, rw k at w))) t
+
+-- three texts that do not fit
+no-three : (o₁ o₂ o₃ : Option (List ℕ)) → ((x y z : List ℕ) → o₁ ≡ some x → o₂ ≡ some y → o₃ ≡ some z → 259 < length x + length y + length z) → none ≡ three o₁ o₂ o₃
+no-three none o₂ o₃ h = refl
+no-three (some x) none o₃ h = refl
+no-three (some x) (some y) none h = refl
+no-three (some x) (some y) (some z) h = rw (lt-leb (length x + length y + length z) 259 (h x y z refl refl refl))
+
+-- three texts one after the other
+module _ (x y z rest : List ℕ) (n₁ n₂ n₃ : ℕ) (e₁ : n₁ ≡ length x) (e₂ : n₂ ≡ n₁ + length y) (e₃ : n₃ ≡ n₂ + length z) where
+  abbrev whole : List ℕ
+  whole = x ++ y ++ z ++ rest
+
+  one : part 0 n₁ whole ≡ x
+  one = ap (take (n₁ - 0)) (append-assoc (x ++ y) z rest ∙ append-assoc x y (z ++ rest)) ∙ take-at x (y ++ (z ++ rest)) (n₁ - 0) (omega arith)
+
+  two : part n₁ n₂ whole ≡ y
+  two =
+      ap (part n₁ n₂) (append-assoc (x ++ y) z rest ∙ append-assoc x y (z ++ rest))
+      ∙ ap (take (n₂ - n₁)) (drop-at x (y ++ (z ++ rest)) n₁ (omega arith)) ∙ take-at y (z ++ rest) (n₂ - n₁) (omega arith)
+
+  last : part n₂ n₃ whole ≡ z
+  last =
+      ap (part n₂ n₃) (append-assoc (x ++ y) z rest)
+      ∙ ap (take (n₃ - n₂)) (drop-at (x ++ y) (z ++ rest) n₂ (omega (arith, length-append x y))) ∙ take-at z rest (n₃ - n₂) (omega arith)
+
+pub three-none : {r : Three} (buffer : List ℕ) {o : Option ThreeFields} → r ≡ noThree → none ≡ o
+    → EndsIn r buffer × (threeRead r buffer ≡ o)
+unfolding threeRead
+three-none buffer e n = rw e (record { counter = omega arith; chain = omega arith; signature = omega arith }, n)
+
+module _ (s : Spelling) (text : List ℕ) (m : Marks) (is : m ≡ marksOf text) (out : List ℕ) (l : length out ≡ 259) where
+  abbrev o₁ : Option (List ℕ)
+  o₁ = unspell s (part (m .counter + 1) (m .serial) text)
+
+  abbrev o₂ : Option (List ℕ)
+  o₂ = unspell s (part (m .chain + 1) (m .signature) text)
+
+  abbrev o₃ : Option (List ℕ)
+  o₃ = unspell s (take (length text - (m .signature + 1)) (drop (m .signature + 1) text))
+
+  three-at : threeOf s text ≡ three o₁ o₂ o₃
+  unfolding threeOf
+  three-at = rw (lent-rest text (m .signature + 1), is)
+
+  module _ {d₁ : Decoded} {out₁ : List ℕ} (e₁ : (d₁ ≡ answerOf (unspell s (part (m .counter + 1) (m .serial) text)) out 0) × (out₁ ≡ bufferOf (unspell s (part (m .counter + 1) (m .serial) text)) out 0)) where
+    pub no-counter : (tagOf the-type d₁ ≡ 1) ⊎ (tagOf the-type d₁ ≡ 2) → none ≡ threeOf s text
+    no-counter t = rw three-at (no-three o₁ o₂ o₃ (λ x y z p q r. omega (arith, not-got o₁ out 0 (e₁ .0) t x p)))
+
+    module _ {n₁ : ℕ} (u₁ : d₁ ≡ Upto n₁) {d₂ : Decoded} {out₂ : List ℕ} (e₂ : (d₂ ≡ answerOf (unspell s (part (m .chain + 1) (m .signature) text)) out₁ n₁) × (out₂ ≡ bufferOf (unspell s (part (m .chain + 1) (m .signature) text)) out₁ n₁)) where
+      g₁ : Got o₁ out 0 n₁ out₁
+      g₁ = got o₁ out 0 (e₁ .0) u₁ (e₁ .1)
+
+      l₁ : length out₁ ≡ 259
+      l₁ = ap length (g₁ .put) ∙ length-over out 0 (g₁ .bytes) (omega (arith, g₁ .end, g₁ .fits)) ∙ l
+
+      -- what stands for the first
+      same₁ : (x : List ℕ) → o₁ ≡ some x → length x ≡ n₁
+      same₁ x p = let q : some x ≡ some (g₁ .bytes) = sym p ∙ g₁ .is in let w : x ≡ g₁ .bytes = cc in omega (arith, ap length w, g₁ .end)
+
+      pub no-chain : (tagOf the-type d₂ ≡ 1) ⊎ (tagOf the-type d₂ ≡ 2) → none ≡ threeOf s text
+      no-chain t = rw three-at (no-three o₁ o₂ o₃ (λ x y z p q r. omega (arith, not-got o₂ out₁ n₁ (e₂ .0) t y q, same₁ x p, l₁)))
+
+      module _ {n₂ : ℕ} (u₂ : d₂ ≡ Upto n₂) {d₃ : Decoded} {out₃ : List ℕ}
+          (e₃ : (d₃ ≡ answerOf (unspell s (take (length text - (m .signature + 1)) (drop (m .signature + 1) text))) out₂ n₂) × (out₃ ≡ bufferOf (unspell s (take (length text - (m .signature + 1)) (drop (m .signature + 1) text))) out₂ n₂)) where
+        g₂ : Got o₂ out₁ n₁ n₂ out₂
+        g₂ = got o₂ out₁ n₁ (e₂ .0) u₂ (e₂ .1)
+
+        l₂ : length out₂ ≡ 259
+        l₂ = ap length (g₂ .put) ∙ length-over out₁ n₁ (g₂ .bytes) (omega (arith, g₂ .end, g₂ .fits)) ∙ l₁
+
+        same₂ : (y : List ℕ) → o₂ ≡ some y → n₁ + length y ≡ n₂
+        same₂ y p = let q : some y ≡ some (g₂ .bytes) = sym p ∙ g₂ .is in let w : y ≡ g₂ .bytes = cc in omega (arith, ap length w, g₂ .end)
+
+        pub no-signature : (tagOf the-type d₃ ≡ 1) ⊎ (tagOf the-type d₃ ≡ 2) → none ≡ threeOf s text
+        no-signature t = rw three-at (no-three o₁ o₂ o₃ (λ x y z p q r. omega (arith, not-got o₃ out₂ n₂ (e₃ .0) t z r, same₁ x p, same₂ y q, l₂)))
+
+        module _ {n₃ : ℕ} (u₃ : d₃ ≡ Upto n₃) where
+          g₃ : Got o₃ out₂ n₂ n₃ out₃
+          g₃ = got o₃ out₂ n₂ (e₃ .0) u₃ (e₃ .1)
+
+          x : List ℕ
+          x = g₁ .bytes
+
+          y : List ℕ
+          y = g₂ .bytes
+
+          z : List ℕ
+          z = g₃ .bytes
+
+          end₁ : n₁ ≡ length x
+          unfolding x
+          end₁ = omega (arith, g₁ .end)
+
+          end₂ : n₂ ≡ n₁ + length y
+          unfolding y
+          end₂ = g₂ .end
+
+          end₃ : n₃ ≡ n₂ + length z
+          unfolding z
+          end₃ = g₃ .end
+
+          small : n₃ ≤ 259
+          small = omega (arith, g₃ .fits, l₂)
+
+          put₁ : out₁ ≡ overwrite out 0 x
+          unfolding x
+          put₁ = g₁ .put
+
+          put₂ : out₂ ≡ overwrite out 0 (x ++ y)
+          unfolding y
+          put₂ = then out x y 0 n₁ put₁ (g₂ .put) (omega (arith, end₁)) (omega (arith, end₁, end₂, end₃, small, l))
+
+          put₃ : out₃ ≡ overwrite out 0 (x ++ y ++ z)
+          unfolding z
+          put₃ =
+              let k = length-append x y in
+              then out (x ++ y) z 0 n₂ put₂ (g₃ .put) (omega (arith, end₁, end₂)) (omega (arith, end₁, end₂, end₃, small, l))
+
+          buffer-is : out₃ ≡ x ++ y ++ z ++ drop (0 + length (x ++ y ++ z)) out
+          unfolding overwrite
+          buffer-is = put₃
+
+          l₃ : length out₃ ≡ 259
+          l₃ = ap length (g₃ .put) ∙ length-over out₂ n₂ (g₃ .bytes) (omega (arith, g₃ .end, g₃ .fits)) ∙ l₂
+
+          three-are : three o₁ o₂ o₃ ≡ some (record { counter = x; chain = y; signature = z })
+          unfolding x y z
+          three-are = rw (g₁ .is, g₂ .is, g₃ .is, le-leb (length (g₁ .bytes) + length (g₂ .bytes) + length (g₃ .bytes)) 259 (omega (arith, end₁, end₂, end₃, small)))
+
+          pub three-found : EndsIn (record { good = true; counter = n₁; chain = n₂; signature = n₃ }) out₃ × (threeRead (record { good = true; counter = n₁; chain = n₂; signature = n₃ }) out₃ ≡ threeOf s text)
+          unfolding threeRead
+          three-found =
+              let rest : List ℕ = drop (0 + length (x ++ y ++ z)) out in (
+                record { counter = omega (arith, end₂); chain = omega (arith, end₃); signature = omega (arith, small, l₃) },
+                ap (λ (b : List ℕ). threeRead (record { good = true; counter = n₁; chain = n₂; signature = n₃ }) b) buffer-is
+                    ∙ (λ i. some (record { counter = one x y z rest n₁ n₂ n₃ end₁ end₂ end₃ i; chain = two x y z rest n₁ n₂ n₃ end₁ end₂ end₃ i; signature = last x y z rest n₁ n₂ n₃ end₁ end₂ end₃ i }))
+                    ∙ sym three-are ∙ sym three-at,
+              )
 
 -- ---- counting
 
@@ -327,9 +448,8 @@ module _ (f : CodeFields) where
 module _ (f : CodeFields) where
   pub record Sizes : Type 0 where
     pub start : length (f .start) ≤ 195
-    pub counter : length (f .counter) ≤ 195
+    pub spelled : length (f .counter) + length (f .chain) ≤ 195
     pub serial : length (f .serial) ≤ 195
-    pub chain : length (f .chain) ≤ 195
     pub signature : length (f .signature) ≤ 64
 
   pub good-sizes : codeFieldsGood f ≡ true → Sizes
@@ -339,7 +459,7 @@ module _ (f : CodeFields) where
       let b : partsGood p ≡ true = both (twelve f) (partsGood p) g .1 in
       let n = length-payload f in
       let k = good-payload p b in
-      record { start = omega arith; counter = omega arith; serial = omega arith; chain = omega arith; signature = good-signature p b }
+      record { start = omega arith; spelled = omega arith; serial = omega arith; signature = good-signature p b }
 
 module _ (start counter serial chain signature : List ℕ) where
   f : CodeFields
@@ -487,43 +607,22 @@ after : List ℕ → List ℕ → Option ThreeFields → Option CodeFields
 after start serial none = none
 after start serial (some t) = goodFields (codeFields start (t .counter) serial (t .chain) (t .signature))
 
--- a field that does not fit its buffer is too long for good fields
-module _ (start x serial y z : List ℕ) where
-  too-long : (195 < length x) ⊎ ((195 < length y) ⊎ (64 < length z)) → codeFieldsGood (codeFields start x serial y z) ≡ false
-  too-long h = go (codeFieldsGood (codeFields start x serial y z)) refl
-    where
-      go : (t : Bool) → codeFieldsGood (codeFields start x serial y z) ≡ t → t ≡ false
-      go true g =
-          let k = good-sizes (codeFields start x serial y z) g in
-          ⊎-elim (λ w. absurd (omega arith)) (⊎-elim (λ w. absurd (omega arith)) (λ w. absurd (omega arith))) h
-      go false g = refl
-
-  fit-all : goodFields (codeFields start x serial y z) ≡ after start serial (three (fitting 195 (some x)) (fitting 195 (some y)) (fitting 64 (some z)))
-  unfolding after
-  fit-all = go (leb (length x) 195) refl (leb (length y) 195) refl (leb (length z) 64) refl
-    where
-      go : (a : Bool) → leb (length x) 195 ≡ a → (b : Bool) → leb (length y) 195 ≡ b → (c : Bool) → leb (length z) 64 ≡ c
-          → goodFields (codeFields start x serial y z) ≡ after start serial (three (cond a (some x) none) (cond b (some y) none) (cond c (some z) none))
-      go true p true q true r = refl
-      go true p true q false r = rw (too-long (inr (inr (leb-false (length z) 64 r))))
-      go true p false q c r = rw (too-long (inr (inl (leb-false (length y) 195 q))))
-      go false p b q c r = rw (too-long (inl (leb-false (length x) 195 p)))
-
-fit-fields : (start serial : List ℕ) (o₁ o₂ o₃ : Option (List ℕ)) → withFields start o₁ serial o₂ o₃ ≡ after start serial (three (fitting 195 o₁) (fitting 195 o₂) (fitting 64 o₃))
+-- fields that do not fit the buffer are too long for good fields
+fit-fields : (start serial : List ℕ) (o₁ o₂ o₃ : Option (List ℕ)) → withFields start o₁ serial o₂ o₃ ≡ after start serial (three o₁ o₂ o₃)
 unfolding after
 fit-fields start serial none o₂ o₃ = refl
-fit-fields start serial (some x) none o₃ = go (leb (length x) 195)
+fit-fields start serial (some x) none o₃ = refl
+fit-fields start serial (some x) (some y) none = refl
+fit-fields start serial (some x) (some y) (some z) = go (leb (length x + length y + length z) 259) refl
   where
-    go : (a : Bool) → none ≡ after start serial (three (cond a (some x) none) none (fitting 64 o₃))
-    go true = refl
-    go false = refl
-fit-fields start serial (some x) (some y) none = go (leb (length x) 195) (leb (length y) 195)
-  where
-    go : (a b : Bool) → none ≡ after start serial (three (cond a (some x) none) (cond b (some y) none) none)
-    go true true = refl
-    go true false = refl
-    go false b = refl
-fit-fields start serial (some x) (some y) (some z) = fit-all start x serial y z
+    bad : 259 < length x + length y + length z → (t : Bool) → codeFieldsGood (codeFields start x serial y z) ≡ t → t ≡ false
+    bad h true g = let k = good-sizes (codeFields start x serial y z) g in absurd (omega arith)
+    bad h false g = refl
+
+    go : (t : Bool) → leb (length x + length y + length z) 259 ≡ t
+        → goodFields (codeFields start x serial y z) ≡ after start serial (cond t (some (record { counter = x; chain = y; signature = z })) none)
+    go true q = refl
+    go false q = rw (bad (leb-false (length x + length y + length z) 259 q) (codeFieldsGood (codeFields start x serial y z)) refl)
 
 module _ (from to : Spelling) (text out : List ℕ) (refused : ℕ) {m : Marks} (is : m ≡ marksOf text) where
   pub no-marks : not (m .there) ≡ true → (record { number = refused; length = 0 } ≡ answerWith refused (Option·map (textIn to) (fieldsOf from text)) out) × (out ≡ bufferWith (Option·map (textIn to) (fieldsOf from text)) out)
@@ -532,31 +631,29 @@ module _ (from to : Spelling) (text out : List ℕ) (refused : ℕ) {m : Marks} 
       let g : marksThere text ≡ false = ap (λ (k : Marks). k .there) (sym is) ∙ not-true (m .there) t in
       (rw g, rw g)
 
-  module _ (there : not (m .there) ≡ false) (r : Three) (x y z : List ℕ) (e : threeRead r x y z ≡ threeOf from text) where
-    fields-are : fieldsOf from text ≡ after (take (counterMark text) text) (part (serialMark text + 1) (chainMark text) text) (threeRead r x y z)
+  module _ (there : not (m .there) ≡ false) (t : Three) (buffer : List ℕ) (e : threeRead t buffer ≡ threeOf from text) where
+    fields-are : fieldsOf from text ≡ after (take (counterMark text) text) (part (serialMark text + 1) (chainMark text) text) (threeRead t buffer)
     unfolding fieldsOf threeOf
     fields-are =
         let g : marksThere text ≡ true = ap (λ (k : Marks). k .there) (sym is) ∙ not-false (m .there) there in
-        rw (g, e) (fit-fields (take (counterMark text) text) (part (serialMark text + 1) (chainMark text) text)
+        rw (g, e)
+        (fit-fields (take (counterMark text) text) (part (serialMark text + 1) (chainMark text) text)
         (unspell from (part (counterMark text + 1) (serialMark text) text)) (unspell from (part (chainMark text + 1) (signatureMark text) text)) (unspell from (drop (signatureMark text + 1) text)))
 
-    pub no-fields : not (r .good) ≡ true → (record { number = refused; length = 0 } ≡ answerWith refused (Option·map (textIn to) (fieldsOf from text)) out) × (out ≡ bufferWith (Option·map (textIn to) (fieldsOf from text)) out)
+    pub no-fields : not (t .good) ≡ true → (record { number = refused; length = 0 } ≡ answerWith refused (Option·map (textIn to) (fieldsOf from text)) out) × (out ≡ bufferWith (Option·map (textIn to) (fieldsOf from text)) out)
     unfolding threeRead after
-    no-fields t =
-        let q : fieldsOf from text ≡ none = rw (not-true (r .good) t) at fields-are in
+    no-fields u =
+        let q : fieldsOf from text ≡ none = rw (not-true (t .good) u) at fields-are in
         (rw q, rw q)
 
-    are-found : not (r .good) ≡ false
-        → fieldsOf from text ≡ goodFields (codeFields (take (m .counter - 0) text) (take (r .counter - 0) x) (part (m .serial + 1) (m .chain) text) (take (r .chain - 0) y) (take (r .signature - 0) z))
+    are-found : not (t .good) ≡ false → fieldsOf from text ≡ goodFields (fieldsAt m text t buffer)
     unfolding threeRead after
-    are-found t =
-        rw (lent-front text (m .counter), lent-front x (r .counter), lent-front y (r .chain), lent-front z (r .signature), is) (rw (not-false (r .good) t) at fields-are)
+    are-found u = rw (lent-front text (m .counter), is) (rw (not-false (t .good) u) at fields-are)
 
-    pub some-fields : {a : Answer} {out′ : List ℕ} → not (r .good) ≡ false
-        → (a ≡ answerWith refused (Option·map (textIn to) (goodFields (codeFields (take (m .counter - 0) text) (take (r .counter - 0) x) (part (m .serial + 1) (m .chain) text) (take (r .chain - 0) y) (take (r .signature - 0) z)))) out)
-        × (out′ ≡ bufferWith (Option·map (textIn to) (goodFields (codeFields (take (m .counter - 0) text) (take (r .counter - 0) x) (part (m .serial + 1) (m .chain) text) (take (r .chain - 0) y) (take (r .signature - 0) z)))) out)
+    pub some-fields : {a : Answer} {out′ : List ℕ} → not (t .good) ≡ false
+        → (a ≡ answerWith refused (Option·map (textIn to) (goodFields (fieldsAt m text t buffer))) out) × (out′ ≡ bufferWith (Option·map (textIn to) (goodFields (fieldsAt m text t buffer))) out)
         → (a ≡ answerWith refused (Option·map (textIn to) (fieldsOf from text)) out) × (out′ ≡ bufferWith (Option·map (textIn to) (fieldsOf from text)) out)
-    some-fields t h = rw (are-found t) h
+    some-fields u h = rw (are-found u) h
 
 -- ---- the calls
 

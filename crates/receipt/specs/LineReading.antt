@@ -1,5 +1,5 @@
 -- What the private readers and writers of code and line promise their callers. Only their contracts use this, not the definitions of the calls.
-use Prim.Native.Nat.{ℕ, _+_, _<_}
+use Prim.Native.Nat.{ℕ, _+_, _≤_, _<_}
 use mathlib.Core.Bool.{false, cond}
 use mathlib.Core.List.{List, [], _∷_, _++_}
 use mathlib.Core.Option.{Option, none, some}
@@ -11,9 +11,12 @@ use Rattle.receipt.specs.Payload.{longestPayload}
 use Rattle.receipt.specs.Form.{part}
 use Rattle.receipt.specs.Line.{spell, unspell, CodeFields, counterMark, serialMark, chainMark, signatureMark, marksThere}
 use Rattle.receipt.specs.declared.optical_line.Spelling.{Spelling}
-use Rattle.receipt.specs.declared.optical_line.Bytes.{Bytes}
 use Rattle.receipt.specs.declared.optical_line.Marks.{Marks}
 use Rattle.receipt.specs.declared.optical_line.Three.{Three}
+
+-- the most bytes of the three spelled fields together: counter and chain are shorter than the payload
+abbrev pub longestFields : ℕ
+longestFields = longestPayload + 64
 
 -- the five fields
 abbrev pub codeFields : List ℕ → List ℕ → List ℕ → List ℕ → List ℕ → CodeFields
@@ -45,38 +48,43 @@ pub record AllThere (m : Marks) (text : List ℕ) : Type 0 where
   pub chain : m .chain < m .signature
   pub signature : m .signature < length text
 
--- the bytes of a field that is read into a buffer, if they fit
-abbrev pub fitting : ℕ → Option (List ℕ) → Option (List ℕ)
-fitting most none = none
-fitting most (some ys) = cond (leb (length ys) most) (some ys) none
-
--- what a reader found of a field, at the start of a buffer
-unfoldable pub bytesRead : Bytes → List ℕ → Option (List ℕ)
-bytesRead r buffer = cond (r .good) (some (take (r .length) buffer)) none
-
 -- counter, chain and signature
 pub record ThreeFields : Type 0 where
   pub counter : List ℕ
   pub chain : List ℕ
   pub signature : List ℕ
 
+-- if all are given, and fit a buffer together
 abbrev pub three : Option (List ℕ) → Option (List ℕ) → Option (List ℕ) → Option ThreeFields
-three (some x) (some y) (some z) = some (record { counter = x; chain = y; signature = z })
+three (some x) (some y) (some z) = cond (leb (length x + length y + length z) longestFields) (some (record { counter = x; chain = y; signature = z })) none
 three (some x) (some y) none = none
 three (some x) none z = none
 three none y z = none
 
--- of a text: those that fit the buffers
+-- of a text
 unfoldable pub threeOf : Spelling → List ℕ → Option ThreeFields
 threeOf s text =
-    three (fitting longestPayload (unspell s (part (counterMark text + 1) (serialMark text) text)))
-    (fitting longestPayload (unspell s (part (chainMark text + 1) (signatureMark text) text))) (fitting 64 (unspell s (drop (signatureMark text + 1) text)))
+    three (unspell s (part (counterMark text + 1) (serialMark text) text)) (unspell s (part (chainMark text + 1) (signatureMark text) text))
+    (unspell s (drop (signatureMark text + 1) text))
 
--- what a reader found of them, each at the start of a buffer
-unfoldable pub threeRead : Three → List ℕ → List ℕ → List ℕ → Option ThreeFields
-threeRead r counter chain signature =
-    cond (r .good) (some (record { counter = take (r .counter) counter; chain = take (r .chain) chain; signature = take (r .signature) signature })) none
+-- where a reader put them: one after the other at the start of a buffer
+unfoldable pub threeRead : Three → List ℕ → Option ThreeFields
+threeRead t buffer =
+    cond (t .good)
+    (some (record { counter = part 0 (t .counter) buffer; chain = part (t .counter) (t .chain) buffer; signature = part (t .chain) (t .signature) buffer }))
+    none
+
+-- which is long enough for them
+pub record EndsIn (t : Three) (buffer : List ℕ) : Type 0 where
+  pub counter : t .counter ≤ t .chain
+  pub chain : t .chain ≤ t .signature
+  pub signature : t .signature ≤ length buffer
 
 -- the answer if one is refused
 abbrev pub noThree : Three
 noThree = record { good = false; counter = 0; chain = 0; signature = 0 }
+
+-- the five fields, in the text and in the buffer
+abbrev pub fieldsAt : Marks → List ℕ → Three → List ℕ → CodeFields
+fieldsAt m text t buffer =
+    codeFields (part 0 (m .counter) text) (part 0 (t .counter) buffer) (part (m .serial + 1) (m .chain) text) (part (t .counter) (t .chain) buffer) (part (t .chain) (t .signature) buffer)

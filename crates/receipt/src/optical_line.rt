@@ -28,13 +28,16 @@ ghost use Rattle.receipt.specs.Payload.{longestPayload};
 ghost use Rattle.receipt.specs.Form.{payloadGood};
 ghost use Rattle.receipt.specs.Line.{spell, unspell, countOf, payloadIn, textIn, codeFieldsGood, goodFields, fieldsOf, lineAnswer, lineBuffer, unlineAnswer, unlineBuffer};
 ghost use Rattle.receipt.specs.declared.optical_line.Spelling.the-variants.{Base64};
-ghost use Rattle.receipt.specs.LineReading.{codeFields, marked, marksOf, AllThere, fitting, bytesRead, threeRead, threeOf, noThree};
+ghost use Rattle.receipt.specs.LineReading.{longestFields, codeFields, fieldsAt, marked, marksOf, AllThere, EndsIn, threeRead, threeOf, noThree};
 
 // How counter field, chain field and signature are spelled: in a code in BASE64, in a line in BASE32.
 pub(crate) enum Spelling {
     Base64,
     Base32,
 }
+
+// The most bytes of counter field, chain field and signature together: counter and chain are shorter than the payload.
+const LONGEST_FIELDS: usize = LONGEST_PAYLOAD + 64;
 
 // ---- the spelled fields
 
@@ -59,40 +62,14 @@ fn put_spelled(spelling: Spelling, s: &[u8], out: &mut [u8], at: usize) -> usize
     }
 }
 
-// Writes the bytes of a field to the start of a buffer.
-fn decode_spelled(spelling: Spelling, text: &[u8], out: &mut [u8]) -> Decoded
+// Writes the bytes of a field at a place.
+fn decode_spelled(spelling: Spelling, text: &[u8], out: &mut [u8], at: usize) -> Decoded
     ensures { λ r. let o : _ = unspell spelling (now (text .entry)) in
-        ⌜ (r ≡ answerOf o (now (out .entry)) 0) × (now (out .exit) ≡ bufferOf o (now (out .entry)) 0) ⌝ }
+        ⌜ (r ≡ answerOf o (now (out .entry)) at) × (now (out .exit) ≡ bufferOf o (now (out .entry)) at) ⌝ }
 {
     match spelling {
-        Spelling::Base64 => base64_decode(Alphabet::Standard, text, out, 0),
-        Spelling::Base32 => base32_decode(text, out, 0),
-    }
-}
-
-// What was read of a field: whether its text is canonical and its bytes fit, and how many they are.
-struct Bytes {
-    good: bool,
-    length: usize,
-}
-
-fn read_spelled(spelling: Spelling, text: &[u8], out: &mut [u8]) -> Bytes
-    ensures { λ r. ⌜ (r .length ≤ length (now (out .entry)))
-        × (bytesRead r (now (out .exit)) ≡ fitting (length (now (out .entry))) (unspell spelling (now (text .entry)))) ⌝ }
-{
-    match decode_spelled(spelling, text, out) {
-        Decoded::Upto(n) => Bytes {
-            good: true,
-            length: n,
-        },
-        Decoded::Refused => Bytes {
-            good: false,
-            length: 0,
-        },
-        Decoded::NoRoom => Bytes {
-            good: false,
-            length: 0,
-        },
+        Spelling::Base64 => base64_decode(Alphabet::Standard, text, out, at),
+        Spelling::Base32 => base32_decode(text, out, at),
     }
 }
 
@@ -124,7 +101,7 @@ fn marks_of(text: &[u8]) -> Marks
     }
 }
 
-// What was read of the three spelled fields: whether all are canonical and fit, and how many bytes each has.
+// What was read of the three spelled fields: whether all are canonical and fit, and where the bytes of each end in the buffer.
 struct Three {
     good: bool,
     counter: usize,
@@ -143,38 +120,30 @@ fn no_three() -> Three
     }
 }
 
-// Reads the three spelled fields, each to the start of a buffer.
-fn read_three(
-    spelling: Spelling,
-    text: &[u8],
-    m: Marks,
-    counter: &mut [u8],
-    chain: &mut [u8],
-    signature: &mut [u8],
-) -> Three
-    requires { ⌜ AllThere m (now text) × (length (now counter) ≡ longestPayload) × (length (now chain) ≡ longestPayload) × (length (now signature) ≡ 64) ⌝ }
-    ensures { λ r. ⌜ (r .counter ≤ longestPayload) × (r .chain ≤ longestPayload) × (r .signature ≤ 64)
-        × (threeRead r (now (counter .exit)) (now (chain .exit)) (now (signature .exit)) ≡ threeOf spelling (now (text .entry))) ⌝ }
+// Reads the three spelled fields, one after the other to the start of a buffer.
+fn read_three(spelling: Spelling, text: &[u8], m: Marks, out: &mut [u8]) -> Three
+    requires { ⌜ AllThere m (now text) × (length (now out) ≡ longestFields) ⌝ }
+    ensures { λ r. ⌜ EndsIn r (now (out .exit)) × (threeRead r (now (out .exit)) ≡ threeOf spelling (now (text .entry))) ⌝ }
 {
     let a = m.counter + 1;
     let b = m.serial;
+    let Decoded::Upto(x) = decode_spelled(spelling, &text[a..b], out, 0) else {
+        return no_three();
+    };
     let c = m.chain + 1;
     let d = m.signature;
+    let Decoded::Upto(y) = decode_spelled(spelling, &text[c..d], out, x) else {
+        return no_three();
+    };
     let e = d + 1;
-    let x = read_spelled(spelling, &text[a..b], counter);
-    if !x.good {
+    let Decoded::Upto(z) = decode_spelled(spelling, &text[e..], out, y) else {
         return no_three();
-    }
-    let y = read_spelled(spelling, &text[c..d], chain);
-    if !y.good {
-        return no_three();
-    }
-    let z = read_spelled(spelling, &text[e..], signature);
+    };
     Three {
-        good: z.good,
-        counter: x.length,
-        chain: y.length,
-        signature: z.length,
+        good: true,
+        counter: x,
+        chain: y,
+        signature: z,
     }
 }
 
@@ -197,7 +166,7 @@ fn count_of(b: u8, s: &[u8]) -> usize
 
 // The payload of the code is good: it begins as its first nine fields do, and is at most as long as allowed.
 fn code_payload_good(start: &[u8], counter: &[u8], serial: &[u8], chain: &[u8]) -> bool
-    requires { ⌜ (4 ≤ length (now start)) × (length (now counter) ≤ longestPayload) × (length (now chain) ≤ longestPayload) ⌝ }
+    requires { ⌜ (4 ≤ length (now start)) × (length (now counter) ≤ longestFields) × (length (now chain) ≤ longestFields) ⌝ }
     ensures { λ r. ⌜ r ≡ payloadGood (payloadIn Base64 (codeFields (now (start .entry)) (now (counter .entry)) (now (serial .entry)) (now (chain .entry)) [])) ⌝ }
 {
     if !payload_good(start) {
@@ -210,7 +179,7 @@ fn code_payload_good(start: &[u8], counter: &[u8], serial: &[u8], chain: &[u8]) 
 
 // Twelve fields, a good payload and a good signature.
 fn fields_good(start: &[u8], counter: &[u8], serial: &[u8], chain: &[u8], signature: &[u8]) -> bool
-    requires { ⌜ (length (now counter) ≤ longestPayload) × (length (now chain) ≤ longestPayload) ⌝ }
+    requires { ⌜ (length (now counter) ≤ longestFields) × (length (now chain) ≤ longestFields) ⌝ }
     ensures { λ r. ⌜ r ≡ codeFieldsGood (codeFields (now (start .entry)) (now (counter .entry)) (now (serial .entry)) (now (chain .entry)) (now (signature .entry))) ⌝ }
 {
     if count_of(b'_', start) != 9 {
@@ -288,21 +257,31 @@ fn put_fields(
     }
 }
 
-// Writes the text of good fields.
+// Writes the text of good fields, which stand in a text and in a buffer; answers `refused` if they are not good.
 fn put_good(
     spelling: Spelling,
-    start: &[u8],
-    counter: &[u8],
-    serial: &[u8],
-    chain: &[u8],
-    signature: &[u8],
+    text: &[u8],
+    m: Marks,
+    bytes: &[u8],
+    t: Three,
     out: &mut [u8],
     refused: u32,
 ) -> Answer
-    requires { ⌜ (length (now counter) ≤ longestPayload) × (length (now chain) ≤ longestPayload) ⌝ }
-    ensures { λ r. let o : _ = Option·map (textIn spelling) (goodFields (codeFields (now (start .entry)) (now (counter .entry)) (now (serial .entry)) (now (chain .entry)) (now (signature .entry)))) in
+    requires { ⌜ AllThere m (now text) × EndsIn t (now bytes) × (length (now bytes) ≤ longestFields) ⌝ }
+    ensures { λ r. let o : _ = Option·map (textIn spelling) (goodFields (fieldsAt m (now (text .entry)) t (now (bytes .entry)))) in
         ⌜ (r ≡ answerWith refused o (now (out .entry))) × (now (out .exit) ≡ bufferWith o (now (out .entry))) ⌝ }
 {
+    let a = m.counter;
+    let b = m.serial + 1;
+    let c = m.chain;
+    let x = t.counter;
+    let y = t.chain;
+    let z = t.signature;
+    let start = &text[0..a];
+    let counter = &bytes[0..x];
+    let serial = &text[b..c];
+    let chain = &bytes[x..y];
+    let signature = &bytes[y..z];
     if !fields_good(start, counter, serial, chain, signature) {
         return Answer {
             number: refused,
@@ -326,32 +305,15 @@ fn respell(from: Spelling, to: Spelling, text: &[u8], out: &mut [u8], refused: u
             length: 0,
         };
     }
-    let mut counter = [0u8; LONGEST_PAYLOAD];
-    let mut chain = [0u8; LONGEST_PAYLOAD];
-    let mut signature = [0u8; 64];
-    let r = read_three(from, text, m, &mut counter, &mut chain, &mut signature);
-    if !r.good {
+    let mut bytes = [0u8; LONGEST_FIELDS];
+    let t = read_three(from, text, m, &mut bytes);
+    if !t.good {
         return Answer {
             number: refused,
             length: 0,
         };
     }
-    let a = m.counter;
-    let b = m.serial + 1;
-    let c = m.chain;
-    let x = r.counter;
-    let y = r.chain;
-    let z = r.signature;
-    put_good(
-        to,
-        &text[0..a],
-        &counter[0..x],
-        &text[b..c],
-        &chain[0..y],
-        &signature[0..z],
-        out,
-        refused,
-    )
+    put_good(to, text, m, &bytes, t, out, refused)
 }
 
 // Writes the line of a code to the start of the output. A code? 24. Twelve fields, canonical ones? 26. Output long enough? 23.
