@@ -36,12 +36,12 @@ use Rattle.receipt.specs.Form.{part, Parts, parts, payloadGood, signatur
 use Rattle.receipt.specs.Code.{lastAt, partsOfCode}
 use Rattle.receipt.specs.FormReading.{short, found}
 use Rattle.receipt.specs.Line.{spell, unspell, CodeFields, countOf, twelve, payloadIn, textIn, codeFieldsGood, signatureMark, chainMark, serialMark, counterMark, marksThere, goodFields, withFields, fieldsOf, refusalOf, lineAnswer, lineBuffer}
-use Rattle.receipt.specs.LineReading.{codeFields, fieldsAt, marked, marksOf, AllThere, EndsIn, ThreeFields, three, threeOf, threeRead, noThree}
+use Rattle.receipt.specs.LineReading.{codeFields, fieldsAt, marked, marksOf, AllThere, EndsIn, ThreeFields, three, threeOf, threeRead, noEnds}
 use Rattle.receipt.specs.declared.optical_line.Spelling.{Spelling}
 use Rattle.receipt.specs.declared.optical_line.Spelling.the-variants.{Base64, Base32}
 use Rattle.receipt.specs.declared.form.Reading.{Reading}
 use Rattle.receipt.specs.declared.optical_line.Marks.{Marks}
-use Rattle.receipt.specs.declared.optical_line.Three.{Three}
+use Rattle.receipt.specs.declared.optical_line.Ends.{Ends}
 use Rattle.receipt.proofs.Finding.{last-most}
 use Rattle.receipt.proofs.CodeTexts.{good-payload, good-signature}
 use Rattle.receipt.proofs.CodeCalls.{has-room}
@@ -182,7 +182,7 @@ next-fits x h k = omega arith
 pub part-most : (a e : ℕ) (s : List ℕ) {n : ℕ} → length s ≤ n → length (part a e s) ≤ n
 part-most a e s h = omega (arith, length-take (e - a) (drop a s), length-drop a s)
 
-pub ends-in : {t : Three} {buffer : List ℕ} → EndsIn t buffer → (t .counter ≤ length buffer) × (t .chain ≤ length buffer)
+pub ends-in : {t : Ends} {buffer : List ℕ} → EndsIn t buffer → (t .counter ≤ length buffer) × (t .chain ≤ length buffer)
 ends-in h = (omega arith, omega arith)
 
 -- ---- the three spelled fields
@@ -251,10 +251,10 @@ module _ (x y z rest : List ℕ) (n₁ n₂ n₃ : ℕ) (e₁ : n₁ ≡ length 
       ap (part n₂ n₃) (append-assoc (x ++ y) z rest)
       ∙ ap (take (n₃ - n₂)) (drop-at (x ++ y) (z ++ rest) n₂ (omega (arith, length-append x y))) ∙ take-at z rest (n₃ - n₂) (omega arith)
 
-pub three-none : {r : Three} (buffer : List ℕ) {o : Option ThreeFields} → r ≡ noThree → none ≡ o
+pub ends-none : {r : Ends} (buffer : List ℕ) {o : Option ThreeFields} → r ≡ noEnds → none ≡ o
     → EndsIn r buffer × (threeRead r buffer ≡ o)
 unfolding threeRead
-three-none buffer e n = rw e (record { counter = omega arith; chain = omega arith; signature = omega arith }, n)
+ends-none buffer e n = rw e (record { counter = omega arith; chain = omega arith; signature = omega arith }, n)
 
 module _ (s : Spelling) (text : List ℕ) (m : Marks) (is : m ≡ marksOf text) (out : List ℕ) (l : length out ≡ 259) where
   abbrev o₁ : Option (List ℕ)
@@ -631,7 +631,7 @@ module _ (from to : Spelling) (text out : List ℕ) (refused : ℕ) {m : Marks} 
       let g : marksThere text ≡ false = ap (λ (k : Marks). k .there) (sym is) ∙ not-true (m .there) t in
       (rw g, rw g)
 
-  module _ (there : not (m .there) ≡ false) (t : Three) (buffer : List ℕ) (e : threeRead t buffer ≡ threeOf from text) where
+  module _ (there : not (m .there) ≡ false) (t : Ends) (buffer : List ℕ) (e : threeRead t buffer ≡ threeOf from text) where
     fields-are : fieldsOf from text ≡ after (take (counterMark text) text) (part (serialMark text + 1) (chainMark text) text) (threeRead t buffer)
     unfolding fieldsOf threeOf
     fields-are =

@@ -12,7 +12,7 @@ use Rattle.receipt.specs.Form.{part}
 use Rattle.receipt.specs.Line.{spell, unspell, CodeFields, counterMark, serialMark, chainMark, signatureMark, marksThere}
 use Rattle.receipt.specs.declared.optical_line.Spelling.{Spelling}
 use Rattle.receipt.specs.declared.optical_line.Marks.{Marks}
-use Rattle.receipt.specs.declared.optical_line.Three.{Three}
+use Rattle.receipt.specs.declared.optical_line.Ends.{Ends}
 
 -- the most bytes of the three spelled fields together: counter and chain are shorter than the payload
 abbrev pub longestFields : ℕ
@@ -68,23 +68,23 @@ threeOf s text =
     (unspell s (drop (signatureMark text + 1) text))
 
 -- where a reader put them: one after the other at the start of a buffer
-unfoldable pub threeRead : Three → List ℕ → Option ThreeFields
-threeRead t buffer =
-    cond (t .good)
-    (some (record { counter = part 0 (t .counter) buffer; chain = part (t .counter) (t .chain) buffer; signature = part (t .chain) (t .signature) buffer }))
+unfoldable pub threeRead : Ends → List ℕ → Option ThreeFields
+threeRead e buffer =
+    cond (e .good)
+    (some (record { counter = part 0 (e .counter) buffer; chain = part (e .counter) (e .chain) buffer; signature = part (e .chain) (e .signature) buffer }))
     none
 
 -- which is long enough for them
-pub record EndsIn (t : Three) (buffer : List ℕ) : Type 0 where
-  pub counter : t .counter ≤ t .chain
-  pub chain : t .chain ≤ t .signature
-  pub signature : t .signature ≤ length buffer
+pub record EndsIn (e : Ends) (buffer : List ℕ) : Type 0 where
+  pub counter : e .counter ≤ e .chain
+  pub chain : e .chain ≤ e .signature
+  pub signature : e .signature ≤ length buffer
 
 -- the answer if one is refused
-abbrev pub noThree : Three
-noThree = record { good = false; counter = 0; chain = 0; signature = 0 }
+abbrev pub noEnds : Ends
+noEnds = record { good = false; counter = 0; chain = 0; signature = 0 }
 
 -- the five fields, in the text and in the buffer
-abbrev pub fieldsAt : Marks → List ℕ → Three → List ℕ → CodeFields
-fieldsAt m text t buffer =
-    codeFields (part 0 (m .counter) text) (part 0 (t .counter) buffer) (part (m .serial + 1) (m .chain) text) (part (t .counter) (t .chain) buffer) (part (t .chain) (t .signature) buffer)
+abbrev pub fieldsAt : Marks → List ℕ → Ends → List ℕ → CodeFields
+fieldsAt m text e buffer =
+    codeFields (part 0 (m .counter) text) (part 0 (e .counter) buffer) (part (m .serial + 1) (m .chain) text) (part (e .counter) (e .chain) buffer) (part (e .chain) (e .signature) buffer)

@@ -28,7 +28,7 @@ ghost use Rattle.receipt.specs.Payload.{longestPayload};
 ghost use Rattle.receipt.specs.Form.{payloadGood};
 ghost use Rattle.receipt.specs.Line.{spell, unspell, countOf, payloadIn, textIn, codeFieldsGood, goodFields, fieldsOf, lineAnswer, lineBuffer, unlineAnswer, unlineBuffer};
 ghost use Rattle.receipt.specs.declared.optical_line.Spelling.the-variants.{Base64};
-ghost use Rattle.receipt.specs.LineReading.{longestFields, codeFields, fieldsAt, marked, marksOf, AllThere, EndsIn, threeRead, threeOf, noThree};
+ghost use Rattle.receipt.specs.LineReading.{longestFields, codeFields, fieldsAt, marked, marksOf, AllThere, EndsIn, threeRead, threeOf, noEnds};
 
 // How counter field, chain field and signature are spelled: in a code in BASE64, in a line in BASE32.
 pub(crate) enum Spelling {
@@ -102,17 +102,17 @@ fn marks_of(text: &[u8]) -> Marks
 }
 
 // What was read of the three spelled fields: whether all are canonical and fit, and where the bytes of each end in the buffer.
-struct Three {
+struct Ends {
     good: bool,
     counter: usize,
     chain: usize,
     signature: usize,
 }
 
-fn no_three() -> Three
-    ensures { λ r. ⌜ r ≡ noThree ⌝ }
+fn no_ends() -> Ends
+    ensures { λ r. ⌜ r ≡ noEnds ⌝ }
 {
-    Three {
+    Ends {
         good: false,
         counter: 0,
         chain: 0,
@@ -121,25 +121,25 @@ fn no_three() -> Three
 }
 
 // Reads the three spelled fields, one after the other to the start of a buffer.
-fn read_three(spelling: Spelling, text: &[u8], m: Marks, out: &mut [u8]) -> Three
+fn read_fields(spelling: Spelling, text: &[u8], m: Marks, out: &mut [u8]) -> Ends
     requires { ⌜ AllThere m (now text) × (length (now out) ≡ longestFields) ⌝ }
     ensures { λ r. ⌜ EndsIn r (now (out .exit)) × (threeRead r (now (out .exit)) ≡ threeOf spelling (now (text .entry))) ⌝ }
 {
     let a = m.counter + 1;
     let b = m.serial;
     let Decoded::Upto(x) = decode_spelled(spelling, &text[a..b], out, 0) else {
-        return no_three();
+        return no_ends();
     };
     let c = m.chain + 1;
     let d = m.signature;
     let Decoded::Upto(y) = decode_spelled(spelling, &text[c..d], out, x) else {
-        return no_three();
+        return no_ends();
     };
-    let e = d + 1;
-    let Decoded::Upto(z) = decode_spelled(spelling, &text[e..], out, y) else {
-        return no_three();
+    let rest = d + 1;
+    let Decoded::Upto(z) = decode_spelled(spelling, &text[rest..], out, y) else {
+        return no_ends();
     };
-    Three {
+    Ends {
         good: true,
         counter: x,
         chain: y,
@@ -243,17 +243,17 @@ fn put_fields(spelling: Spelling, start: &[u8], counter: &[u8], serial: &[u8], c
 }
 
 // Writes the text of good fields, which stand in a text and in a buffer; answers `refused` if they are not good.
-fn put_good(spelling: Spelling, text: &[u8], m: Marks, bytes: &[u8], t: Three, out: &mut [u8], refused: u32) -> Answer
-    requires { ⌜ AllThere m (now text) × EndsIn t (now bytes) × (length (now bytes) ≤ longestFields) ⌝ }
-    ensures { λ r. let o : _ = Option·map (textIn spelling) (goodFields (fieldsAt m (now (text .entry)) t (now (bytes .entry)))) in
+fn put_good(spelling: Spelling, text: &[u8], m: Marks, bytes: &[u8], e: Ends, out: &mut [u8], refused: u32) -> Answer
+    requires { ⌜ AllThere m (now text) × EndsIn e (now bytes) × (length (now bytes) ≤ longestFields) ⌝ }
+    ensures { λ r. let o : _ = Option·map (textIn spelling) (goodFields (fieldsAt m (now (text .entry)) e (now (bytes .entry)))) in
         ⌜ (r ≡ answerWith refused o (now (out .entry))) × (now (out .exit) ≡ bufferWith o (now (out .entry))) ⌝ }
 {
     let a = m.counter;
     let b = m.serial + 1;
     let c = m.chain;
-    let x = t.counter;
-    let y = t.chain;
-    let z = t.signature;
+    let x = e.counter;
+    let y = e.chain;
+    let z = e.signature;
     let start = &text[0..a];
     let counter = &bytes[0..x];
     let serial = &text[b..c];
@@ -283,14 +283,14 @@ fn respell(from: Spelling, to: Spelling, text: &[u8], out: &mut [u8], refused: u
         };
     }
     let mut bytes = [0u8; LONGEST_FIELDS];
-    let t = read_three(from, text, m, &mut bytes);
-    if !t.good {
+    let e = read_fields(from, text, m, &mut bytes);
+    if !e.good {
         return Answer {
             number: refused,
             length: 0,
         };
     }
-    put_good(to, text, m, &bytes, t, out, refused)
+    put_good(to, text, m, &bytes, e, out, refused)
 }
 
 // Writes the line of a code to the start of the output. A code? 24. Twelve fields, canonical ones? 26. Output long enough? 23.

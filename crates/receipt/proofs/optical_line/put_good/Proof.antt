@@ -78,13 +78,13 @@ part-signature-end c = c .before .before .before .before .before .before .before
 
 -- src/optical_line.rt:263:9
 fields-good-requires : tie.Need-fields-good-requires
-fields-good-requires c κs = let start = c .before .before .before .before .before .before .before .before .before in (part-most 0 (start .args .t .counter) (start .args .bytes .now) (start .pre .2), part-most (start .args .t .counter) (start .args .t .chain) (start .args .bytes .now) (start .pre .2))
+fields-good-requires c κs = let start = c .before .before .before .before .before .before .before .before .before in (part-most 0 (start .args .e .counter) (start .args .bytes .now) (start .pre .2), part-most (start .args .e .counter) (start .args .e .chain) (start .args .bytes .now) (start .pre .2))
 
 -- src/optical_line.rt:264:9
 returns : tie.Need-returns
 returns c =
     let start = c .before .before .before .before .before .before .before .before .before .before .before in
-    put-none (start .args .spelling) (fieldsAt (start .args .m) (start .args .text .now) (start .args .t) (start .args .bytes .now)) (start .args .out .now) (start .args .refused) (c .before .fields-good .ensures) (c .if1 .taken)
+    put-none (start .args .spelling) (fieldsAt (start .args .m) (start .args .text .now) (start .args .e) (start .args .bytes .now)) (start .args .out .now) (start .args .refused) (c .before .fields-good .ensures) (c .if1 .taken)
 
 -- src/optical_line.rt:269:5
 put-fields-requires : tie.Need-put-fields-requires
@@ -98,7 +98,7 @@ same-length c = search needs
 returns-2 : tie.Need-returns-2
 returns-2 c =
     let start = c .before .before .before .before .before .before .before .before .before .before .before .before .before .before .before in
-    put-some (start .args .spelling) (fieldsAt (start .args .m) (start .args .text .now) (start .args .t) (start .args .bytes .now)) (start .args .out .now) (start .args .refused) (c .before .before .before .before .before .fields-good .ensures) (c .before .before .before .before .if1 .left) (c .before .before .put-fields .ensures)
+    put-some (start .args .spelling) (fieldsAt (start .args .m) (start .args .text .now) (start .args .e) (start .args .bytes .now)) (start .args .out .now) (start .args .refused) (c .before .before .before .before .before .fields-good .ensures) (c .before .before .before .before .if1 .left) (c .before .before .put-fields .ensures)
 
 pub put-good-spec : {M : Type 1} → statement M
 put-good-spec =

@@ -7,7 +7,7 @@ use Rattle.receipt.proofs.optical_line.respell.Reads as reads
 use Rattle.receipt.proofs.optical_line.respell.Lts as lts
 use Rattle.receipt.proofs.optical_line.marks_of.Reads as marks-of-reads
 use Rattle.receipt.proofs.optical_line.put_good.Reads as put-good-reads
-use Rattle.receipt.proofs.optical_line.read_three.Reads as read-three-reads
+use Rattle.receipt.proofs.optical_line.read_fields.Reads as read-fields-reads
 
 -- src/optical_line.rt:279:9
 marks-of-requires : tie.Need-marks-of-requires
@@ -20,18 +20,18 @@ returns c =
     no-marks (start .args .from) (start .args .to) (start .args .text .now) (start .args .out .now) (start .args .refused) (c .before .before .marks-of .ensures) (c .if1 .taken)
 
 -- src/optical_line.rt:287:39
-slice-aggregate-read-three : tie.Need-slice-aggregate-read-three
-slice-aggregate-read-three c = search needs
+slice-aggregate-read-fields : tie.Need-slice-aggregate-read-fields
+slice-aggregate-read-fields c = search needs
 
 -- src/optical_line.rt:287:9
-read-three-requires : tie.Need-read-three-requires
-read-three-requires c κs = (all-there (c .before .before .before .before .before .before .args .text .now) (c .before .before .before .marks-of .ensures) (c .before .if1 .left), search needs)
+read-fields-requires : tie.Need-read-fields-requires
+read-fields-requires c κs = (all-there (c .before .before .before .before .before .before .args .text .now) (c .before .before .before .marks-of .ensures) (c .before .if1 .left), search needs)
 
 -- src/optical_line.rt:289:9
 returns-2 : tie.Need-returns-2
 returns-2 c =
     let start = c .before .before .before .before .before .before .before .before .before .before in
-    let t = c .before .before .before .read-three in
+    let t = c .before .before .before .read-fields in
     no-fields (start .args .from) (start .args .to) (start .args .text .now) (start .args .out .now) (start .args .refused) (c .before .before .before .before .before .before .before .marks-of .ensures) (c .before .before .before .before .before .if1 .left)
     (t .result) (t .last .1 .1 .1 .0) (t .ensures .1) (c .if2 .taken)
 
@@ -42,7 +42,7 @@ slice-aggregate-put-good c = search needs
 -- src/optical_line.rt:294:5
 put-good-requires : tie.Need-put-good-requires
 put-good-requires c κs =
-    let t = c .before .before .before .before .before .read-three in (
+    let t = c .before .before .before .before .before .read-fields in (
       all-there (c .before .before .before .before .before .before .before .before .before .before .before .before .args .text .now) (c .before .before .before .before .before .before .before .before .before .marks-of .ensures) (c .before .before .before .before .before .before .before .if1 .left),
       t .ensures .0,
       search needs,
@@ -56,7 +56,7 @@ same-length c = search needs
 returns-3 : tie.Need-returns-3
 returns-3 c =
     let start = c .before .before .before .before .before .before .before .before .before .before .before .before .before .before .before in
-    let t = c .before .before .before .before .before .before .before .before .read-three in
+    let t = c .before .before .before .before .before .before .before .before .read-fields in
     some-fields (start .args .from) (start .args .to) (start .args .text .now) (start .args .out .now) (start .args .refused) (c .before .before .before .before .before .before .before .before .before .before .before .before .marks-of .ensures) (c .before .before .before .before .before .before .before .before .before .before .if1 .left)
     (t .result) (t .last .1 .1 .1 .0) (t .ensures .1) (c .before .before .before .before .before .if2 .left) (c .before .before .put-good .ensures)
 
@@ -66,8 +66,8 @@ respell-spec =
     (tie.spec
     marks-of-requires
     returns
-    slice-aggregate-read-three
-    read-three-requires
+    slice-aggregate-read-fields
+    read-fields-requires
     returns-2
     slice-aggregate-put-good
     put-good-requires
