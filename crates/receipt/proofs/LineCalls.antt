@@ -1,40 +1,39 @@
 -- What the functions of the optical line show at their returns, over plain lists.
 use Prim.Native.Nat.{ℕ, suc, _+_, _-_, _*_, _/_, _^_, _≤_, _<_}
-use mathlib.Core.Path.{_≡_, refl, sym, ap, _∙_, subst}
+use mathlib.Core.Path.{_≡_, refl, sym, ap, _∙_}
 use mathlib.Core.Bool.{Bool, true, false, cond, not, _&&_, and-true, and-false}
 use mathlib.Core.List.{List, [], _∷_, _++_, append-assoc}
-use mathlib.Core.Logic.{_⊎_, inl, inr, ⊎-elim}
+use mathlib.Core.Logic.{_⊎_, ⊎-elim}
 use mathlib.Core.Option.{Option, none, some, Option·map}
 use native.Mathlib.Numerals.{add-one}
 use native.Mathlib.Omega.{arith}
-use borrow.Author.Tests.{lt-ltb, le-ltb, ltb-true, ltb-false, le-leb, lt-leb, leb-true, leb-false, eq-eqb, ne-eqb, not-true, not-false}
+use borrow.Author.Tests.{lt-ltb, ltb-true, ltb-false, le-leb, lt-leb, leb-true, leb-false, eq-eqb, ne-eqb, not-true, not-false}
 use denote.Enum.Declared.{tagOf}
 use mir.Syntax.{w64}
 use mir.Val.{Fits}
 use lib.Dec.{ltb, leb, eqb}
 use lib.ListN.{length, getD, take, drop, length-append, length-take, length-drop, drop-of-length-le}
 use lib.Seq.{drop-cons, take-append-le, take-all, take-at, drop-at}
-use Rattle.primitives.specs.Place.{overwrite, placed, room, placeAfter}
+use Rattle.primitives.specs.Place.{overwrite, placed, placeAfter}
 use Rattle.primitives.specs.Bytes.{same}
 use Rattle.primitives.specs.Base64.{answerOf, bufferOf, encoding}
 use Rattle.primitives.specs.Base32.{encodedLength32}
 use Rattle.primitives.specs.Answers.{written, answerWith, bufferWith}
 use Rattle.primitives.specs.declared.answer.Answer.{Answer}
 use Rattle.primitives.specs.declared.base64.Decoded.{Decoded}
-use Rattle.primitives.specs.declared.base64.Decoded.the-variants.{Upto, Refused, NoRoom}
+use Rattle.primitives.specs.declared.base64.Decoded.the-variants.{Upto, NoRoom}
 use Rattle.primitives.specs.declared.base64.Alphabet.the-variants.{Standard}
 use Rattle.primitives.proofs.base64.Decoded.{the-type}
-use Rattle.primitives.proofs.Over.{placed-room, after-room, room-true, room-false, length-placed, length-over, then}
+use Rattle.primitives.proofs.Over.{placed-room, after-room, room-true, room-false, length-over, then}
 use Rattle.primitives.proofs.Answers.{written-room, written-full}
 use Rattle.primitives.proofs.Questions.{yes, no}
 use Rattle.primitives.proofs.Rows.{both}
 use Rattle.primitives.proofs.Base64Lengths.{length-encoding}
 use Rattle.primitives.proofs.Base32Laws.{length-encoding32, length32-most}
-use Rattle.receipt.specs.Payload.{longestPayload}
 use Rattle.receipt.specs.Texts.{beginning}
-use Rattle.receipt.specs.Form.{part, Parts, parts, payloadGood, signatureGood, partsGood}
+use Rattle.receipt.specs.Form.{part, parts, payloadGood, signatureGood, partsGood}
 use Rattle.receipt.specs.Code.{lastAt, partsOfCode}
-use Rattle.receipt.specs.FormReading.{short, found}
+use Rattle.receipt.specs.FormReading.{found}
 use Rattle.receipt.specs.Line.{spell, unspell, CodeFields, countOf, twelve, payloadIn, textIn, codeFieldsGood, signatureMark, chainMark, serialMark, counterMark, marksThere, goodFields, withFields, fieldsOf, refusalOf, lineAnswer, lineBuffer}
 use Rattle.receipt.specs.LineReading.{codeFields, fieldsAt, marked, marksOf, AllThere, EndsIn, ThreeFields, three, threeOf, threeRead, noEnds}
 use Rattle.receipt.specs.declared.optical_line.Spelling.{Spelling}
@@ -45,7 +44,7 @@ use Rattle.receipt.specs.declared.optical_line.Ends.{Ends}
 use Rattle.receipt.proofs.Finding.{last-most}
 use Rattle.receipt.proofs.CodeTexts.{good-payload, good-signature}
 use Rattle.receipt.proofs.CodeCalls.{has-room}
-use Rattle.receipt.proofs.FormCalls.{lent-front, lent-rest, put-next, decoded-upto}
+use Rattle.receipt.proofs.FormCalls.{lent-front, lent-rest, put-next}
 
 -- ---- the spelled fields
 
@@ -152,38 +151,37 @@ all-there {m} text e t =
       signature = ltb-true (signatureMark text) (length text) (b₁ .0);
     }
 
--- the parts between them lie in the text
+-- the parts between them lie in the text, and the places after them are numbers of the code
 pub record Places (m : Marks) (text : List ℕ) : Type 0 where
   pub counter : m .counter ≤ length text
   pub after-counter : m .counter + 1 ≤ m .serial
+  pub counter-fits : Fits w64 (m .counter + 1)
   pub serial : m .serial ≤ length text
   pub after-serial : m .serial + 1 ≤ m .chain
+  pub serial-fits : Fits w64 (m .serial + 1)
   pub chain : m .chain ≤ length text
   pub after-chain : m .chain + 1 ≤ m .signature
+  pub chain-fits : Fits w64 (m .chain + 1)
   pub signature : m .signature ≤ length text
   pub after-signature : m .signature + 1 ≤ length text
+  pub signature-fits : Fits w64 (m .signature + 1)
 
-pub places : {m : Marks} {text : List ℕ} → AllThere m text → Places m text
-places h =
+pub places : {m : Marks} (text : List ℕ) → AllThere m text → length text < 2 ^ 64 → Places m text
+places text h l =
     record {
       counter = omega arith;
       after-counter = omega arith;
+      counter-fits = omega arith;
       serial = omega arith;
       after-serial = omega arith;
+      serial-fits = omega arith;
       chain = omega arith;
       after-chain = omega arith;
+      chain-fits = omega arith;
       signature = omega arith;
       after-signature = omega arith;
+      signature-fits = omega arith;
     }
-
-pub next-fits : (x : ℕ) {n : ℕ} → x + 1 ≤ n → n < 2 ^ 64 → Fits w64 (x + 1)
-next-fits x h k = omega arith
-
-pub part-most : (a e : ℕ) (s : List ℕ) {n : ℕ} → length s ≤ n → length (part a e s) ≤ n
-part-most a e s h = omega (arith, length-take (e - a) (drop a s), length-drop a s)
-
-pub ends-in : {t : Ends} {buffer : List ℕ} → EndsIn t buffer → (t .counter ≤ length buffer) × (t .chain ≤ length buffer)
-ends-in h = (omega arith, omega arith)
 
 -- ---- the three spelled fields
 
@@ -590,6 +588,13 @@ module _ (s : Spelling) (f : CodeFields) (out : List ℕ) (n : ℕ) (long : n �
       put-fields {o₄} e₄ =
           let w : o₄ ≡ overwrite out 0 (m₁ ++ (95 ∷ []) ++ m₂ ++ m₃) = then out (m₁ ++ (95 ∷ []) ++ m₂) m₃ 0 q second e₄ (omega (arith, place₃, second-long)) (omega (arith, sum, second-long)) in
           has-room out (textIn s f) n (sym long) h (w ∙ ap (overwrite out 0) (sym (text-parts s f)))
+
+-- the parts of the buffer lie in it
+pub part-most : (a e : ℕ) (s : List ℕ) {n : ℕ} → length s ≤ n → length (part a e s) ≤ n
+part-most a e s h = omega (arith, length-take (e - a) (drop a s), length-drop a s)
+
+pub ends-in : {t : Ends} {buffer : List ℕ} → EndsIn t buffer → (t .counter ≤ length buffer) × (t .chain ≤ length buffer)
+ends-in h = (omega arith, omega arith)
 
 -- the answer to good fields, and to others
 module _ (s : Spelling) (f : CodeFields) (out : List ℕ) (refused : ℕ) {g : Bool} (e : g ≡ codeFieldsGood f) where

@@ -5,7 +5,7 @@ use mathlib.Core.List.{List, [], _∷_, _++_}
 use mathlib.Core.Option.{Option, none, some}
 use mathlib.Core.Path.{_≡_}
 use lib.Dec.{leb}
-use lib.ListN.{length, take, drop}
+use lib.ListN.{length, drop}
 use Rattle.receipt.specs.Texts.{separator}
 use Rattle.receipt.specs.Payload.{longestPayload}
 use Rattle.receipt.specs.Form.{part}
