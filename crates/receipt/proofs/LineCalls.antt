@@ -46,6 +46,10 @@ use Rattle.receipt.proofs.CodeTexts.{good-payload, good-signature}
 use Rattle.receipt.proofs.CodeCalls.{has-room}
 use Rattle.receipt.proofs.FormCalls.{lent-front, lent-rest, put-next}
 
+-- what a call answers and leaves in the output, if it is refused with n or has a text to write
+abbrev Answers : ℕ → Option (List ℕ) → List ℕ → Answer → List ℕ → Type 0
+Answers n o out a out′ = (a ≡ answerWith n o out) × (out′ ≡ bufferWith o out)
+
 -- ---- the spelled fields
 
 -- the match on the spelling
@@ -151,7 +155,7 @@ all-there {m} text e t =
       signature = ltb-true (signatureMark text) (length text) (b₁ .0);
     }
 
--- the parts between them lie in the text, and the places after them are numbers of the code
+-- the parts between them lie in the text, and the places after them fit a usize
 pub record Places (m : Marks) (text : List ℕ) : Type 0 where
   pub counter : m .counter ≤ length text
   pub after-counter : m .counter + 1 ≤ m .serial
@@ -460,9 +464,6 @@ module _ (f : CodeFields) where
       record { start = omega arith; spelled = omega arith; serial = omega arith; signature = good-signature p b }
 
 module _ (start counter serial chain signature : List ℕ) where
-  f : CodeFields
-  f = codeFields start counter serial chain signature
-
   -- the questions in their row
   pub not-nine : {n : ℕ} → n ≡ countOf 95 start → (n ≡ 9 → ⊥) → false ≡ codeFieldsGood (codeFields start counter serial chain signature)
   unfolding codeFieldsGood twelve
@@ -495,7 +496,7 @@ module _ (start counter serial chain signature : List ℕ) where
 -- ---- writing
 
 module _ (s : Spelling) (f : CodeFields) where
-  pub length-text : length (textIn s f) ≡ length (f .start) + length (spell s (f .counter)) + length (f .serial) + length (spell s (f .chain)) + length (spell s (f .signature)) + 4
+  length-text : length (textIn s f) ≡ length (f .start) + length (spell s (f .counter)) + length (f .serial) + length (spell s (f .chain)) + length (spell s (f .signature)) + 4
   unfolding textIn payloadIn
   length-text = simp length-append (omega arith)
 
@@ -508,7 +509,7 @@ module _ (s : Spelling) (f : CodeFields) where
   unfolding textIn payloadIn
   text-parts = simp append-assoc
 
-pub length-marked : (s : Spelling) (front xs : List ℕ) → length (marked s front xs) ≡ length front + length (spell s xs) + 1
+length-marked : (s : Spelling) (front xs : List ℕ) → length (marked s front xs) ≡ length front + length (spell s xs) + 1
 length-marked s front xs = simp length-append (omega arith)
 
 module _ (s : Spelling) (front xs out : List ℕ) (at : ℕ) (h : at + length (marked s front xs) ≤ length out) {r : ℕ} {o₁ o₂ o₃ : List ℕ} where
@@ -593,16 +594,16 @@ module _ (s : Spelling) (f : CodeFields) (out : List ℕ) (n : ℕ) (long : n �
 pub part-most : (a e : ℕ) (s : List ℕ) {n : ℕ} → length s ≤ n → length (part a e s) ≤ n
 part-most a e s h = omega (arith, length-take (e - a) (drop a s), length-drop a s)
 
-pub ends-in : {t : Ends} {buffer : List ℕ} → EndsIn t buffer → (t .counter ≤ length buffer) × (t .chain ≤ length buffer)
+pub ends-in : {e : Ends} {buffer : List ℕ} → EndsIn e buffer → (e .counter ≤ length buffer) × (e .chain ≤ length buffer)
 ends-in h = (omega arith, omega arith)
 
 -- the answer to good fields, and to others
 module _ (s : Spelling) (f : CodeFields) (out : List ℕ) (refused : ℕ) {g : Bool} (e : g ≡ codeFieldsGood f) where
-  pub put-none : not g ≡ true → (record { number = refused; length = 0 } ≡ answerWith refused (Option·map (textIn s) (goodFields f)) out) × (out ≡ bufferWith (Option·map (textIn s) (goodFields f)) out)
+  pub put-none : not g ≡ true → Answers refused (Option·map (textIn s) (goodFields f)) out (record { number = refused; length = 0 }) out
   put-none t = (rw (no e t), rw (no e t))
 
   pub put-some : {a : Answer} {out′ : List ℕ} → not g ≡ false → (a ≡ written out (textIn s f)) × (out′ ≡ placed out 0 (textIn s f))
-      → (a ≡ answerWith refused (Option·map (textIn s) (goodFields f)) out) × (out′ ≡ bufferWith (Option·map (textIn s) (goodFields f)) out)
+      → Answers refused (Option·map (textIn s) (goodFields f)) out a out′
   put-some t h = rw (yes e t) h
 
 -- ---- respelling
@@ -630,34 +631,34 @@ fit-fields start serial (some x) (some y) (some z) = go (leb (length x + length 
     go false q = rw (bad (leb-false (length x + length y + length z) 259 q) (codeFieldsGood (codeFields start x serial y z)) refl)
 
 module _ (from to : Spelling) (text out : List ℕ) (refused : ℕ) {m : Marks} (is : m ≡ marksOf text) where
-  pub no-marks : not (m .there) ≡ true → (record { number = refused; length = 0 } ≡ answerWith refused (Option·map (textIn to) (fieldsOf from text)) out) × (out ≡ bufferWith (Option·map (textIn to) (fieldsOf from text)) out)
+  pub no-marks : not (m .there) ≡ true → Answers refused (Option·map (textIn to) (fieldsOf from text)) out (record { number = refused; length = 0 }) out
   unfolding fieldsOf
   no-marks t =
       let g : marksThere text ≡ false = ap (λ (k : Marks). k .there) (sym is) ∙ not-true (m .there) t in
       (rw g, rw g)
 
-  module _ (there : not (m .there) ≡ false) (t : Ends) (buffer : List ℕ) (e : threeRead t buffer ≡ threeOf from text) where
-    fields-are : fieldsOf from text ≡ after (take (counterMark text) text) (part (serialMark text + 1) (chainMark text) text) (threeRead t buffer)
+  module _ (there : not (m .there) ≡ false) (e : Ends) (buffer : List ℕ) (is-three : threeRead e buffer ≡ threeOf from text) where
+    fields-are : fieldsOf from text ≡ after (take (counterMark text) text) (part (serialMark text + 1) (chainMark text) text) (threeRead e buffer)
     unfolding fieldsOf threeOf
     fields-are =
         let g : marksThere text ≡ true = ap (λ (k : Marks). k .there) (sym is) ∙ not-false (m .there) there in
-        rw (g, e)
+        rw (g, is-three)
         (fit-fields (take (counterMark text) text) (part (serialMark text + 1) (chainMark text) text)
         (unspell from (part (counterMark text + 1) (serialMark text) text)) (unspell from (part (chainMark text + 1) (signatureMark text) text)) (unspell from (drop (signatureMark text + 1) text)))
 
-    pub no-fields : not (t .good) ≡ true → (record { number = refused; length = 0 } ≡ answerWith refused (Option·map (textIn to) (fieldsOf from text)) out) × (out ≡ bufferWith (Option·map (textIn to) (fieldsOf from text)) out)
+    pub no-fields : not (e .good) ≡ true → Answers refused (Option·map (textIn to) (fieldsOf from text)) out (record { number = refused; length = 0 }) out
     unfolding threeRead after
     no-fields u =
-        let q : fieldsOf from text ≡ none = rw (not-true (t .good) u) at fields-are in
+        let q : fieldsOf from text ≡ none = rw (not-true (e .good) u) at fields-are in
         (rw q, rw q)
 
-    are-found : not (t .good) ≡ false → fieldsOf from text ≡ goodFields (fieldsAt m text t buffer)
+    are-found : not (e .good) ≡ false → fieldsOf from text ≡ goodFields (fieldsAt m text e buffer)
     unfolding threeRead after
-    are-found u = rw (lent-front text (m .counter), is) (rw (not-false (t .good) u) at fields-are)
+    are-found u = rw (lent-front text (m .counter), is) (rw (not-false (e .good) u) at fields-are)
 
-    pub some-fields : {a : Answer} {out′ : List ℕ} → not (t .good) ≡ false
-        → (a ≡ answerWith refused (Option·map (textIn to) (goodFields (fieldsAt m text t buffer))) out) × (out′ ≡ bufferWith (Option·map (textIn to) (goodFields (fieldsAt m text t buffer))) out)
-        → (a ≡ answerWith refused (Option·map (textIn to) (fieldsOf from text)) out) × (out′ ≡ bufferWith (Option·map (textIn to) (fieldsOf from text)) out)
+    pub some-fields : {a : Answer} {out′ : List ℕ} → not (e .good) ≡ false
+        → Answers refused (Option·map (textIn to) (goodFields (fieldsAt m text e buffer))) out a out′
+        → Answers refused (Option·map (textIn to) (fieldsOf from text)) out a out′
     some-fields u h = rw (are-found u) h
 
 -- ---- the calls
@@ -680,10 +681,7 @@ no-text (some text) out {a} e h = go (leb (length text) (length out)) refl
         absurd (omega (arith, ap (λ (b : Answer). b .number) w))
 
 module _ (code out : List ℕ) {a : Answer} {out′ : List ℕ}
-    (h : (a ≡ answerWith 26 (Option·map (textIn Base32) (fieldsOf Base64 code)) out) × (out′ ≡ bufferWith (Option·map (textIn Base32) (fieldsOf Base64 code)) out)) where
-  o : Option (List ℕ)
-  o = Option·map (textIn Base32) (fieldsOf Base64 code)
-
+    (h : Answers 26 (Option·map (textIn Base32) (fieldsOf Base64 code)) out a out′) where
   pub line-answered : (a .number ≡ 26 → ⊥) → (a ≡ lineAnswer code out) × (out′ ≡ lineBuffer code out)
   unfolding lineAnswer lineBuffer
   line-answered n = (keeps 26 (refusalOf (partsOfCode code)) (Option·map (textIn Base32) (fieldsOf Base64 code)) out (h .0) n, h .1)

@@ -29,7 +29,7 @@ marked s front xs = front ++ (separator ∷ []) ++ spell s xs
 
 -- ---- reading
 
--- the last four "_" of a text
+-- the last four "_" of a text, and whether all are there
 abbrev pub marksOf : List ℕ → Marks
 marksOf text =
     record {
@@ -40,7 +40,7 @@ marksOf text =
       signature = signatureMark text;
     }
 
--- and all of them are there
+-- all are there, in their order
 pub record AllThere (m : Marks) (text : List ℕ) : Type 0 where
   pub is : m ≡ marksOf text
   pub counter : m .counter < m .serial
@@ -54,14 +54,14 @@ pub record ThreeFields : Type 0 where
   pub chain : List ℕ
   pub signature : List ℕ
 
--- if all are given, and fit a buffer together
+-- if all are given and fit the buffer
 abbrev pub three : Option (List ℕ) → Option (List ℕ) → Option (List ℕ) → Option ThreeFields
 three (some x) (some y) (some z) = cond (leb (length x + length y + length z) longestFields) (some (record { counter = x; chain = y; signature = z })) none
 three (some x) (some y) none = none
 three (some x) none z = none
 three none y z = none
 
--- of a text
+-- those of a text
 unfoldable pub threeOf : Spelling → List ℕ → Option ThreeFields
 threeOf s text =
     three (unspell s (part (counterMark text + 1) (serialMark text) text)) (unspell s (part (chainMark text + 1) (signatureMark text) text))
@@ -74,7 +74,7 @@ threeRead e buffer =
     (some (record { counter = part 0 (e .counter) buffer; chain = part (e .counter) (e .chain) buffer; signature = part (e .chain) (e .signature) buffer }))
     none
 
--- which is long enough for them
+-- each ends after the one before it, in the buffer
 pub record EndsIn (e : Ends) (buffer : List ℕ) : Type 0 where
   pub counter : e .counter ≤ e .chain
   pub chain : e .chain ≤ e .signature
