@@ -1,51 +1,54 @@
 -- What the functions of the optical line show at their returns, over plain lists.
 use Prim.Native.Nat.{ℕ, suc, _+_, _-_, _*_, _/_, _^_, _≤_, _<_}
-use mathlib.Core.Path.{_≡_, refl, sym, ap, _∙_, subst}
+use mathlib.Core.Path.{_≡_, refl, sym, ap, _∙_}
 use mathlib.Core.Bool.{Bool, true, false, cond, not, _&&_, and-true, and-false}
 use mathlib.Core.List.{List, [], _∷_, _++_, append-assoc}
-use mathlib.Core.Logic.{_⊎_, inl, inr, ⊎-elim}
+use mathlib.Core.Logic.{_⊎_, ⊎-elim}
 use mathlib.Core.Option.{Option, none, some, Option·map}
 use native.Mathlib.Numerals.{add-one}
 use native.Mathlib.Omega.{arith}
-use borrow.Author.Tests.{lt-ltb, le-ltb, ltb-true, ltb-false, le-leb, lt-leb, leb-true, leb-false, eq-eqb, ne-eqb, not-true, not-false}
+use borrow.Author.Tests.{lt-ltb, ltb-true, ltb-false, le-leb, lt-leb, leb-true, leb-false, eq-eqb, ne-eqb, not-true, not-false}
 use denote.Enum.Declared.{tagOf}
 use mir.Syntax.{w64}
 use mir.Val.{Fits}
 use lib.Dec.{ltb, leb, eqb}
 use lib.ListN.{length, getD, take, drop, length-append, length-take, length-drop, drop-of-length-le}
 use lib.Seq.{drop-cons, take-append-le, take-all, take-at, drop-at}
-use Rattle.primitives.specs.Place.{overwrite, placed, room, placeAfter}
+use Rattle.primitives.specs.Place.{overwrite, placed, placeAfter}
 use Rattle.primitives.specs.Bytes.{same}
 use Rattle.primitives.specs.Base64.{answerOf, bufferOf, encoding}
 use Rattle.primitives.specs.Base32.{encodedLength32}
 use Rattle.primitives.specs.Answers.{written, answerWith, bufferWith}
 use Rattle.primitives.specs.declared.answer.Answer.{Answer}
 use Rattle.primitives.specs.declared.base64.Decoded.{Decoded}
-use Rattle.primitives.specs.declared.base64.Decoded.the-variants.{Upto, Refused, NoRoom}
+use Rattle.primitives.specs.declared.base64.Decoded.the-variants.{Upto, NoRoom}
 use Rattle.primitives.specs.declared.base64.Alphabet.the-variants.{Standard}
 use Rattle.primitives.proofs.base64.Decoded.{the-type}
-use Rattle.primitives.proofs.Over.{placed-room, after-room, room-true, room-false, length-placed, length-over, then}
+use Rattle.primitives.proofs.Over.{placed-room, after-room, room-true, room-false, length-over, then}
 use Rattle.primitives.proofs.Answers.{written-room, written-full}
 use Rattle.primitives.proofs.Questions.{yes, no}
 use Rattle.primitives.proofs.Rows.{both}
 use Rattle.primitives.proofs.Base64Lengths.{length-encoding}
 use Rattle.primitives.proofs.Base32Laws.{length-encoding32, length32-most}
-use Rattle.receipt.specs.Payload.{longestPayload}
 use Rattle.receipt.specs.Texts.{beginning}
-use Rattle.receipt.specs.Form.{part, Parts, parts, payloadGood, signatureGood, partsGood}
+use Rattle.receipt.specs.Form.{part, parts, payloadGood, signatureGood, partsGood}
 use Rattle.receipt.specs.Code.{lastAt, partsOfCode}
-use Rattle.receipt.specs.FormReading.{short, found}
+use Rattle.receipt.specs.FormReading.{found}
 use Rattle.receipt.specs.Line.{spell, unspell, CodeFields, countOf, twelve, payloadIn, textIn, codeFieldsGood, signatureMark, chainMark, serialMark, counterMark, marksThere, goodFields, withFields, fieldsOf, refusalOf, lineAnswer, lineBuffer}
-use Rattle.receipt.specs.LineReading.{codeFields, fieldsAt, marked, marksOf, AllThere, EndsIn, ThreeFields, three, threeOf, threeRead, noThree}
+use Rattle.receipt.specs.LineReading.{codeFields, fieldsAt, marked, marksOf, AllThere, EndsIn, ThreeFields, three, threeOf, threeRead, noEnds}
 use Rattle.receipt.specs.declared.optical_line.Spelling.{Spelling}
 use Rattle.receipt.specs.declared.optical_line.Spelling.the-variants.{Base64, Base32}
 use Rattle.receipt.specs.declared.form.Reading.{Reading}
 use Rattle.receipt.specs.declared.optical_line.Marks.{Marks}
-use Rattle.receipt.specs.declared.optical_line.Three.{Three}
+use Rattle.receipt.specs.declared.optical_line.Ends.{Ends}
 use Rattle.receipt.proofs.Finding.{last-most}
 use Rattle.receipt.proofs.CodeTexts.{good-payload, good-signature}
 use Rattle.receipt.proofs.CodeCalls.{has-room}
-use Rattle.receipt.proofs.FormCalls.{lent-front, lent-rest, put-next, decoded-upto}
+use Rattle.receipt.proofs.FormCalls.{lent-front, lent-rest, put-next}
+
+-- what a call answers and leaves in the output, if it is refused with n or has a text to write
+abbrev Answers : ℕ → Option (List ℕ) → List ℕ → Answer → List ℕ → Type 0
+Answers n o out a out′ = (a ≡ answerWith n o out) × (out′ ≡ bufferWith o out)
 
 -- ---- the spelled fields
 
@@ -152,38 +155,37 @@ all-there {m} text e t =
       signature = ltb-true (signatureMark text) (length text) (b₁ .0);
     }
 
--- the parts between them lie in the text
+-- the parts between them lie in the text, and the places after them fit a usize
 pub record Places (m : Marks) (text : List ℕ) : Type 0 where
   pub counter : m .counter ≤ length text
   pub after-counter : m .counter + 1 ≤ m .serial
+  pub counter-fits : Fits w64 (m .counter + 1)
   pub serial : m .serial ≤ length text
   pub after-serial : m .serial + 1 ≤ m .chain
+  pub serial-fits : Fits w64 (m .serial + 1)
   pub chain : m .chain ≤ length text
   pub after-chain : m .chain + 1 ≤ m .signature
+  pub chain-fits : Fits w64 (m .chain + 1)
   pub signature : m .signature ≤ length text
   pub after-signature : m .signature + 1 ≤ length text
+  pub signature-fits : Fits w64 (m .signature + 1)
 
-pub places : {m : Marks} {text : List ℕ} → AllThere m text → Places m text
-places h =
+pub places : {m : Marks} (text : List ℕ) → AllThere m text → length text < 2 ^ 64 → Places m text
+places text h l =
     record {
       counter = omega arith;
       after-counter = omega arith;
+      counter-fits = omega arith;
       serial = omega arith;
       after-serial = omega arith;
+      serial-fits = omega arith;
       chain = omega arith;
       after-chain = omega arith;
+      chain-fits = omega arith;
       signature = omega arith;
       after-signature = omega arith;
+      signature-fits = omega arith;
     }
-
-pub next-fits : (x : ℕ) {n : ℕ} → x + 1 ≤ n → n < 2 ^ 64 → Fits w64 (x + 1)
-next-fits x h k = omega arith
-
-pub part-most : (a e : ℕ) (s : List ℕ) {n : ℕ} → length s ≤ n → length (part a e s) ≤ n
-part-most a e s h = omega (arith, length-take (e - a) (drop a s), length-drop a s)
-
-pub ends-in : {t : Three} {buffer : List ℕ} → EndsIn t buffer → (t .counter ≤ length buffer) × (t .chain ≤ length buffer)
-ends-in h = (omega arith, omega arith)
 
 -- ---- the three spelled fields
 
@@ -251,10 +253,10 @@ module _ (x y z rest : List ℕ) (n₁ n₂ n₃ : ℕ) (e₁ : n₁ ≡ length 
       ap (part n₂ n₃) (append-assoc (x ++ y) z rest)
       ∙ ap (take (n₃ - n₂)) (drop-at (x ++ y) (z ++ rest) n₂ (omega (arith, length-append x y))) ∙ take-at z rest (n₃ - n₂) (omega arith)
 
-pub three-none : {r : Three} (buffer : List ℕ) {o : Option ThreeFields} → r ≡ noThree → none ≡ o
+pub ends-none : {r : Ends} (buffer : List ℕ) {o : Option ThreeFields} → r ≡ noEnds → none ≡ o
     → EndsIn r buffer × (threeRead r buffer ≡ o)
 unfolding threeRead
-three-none buffer e n = rw e (record { counter = omega arith; chain = omega arith; signature = omega arith }, n)
+ends-none buffer e n = rw e (record { counter = omega arith; chain = omega arith; signature = omega arith }, n)
 
 module _ (s : Spelling) (text : List ℕ) (m : Marks) (is : m ≡ marksOf text) (out : List ℕ) (l : length out ≡ 259) where
   abbrev o₁ : Option (List ℕ)
@@ -462,9 +464,6 @@ module _ (f : CodeFields) where
       record { start = omega arith; spelled = omega arith; serial = omega arith; signature = good-signature p b }
 
 module _ (start counter serial chain signature : List ℕ) where
-  f : CodeFields
-  f = codeFields start counter serial chain signature
-
   -- the questions in their row
   pub not-nine : {n : ℕ} → n ≡ countOf 95 start → (n ≡ 9 → ⊥) → false ≡ codeFieldsGood (codeFields start counter serial chain signature)
   unfolding codeFieldsGood twelve
@@ -497,7 +496,7 @@ module _ (start counter serial chain signature : List ℕ) where
 -- ---- writing
 
 module _ (s : Spelling) (f : CodeFields) where
-  pub length-text : length (textIn s f) ≡ length (f .start) + length (spell s (f .counter)) + length (f .serial) + length (spell s (f .chain)) + length (spell s (f .signature)) + 4
+  length-text : length (textIn s f) ≡ length (f .start) + length (spell s (f .counter)) + length (f .serial) + length (spell s (f .chain)) + length (spell s (f .signature)) + 4
   unfolding textIn payloadIn
   length-text = simp length-append (omega arith)
 
@@ -510,7 +509,7 @@ module _ (s : Spelling) (f : CodeFields) where
   unfolding textIn payloadIn
   text-parts = simp append-assoc
 
-pub length-marked : (s : Spelling) (front xs : List ℕ) → length (marked s front xs) ≡ length front + length (spell s xs) + 1
+length-marked : (s : Spelling) (front xs : List ℕ) → length (marked s front xs) ≡ length front + length (spell s xs) + 1
 length-marked s front xs = simp length-append (omega arith)
 
 module _ (s : Spelling) (front xs out : List ℕ) (at : ℕ) (h : at + length (marked s front xs) ≤ length out) {r : ℕ} {o₁ o₂ o₃ : List ℕ} where
@@ -591,13 +590,20 @@ module _ (s : Spelling) (f : CodeFields) (out : List ℕ) (n : ℕ) (long : n �
           let w : o₄ ≡ overwrite out 0 (m₁ ++ (95 ∷ []) ++ m₂ ++ m₃) = then out (m₁ ++ (95 ∷ []) ++ m₂) m₃ 0 q second e₄ (omega (arith, place₃, second-long)) (omega (arith, sum, second-long)) in
           has-room out (textIn s f) n (sym long) h (w ∙ ap (overwrite out 0) (sym (text-parts s f)))
 
+-- the parts of the buffer lie in it
+pub part-most : (a e : ℕ) (s : List ℕ) {n : ℕ} → length s ≤ n → length (part a e s) ≤ n
+part-most a e s h = omega (arith, length-take (e - a) (drop a s), length-drop a s)
+
+pub ends-in : {e : Ends} {buffer : List ℕ} → EndsIn e buffer → (e .counter ≤ length buffer) × (e .chain ≤ length buffer)
+ends-in h = (omega arith, omega arith)
+
 -- the answer to good fields, and to others
 module _ (s : Spelling) (f : CodeFields) (out : List ℕ) (refused : ℕ) {g : Bool} (e : g ≡ codeFieldsGood f) where
-  pub put-none : not g ≡ true → (record { number = refused; length = 0 } ≡ answerWith refused (Option·map (textIn s) (goodFields f)) out) × (out ≡ bufferWith (Option·map (textIn s) (goodFields f)) out)
+  pub put-none : not g ≡ true → Answers refused (Option·map (textIn s) (goodFields f)) out (record { number = refused; length = 0 }) out
   put-none t = (rw (no e t), rw (no e t))
 
   pub put-some : {a : Answer} {out′ : List ℕ} → not g ≡ false → (a ≡ written out (textIn s f)) × (out′ ≡ placed out 0 (textIn s f))
-      → (a ≡ answerWith refused (Option·map (textIn s) (goodFields f)) out) × (out′ ≡ bufferWith (Option·map (textIn s) (goodFields f)) out)
+      → Answers refused (Option·map (textIn s) (goodFields f)) out a out′
   put-some t h = rw (yes e t) h
 
 -- ---- respelling
@@ -625,34 +631,34 @@ fit-fields start serial (some x) (some y) (some z) = go (leb (length x + length 
     go false q = rw (bad (leb-false (length x + length y + length z) 259 q) (codeFieldsGood (codeFields start x serial y z)) refl)
 
 module _ (from to : Spelling) (text out : List ℕ) (refused : ℕ) {m : Marks} (is : m ≡ marksOf text) where
-  pub no-marks : not (m .there) ≡ true → (record { number = refused; length = 0 } ≡ answerWith refused (Option·map (textIn to) (fieldsOf from text)) out) × (out ≡ bufferWith (Option·map (textIn to) (fieldsOf from text)) out)
+  pub no-marks : not (m .there) ≡ true → Answers refused (Option·map (textIn to) (fieldsOf from text)) out (record { number = refused; length = 0 }) out
   unfolding fieldsOf
   no-marks t =
       let g : marksThere text ≡ false = ap (λ (k : Marks). k .there) (sym is) ∙ not-true (m .there) t in
       (rw g, rw g)
 
-  module _ (there : not (m .there) ≡ false) (t : Three) (buffer : List ℕ) (e : threeRead t buffer ≡ threeOf from text) where
-    fields-are : fieldsOf from text ≡ after (take (counterMark text) text) (part (serialMark text + 1) (chainMark text) text) (threeRead t buffer)
+  module _ (there : not (m .there) ≡ false) (e : Ends) (buffer : List ℕ) (is-three : threeRead e buffer ≡ threeOf from text) where
+    fields-are : fieldsOf from text ≡ after (take (counterMark text) text) (part (serialMark text + 1) (chainMark text) text) (threeRead e buffer)
     unfolding fieldsOf threeOf
     fields-are =
         let g : marksThere text ≡ true = ap (λ (k : Marks). k .there) (sym is) ∙ not-false (m .there) there in
-        rw (g, e)
+        rw (g, is-three)
         (fit-fields (take (counterMark text) text) (part (serialMark text + 1) (chainMark text) text)
         (unspell from (part (counterMark text + 1) (serialMark text) text)) (unspell from (part (chainMark text + 1) (signatureMark text) text)) (unspell from (drop (signatureMark text + 1) text)))
 
-    pub no-fields : not (t .good) ≡ true → (record { number = refused; length = 0 } ≡ answerWith refused (Option·map (textIn to) (fieldsOf from text)) out) × (out ≡ bufferWith (Option·map (textIn to) (fieldsOf from text)) out)
+    pub no-fields : not (e .good) ≡ true → Answers refused (Option·map (textIn to) (fieldsOf from text)) out (record { number = refused; length = 0 }) out
     unfolding threeRead after
     no-fields u =
-        let q : fieldsOf from text ≡ none = rw (not-true (t .good) u) at fields-are in
+        let q : fieldsOf from text ≡ none = rw (not-true (e .good) u) at fields-are in
         (rw q, rw q)
 
-    are-found : not (t .good) ≡ false → fieldsOf from text ≡ goodFields (fieldsAt m text t buffer)
+    are-found : not (e .good) ≡ false → fieldsOf from text ≡ goodFields (fieldsAt m text e buffer)
     unfolding threeRead after
-    are-found u = rw (lent-front text (m .counter), is) (rw (not-false (t .good) u) at fields-are)
+    are-found u = rw (lent-front text (m .counter), is) (rw (not-false (e .good) u) at fields-are)
 
-    pub some-fields : {a : Answer} {out′ : List ℕ} → not (t .good) ≡ false
-        → (a ≡ answerWith refused (Option·map (textIn to) (goodFields (fieldsAt m text t buffer))) out) × (out′ ≡ bufferWith (Option·map (textIn to) (goodFields (fieldsAt m text t buffer))) out)
-        → (a ≡ answerWith refused (Option·map (textIn to) (fieldsOf from text)) out) × (out′ ≡ bufferWith (Option·map (textIn to) (fieldsOf from text)) out)
+    pub some-fields : {a : Answer} {out′ : List ℕ} → not (e .good) ≡ false
+        → Answers refused (Option·map (textIn to) (goodFields (fieldsAt m text e buffer))) out a out′
+        → Answers refused (Option·map (textIn to) (fieldsOf from text)) out a out′
     some-fields u h = rw (are-found u) h
 
 -- ---- the calls
@@ -675,10 +681,7 @@ no-text (some text) out {a} e h = go (leb (length text) (length out)) refl
         absurd (omega (arith, ap (λ (b : Answer). b .number) w))
 
 module _ (code out : List ℕ) {a : Answer} {out′ : List ℕ}
-    (h : (a ≡ answerWith 26 (Option·map (textIn Base32) (fieldsOf Base64 code)) out) × (out′ ≡ bufferWith (Option·map (textIn Base32) (fieldsOf Base64 code)) out)) where
-  o : Option (List ℕ)
-  o = Option·map (textIn Base32) (fieldsOf Base64 code)
-
+    (h : Answers 26 (Option·map (textIn Base32) (fieldsOf Base64 code)) out a out′) where
   pub line-answered : (a .number ≡ 26 → ⊥) → (a ≡ lineAnswer code out) × (out′ ≡ lineBuffer code out)
   unfolding lineAnswer lineBuffer
   line-answered n = (keeps 26 (refusalOf (partsOfCode code)) (Option·map (textIn Base32) (fieldsOf Base64 code)) out (h .0) n, h .1)

@@ -5,14 +5,14 @@ use mathlib.Core.List.{List, [], _∷_, _++_}
 use mathlib.Core.Option.{Option, none, some}
 use mathlib.Core.Path.{_≡_}
 use lib.Dec.{leb}
-use lib.ListN.{length, take, drop}
+use lib.ListN.{length, drop}
 use Rattle.receipt.specs.Texts.{separator}
 use Rattle.receipt.specs.Payload.{longestPayload}
 use Rattle.receipt.specs.Form.{part}
 use Rattle.receipt.specs.Line.{spell, unspell, CodeFields, counterMark, serialMark, chainMark, signatureMark, marksThere}
 use Rattle.receipt.specs.declared.optical_line.Spelling.{Spelling}
 use Rattle.receipt.specs.declared.optical_line.Marks.{Marks}
-use Rattle.receipt.specs.declared.optical_line.Three.{Three}
+use Rattle.receipt.specs.declared.optical_line.Ends.{Ends}
 
 -- the most bytes of the three spelled fields together: counter and chain are shorter than the payload
 abbrev pub longestFields : ℕ
@@ -29,7 +29,7 @@ marked s front xs = front ++ (separator ∷ []) ++ spell s xs
 
 -- ---- reading
 
--- the last four "_" of a text
+-- the last four "_" of a text, and whether all are there
 abbrev pub marksOf : List ℕ → Marks
 marksOf text =
     record {
@@ -40,7 +40,7 @@ marksOf text =
       signature = signatureMark text;
     }
 
--- and all of them are there
+-- all are there, in their order
 pub record AllThere (m : Marks) (text : List ℕ) : Type 0 where
   pub is : m ≡ marksOf text
   pub counter : m .counter < m .serial
@@ -54,37 +54,37 @@ pub record ThreeFields : Type 0 where
   pub chain : List ℕ
   pub signature : List ℕ
 
--- if all are given, and fit a buffer together
+-- if all are given and fit the buffer
 abbrev pub three : Option (List ℕ) → Option (List ℕ) → Option (List ℕ) → Option ThreeFields
 three (some x) (some y) (some z) = cond (leb (length x + length y + length z) longestFields) (some (record { counter = x; chain = y; signature = z })) none
 three (some x) (some y) none = none
 three (some x) none z = none
 three none y z = none
 
--- of a text
+-- those of a text
 unfoldable pub threeOf : Spelling → List ℕ → Option ThreeFields
 threeOf s text =
     three (unspell s (part (counterMark text + 1) (serialMark text) text)) (unspell s (part (chainMark text + 1) (signatureMark text) text))
     (unspell s (drop (signatureMark text + 1) text))
 
 -- where a reader put them: one after the other at the start of a buffer
-unfoldable pub threeRead : Three → List ℕ → Option ThreeFields
-threeRead t buffer =
-    cond (t .good)
-    (some (record { counter = part 0 (t .counter) buffer; chain = part (t .counter) (t .chain) buffer; signature = part (t .chain) (t .signature) buffer }))
+unfoldable pub threeRead : Ends → List ℕ → Option ThreeFields
+threeRead e buffer =
+    cond (e .good)
+    (some (record { counter = part 0 (e .counter) buffer; chain = part (e .counter) (e .chain) buffer; signature = part (e .chain) (e .signature) buffer }))
     none
 
--- which is long enough for them
-pub record EndsIn (t : Three) (buffer : List ℕ) : Type 0 where
-  pub counter : t .counter ≤ t .chain
-  pub chain : t .chain ≤ t .signature
-  pub signature : t .signature ≤ length buffer
+-- each ends after the one before it, in the buffer
+pub record EndsIn (e : Ends) (buffer : List ℕ) : Type 0 where
+  pub counter : e .counter ≤ e .chain
+  pub chain : e .chain ≤ e .signature
+  pub signature : e .signature ≤ length buffer
 
 -- the answer if one is refused
-abbrev pub noThree : Three
-noThree = record { good = false; counter = 0; chain = 0; signature = 0 }
+abbrev pub noEnds : Ends
+noEnds = record { good = false; counter = 0; chain = 0; signature = 0 }
 
 -- the five fields, in the text and in the buffer
-abbrev pub fieldsAt : Marks → List ℕ → Three → List ℕ → CodeFields
-fieldsAt m text t buffer =
-    codeFields (part 0 (m .counter) text) (part 0 (t .counter) buffer) (part (m .serial + 1) (m .chain) text) (part (t .counter) (t .chain) buffer) (part (t .chain) (t .signature) buffer)
+abbrev pub fieldsAt : Marks → List ℕ → Ends → List ℕ → CodeFields
+fieldsAt m text e buffer =
+    codeFields (part 0 (m .counter) text) (part 0 (e .counter) buffer) (part (m .serial + 1) (m .chain) text) (part (e .counter) (e .chain) buffer) (part (e .chain) (e .signature) buffer)

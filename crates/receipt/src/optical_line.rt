@@ -16,19 +16,17 @@ use primitives::base64_length;
 use primitives::put;
 ghost use mathlib.Core.Path.{_≡_};
 ghost use mathlib.Core.Bool.{true};
-ghost use mathlib.Core.List.{[], _∷_, _++_};
+ghost use mathlib.Core.List.{[]};
 ghost use mathlib.Core.Option.{Option·map};
 ghost use Prim.Native.Nat.{_+_, _*_, _≤_};
 ghost use lib.ListN.{length};
 ghost use Rattle.primitives.specs.Place.{overwrite, placed, placeAfter};
 ghost use Rattle.primitives.specs.Base64.{answerOf, bufferOf};
 ghost use Rattle.primitives.specs.Answers.{written, answerWith, bufferWith};
-ghost use Rattle.receipt.specs.Texts.{separator};
-ghost use Rattle.receipt.specs.Payload.{longestPayload};
 ghost use Rattle.receipt.specs.Form.{payloadGood};
 ghost use Rattle.receipt.specs.Line.{spell, unspell, countOf, payloadIn, textIn, codeFieldsGood, goodFields, fieldsOf, lineAnswer, lineBuffer, unlineAnswer, unlineBuffer};
+ghost use Rattle.receipt.specs.LineReading.{longestFields, codeFields, marked, marksOf, AllThere, threeOf, threeRead, EndsIn, noEnds, fieldsAt};
 ghost use Rattle.receipt.specs.declared.optical_line.Spelling.the-variants.{Base64};
-ghost use Rattle.receipt.specs.LineReading.{longestFields, codeFields, fieldsAt, marked, marksOf, AllThere, EndsIn, threeRead, threeOf, noThree};
 
 // How counter field, chain field and signature are spelled: in a code in BASE64, in a line in BASE32.
 pub(crate) enum Spelling {
@@ -62,7 +60,7 @@ fn put_spelled(spelling: Spelling, s: &[u8], out: &mut [u8], at: usize) -> usize
     }
 }
 
-// Writes the bytes of a field at a place.
+// Strict reader: writes the bytes of a field at a place.
 fn decode_spelled(spelling: Spelling, text: &[u8], out: &mut [u8], at: usize) -> Decoded
     ensures { λ r. let o : _ = unspell spelling (now (text .entry)) in
         ⌜ (r ≡ answerOf o (now (out .entry)) at) × (now (out .exit) ≡ bufferOf o (now (out .entry)) at) ⌝ }
@@ -75,7 +73,7 @@ fn decode_spelled(spelling: Spelling, text: &[u8], out: &mut [u8], at: usize) ->
 
 // ---- reading
 
-// The places of the last four '_' of a text, which stand before counter field, serial, chain field and signature, and whether all are there.
+// The last four '_' of a text: whether all are there, and their places, before counter field, serial, chain field and signature.
 struct Marks {
     there: bool,
     counter: usize,
@@ -84,7 +82,7 @@ struct Marks {
     signature: usize,
 }
 
-// Where there is no '_' any more, the end of the part that was searched is found, for the marks before it too.
+// If one is missing, its place is the end of what was searched, and so are those of the marks before it: all are there if the first two differ.
 fn marks_of(text: &[u8]) -> Marks
     ensures { λ r. ⌜ r ≡ marksOf (now (text .entry)) ⌝ }
 {
@@ -101,18 +99,18 @@ fn marks_of(text: &[u8]) -> Marks
     }
 }
 
-// What was read of the three spelled fields: whether all are canonical and fit, and where the bytes of each end in the buffer.
-struct Three {
+// The three spelled fields in a buffer: whether all are canonical and fit, and where the bytes of each end.
+struct Ends {
     good: bool,
     counter: usize,
     chain: usize,
     signature: usize,
 }
 
-fn no_three() -> Three
-    ensures { λ r. ⌜ r ≡ noThree ⌝ }
+fn no_ends() -> Ends
+    ensures { λ r. ⌜ r ≡ noEnds ⌝ }
 {
-    Three {
+    Ends {
         good: false,
         counter: 0,
         chain: 0,
@@ -120,26 +118,26 @@ fn no_three() -> Three
     }
 }
 
-// Reads the three spelled fields, one after the other to the start of a buffer.
-fn read_three(spelling: Spelling, text: &[u8], m: Marks, out: &mut [u8]) -> Three
+// Reads the three spelled fields of a text, one after the other, to the start of a buffer.
+fn read_fields(spelling: Spelling, text: &[u8], m: Marks, out: &mut [u8]) -> Ends
     requires { ⌜ AllThere m (now text) × (length (now out) ≡ longestFields) ⌝ }
     ensures { λ r. ⌜ EndsIn r (now (out .exit)) × (threeRead r (now (out .exit)) ≡ threeOf spelling (now (text .entry))) ⌝ }
 {
     let a = m.counter + 1;
     let b = m.serial;
     let Decoded::Upto(x) = decode_spelled(spelling, &text[a..b], out, 0) else {
-        return no_three();
+        return no_ends();
     };
     let c = m.chain + 1;
     let d = m.signature;
     let Decoded::Upto(y) = decode_spelled(spelling, &text[c..d], out, x) else {
-        return no_three();
+        return no_ends();
     };
-    let e = d + 1;
-    let Decoded::Upto(z) = decode_spelled(spelling, &text[e..], out, y) else {
-        return no_three();
+    let rest = d + 1;
+    let Decoded::Upto(z) = decode_spelled(spelling, &text[rest..], out, y) else {
+        return no_ends();
     };
-    Three {
+    Ends {
         good: true,
         counter: x,
         chain: y,
@@ -164,7 +162,7 @@ fn count_of(b: u8, s: &[u8]) -> usize
     n
 }
 
-// The payload of the code is good: it begins as its first nine fields do, and is at most as long as allowed.
+// The code's payload is good: its first nine fields begin as a payload does, and it is not too long.
 fn code_payload_good(start: &[u8], counter: &[u8], serial: &[u8], chain: &[u8]) -> bool
     requires { ⌜ (4 ≤ length (now start)) × (length (now counter) ≤ longestFields) × (length (now chain) ≤ longestFields) ⌝ }
     ensures { λ r. ⌜ r ≡ payloadGood (payloadIn Base64 (codeFields (now (start .entry)) (now (counter .entry)) (now (serial .entry)) (now (chain .entry)) [])) ⌝ }
@@ -196,7 +194,7 @@ fn fields_good(start: &[u8], counter: &[u8], serial: &[u8], chain: &[u8], signat
 
 // ---- writing
 
-// The length of a code or of a line.
+// The length of the code or the line of good fields.
 fn text_length(
     spelling: Spelling,
     start: &[u8],
@@ -226,7 +224,7 @@ fn put_marked(spelling: Spelling, front: &[u8], s: &[u8], out: &mut [u8], at: us
     put_spelled(spelling, s, out, mark + 1)
 }
 
-// Writes a code or a line to the start of the output.
+// Writes the code or the line of good fields to the start of the output. Output long enough? 23.
 fn put_fields(
     spelling: Spelling,
     start: &[u8],
@@ -257,26 +255,26 @@ fn put_fields(
     }
 }
 
-// Writes the text of good fields, which stand in a text and in a buffer; answers `refused` if they are not good.
+// Writes the fields that stand in a text and in a buffer, or answers `refused` if they are not good.
 fn put_good(
     spelling: Spelling,
     text: &[u8],
     m: Marks,
     bytes: &[u8],
-    t: Three,
+    e: Ends,
     out: &mut [u8],
     refused: u32,
 ) -> Answer
-    requires { ⌜ AllThere m (now text) × EndsIn t (now bytes) × (length (now bytes) ≤ longestFields) ⌝ }
-    ensures { λ r. let o : _ = Option·map (textIn spelling) (goodFields (fieldsAt m (now (text .entry)) t (now (bytes .entry)))) in
+    requires { ⌜ AllThere m (now text) × EndsIn e (now bytes) × (length (now bytes) ≤ longestFields) ⌝ }
+    ensures { λ r. let o : _ = Option·map (textIn spelling) (goodFields (fieldsAt m (now (text .entry)) e (now (bytes .entry)))) in
         ⌜ (r ≡ answerWith refused o (now (out .entry))) × (now (out .exit) ≡ bufferWith o (now (out .entry))) ⌝ }
 {
     let a = m.counter;
     let b = m.serial + 1;
     let c = m.chain;
-    let x = t.counter;
-    let y = t.chain;
-    let z = t.signature;
+    let x = e.counter;
+    let y = e.chain;
+    let z = e.signature;
     let start = &text[0..a];
     let counter = &bytes[0..x];
     let serial = &text[b..c];
@@ -293,7 +291,7 @@ fn put_good(
 
 // ---- the calls
 
-// Writes the fields of a text in another spelling, or answers `refused` if the text has no good fields.
+// Writes the fields of a text in another spelling, or answers `refused` if it has no good fields.
 fn respell(from: Spelling, to: Spelling, text: &[u8], out: &mut [u8], refused: u32) -> Answer
     ensures { λ r. let o : _ = Option·map (textIn to) (fieldsOf from (now (text .entry))) in
         ⌜ (r ≡ answerWith refused o (now (out .entry))) × (now (out .exit) ≡ bufferWith o (now (out .entry))) ⌝ }
@@ -306,17 +304,18 @@ fn respell(from: Spelling, to: Spelling, text: &[u8], out: &mut [u8], refused: u
         };
     }
     let mut bytes = [0u8; LONGEST_FIELDS];
-    let t = read_three(from, text, m, &mut bytes);
-    if !t.good {
+    let e = read_fields(from, text, m, &mut bytes);
+    if !e.good {
         return Answer {
             number: refused,
             length: 0,
         };
     }
-    put_good(to, text, m, &bytes, t, out, refused)
+    put_good(to, text, m, &bytes, e, out, refused)
 }
 
-// Writes the line of a code to the start of the output. A code? 24. Twelve fields, canonical ones? 26. Output long enough? 23.
+// Writes the line of a code to the start of the output.
+// A code? 24. Twelve fields, counter and chain in canonical BASE64? 26. Output long enough? 23.
 pub fn line(code: &[u8], out: &mut [u8]) -> Answer
     ensures { λ r. ⌜ (r ≡ lineAnswer (now (code .entry)) (now (out .entry))) × (now (out .exit) ≡ lineBuffer (now (code .entry)) (now (out .entry))) ⌝ }
 {

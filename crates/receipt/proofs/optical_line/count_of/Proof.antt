@@ -1,16 +1,14 @@
 -- The loop's invariant: what was counted, and what is left to be counted.
-use Rattle.receipt.proofs.LineCalls.{counted, passed, count-end}
-use Rattle.receipt.specs.Line.{countOf}
-use borrow.Author.Needs.{needs}
-use lib.ListN.{length, drop}
-use native.Mathlib.Omega.{arith}
+use Prim.Native.Nat.{_+_, _-_, _≤_}
 use mathlib.Core.Logic.{⊎-elim}
 use mathlib.Core.Path.{_≡_}
-use Prim.Native.Nat.{_+_, _-_, _≤_}
+use native.Mathlib.Omega.{arith}
+use borrow.Author.Needs.{needs}
+use lib.ListN.{length, drop}
+use Rattle.receipt.specs.Line.{countOf}
+use Rattle.receipt.proofs.LineCalls.{counted, passed, count-end}
 use Rattle.receipt.proofs.optical_line.count_of.Statement.{statement}
 use Rattle.receipt.proofs.optical_line.count_of.Tie as tie
-use Rattle.receipt.proofs.optical_line.count_of.Reads as reads
-use Rattle.receipt.proofs.optical_line.count_of.Lts as lts
 
 abbrev Inv-loop : tie.InvT-loop
 Inv-loop b s n₀ i₀ n i = (i ≤ length s) × (n ≤ i) × (n + countOf b (drop i s) ≡ countOf b s)
@@ -18,27 +16,21 @@ Inv-loop b s n₀ i₀ n i = (i ≤ length s) × (n ≤ i) × (n + countOf b (dr
 abbrev μ-loop : tie.MeasureT-loop
 μ-loop b s n₀ i₀ n i = length s - i
 
--- src/optical_line.rt:182:5
 loop-holds : tie.Need-loop-holds Inv-loop μ-loop
 loop-holds c = (omega arith, omega arith, omega arith)
 
--- src/optical_line.rt:183:12
 shared-slice-read-if1 : tie.Need-shared-slice-read-if1 Inv-loop μ-loop
 shared-slice-read-if1 c = search needs
 
--- src/optical_line.rt:184:13
 add-n : tie.Need-add-n Inv-loop μ-loop
 add-n c = search needs
 
--- src/optical_line.rt:186:9
 add-i : tie.Need-add-i Inv-loop μ-loop
 add-i c = search needs
 
--- src/optical_line.rt:182:5
 loop-less : tie.Need-loop-less Inv-loop μ-loop
 loop-less c = search needs
 
--- src/optical_line.rt:182:5
 loop-again : tie.Need-loop-again Inv-loop μ-loop
 loop-again c =
     let loop = c .before .before .before in
@@ -46,7 +38,6 @@ loop-again c =
     ⊎-elim (λ w. counted (start .args .b) (start .args .s .now) (loop .loop .i) (loop .loop .n) (c .before .before .loop-test .taken) (loop .loop .inv) (w .0 .taken) (w .1))
     (λ w. passed (start .args .b) (start .args .s .now) (loop .loop .i) (loop .loop .n) (c .before .before .loop-test .taken) (loop .loop .inv) (w .0 .left) (w .1)) (c .if1 .came)
 
--- src/optical_line.rt:177:1
 returns : tie.Need-returns Inv-loop μ-loop
 returns c = omega (arith, c .before .loop .inv .2, count-end (c .before .before .args .b) (c .before .before .args .s .now) (c .before .loop .i) (c .loop-test .left))
 

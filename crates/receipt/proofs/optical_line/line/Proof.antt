@@ -1,51 +1,38 @@
 -- A refusal is told apart by reading the code.
-use Rattle.receipt.proofs.LineCalls.{line-answered, line-refused, no-code}
 use borrow.Author.Needs.{needs}
+use Rattle.receipt.proofs.LineCalls.{line-answered, line-refused, no-code}
 use Rattle.receipt.proofs.optical_line.line.Statement.{statement}
 use Rattle.receipt.proofs.optical_line.line.Tie as tie
-use Rattle.receipt.proofs.optical_line.line.Reads as reads
-use Rattle.receipt.proofs.optical_line.line.Lts as lts
-use Rattle.receipt.proofs.machine_code.read_code.Reads as read-code-reads
-use Rattle.receipt.proofs.optical_line.respell.Reads as respell-reads
 
--- src/optical_line.rt:321:9
 respell-requires : tie.Need-respell-requires
 respell-requires c κs = search needs
 
--- src/optical_line.rt:323:9
 same-length : tie.Need-same-length
 same-length c = search needs
 
--- src/optical_line.rt:323:9
 returns : tie.Need-returns
 returns c =
     let start = c .before .before .before .before .before .before .before .before in
     line-answered (start .args .code .now) (start .args .out .now) (c .before .before .before .before .respell .ensures) (c .if1 .taken)
 
--- src/optical_line.rt:326:29
 slice-aggregate-read-code : tie.Need-slice-aggregate-read-code
 slice-aggregate-read-code c = search needs
 
--- src/optical_line.rt:326:9
 read-code-requires : tie.Need-read-code-requires
 read-code-requires c κs = search needs
 
--- src/optical_line.rt:328:9
 same-length-2 : tie.Need-same-length-2
 same-length-2 c = search needs
 
--- src/optical_line.rt:328:9
 returns-2 : tie.Need-returns-2
 returns-2 c =
     let start = c .before .before .before .before .before .before .before .before .before .before .before .before in
     let r = c .before .before .read-code in
     line-refused (start .args .code .now) (start .args .out .now) (c .before .before .before .before .before .before .before .before .respell .ensures) (c .before .before .before .before .if1 .left) (r .last .1 .0) (r .result) (r .ensures .2) (c .if2 .taken)
 
--- src/optical_line.rt:318:1
 same-length-3 : tie.Need-same-length-3
 same-length-3 c = search needs
 
--- src/optical_line.rt:318:1
 returns-3 : tie.Need-returns-3
 returns-3 c =
     let start = c .before .before .before .before .before .before .before .before .before .before .before .before in

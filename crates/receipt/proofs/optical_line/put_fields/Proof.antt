@@ -1,77 +1,60 @@
 -- Four writes in a row, where there is room for all.
-use Rattle.receipt.proofs.LineCalls.{room-first, room-second, place-small, room-third, put-fields}
-use Rattle.receipt.proofs.CodeCalls.{no-room}
-use Rattle.receipt.specs.Line.{CodeFields, textIn}
-use Rattle.receipt.specs.LineReading.{codeFields}
-use Prim.Native.Nat.{_≤_}
 use mathlib.Core.Path.{sym}
 use native.Mathlib.Omega.{arith}
 use borrow.Author.Needs.{needs}
+use Rattle.receipt.specs.Line.{CodeFields, textIn}
+use Rattle.receipt.specs.LineReading.{codeFields}
+use Rattle.receipt.proofs.LineCalls.{room-first, room-second, place-small, room-third, put-fields}
+use Rattle.receipt.proofs.CodeCalls.{no-room}
 use Rattle.receipt.proofs.optical_line.put_fields.Statement.{statement}
 use Rattle.receipt.proofs.optical_line.put_fields.Tie as tie
-use Rattle.receipt.proofs.optical_line.put_fields.Reads as reads
-use Rattle.receipt.proofs.optical_line.put_fields.Lts as lts
-use Rattle.primitives.proofs.put.Reads as put-reads
-use Rattle.receipt.proofs.optical_line.put_marked.Reads as put-marked-reads
-use Rattle.receipt.proofs.optical_line.text_length.Reads as text-length-reads
 
 -- the fields
 abbrev fields : tie.Start → CodeFields
 fields start = codeFields (start .args .start .now) (start .args .counter .now) (start .args .serial .now) (start .args .chain .now) (start .args .signature .now)
 
--- src/optical_line.rt:252:9
 text-length-requires : tie.Need-text-length-requires
 text-length-requires c κs = search needs
 
--- src/optical_line.rt:254:9
 returns : tie.Need-returns
 returns c =
     let start = c .before .before .before .before .before .before .before .before in
     no-room (start .args .out .now) (textIn (start .args .spelling) (fields start)) _ (sym (c .before .text-length .ensures)) (c .if1 .taken)
 
--- src/optical_line.rt:259:9
 put-marked-requires : tie.Need-put-marked-requires
 put-marked-requires c κs =
     let start = c .before .before .before .before .before .before .before .before .before in
     room-first (start .args .spelling) (fields start) (start .args .out .now) _ (c .before .before .text-length .ensures) (c .before .if1 .left)
 
--- src/optical_line.rt:260:17
 slice-aggregate-put : tie.Need-slice-aggregate-put
 slice-aggregate-put c = search needs
 
--- src/optical_line.rt:260:5
 put-requires : tie.Need-put-requires
 put-requires c κs = search needs
 
--- src/optical_line.rt:261:54
 add-put-marked : tie.Need-add-put-marked
 add-put-marked c =
     let start = c .before .before .before .before .before .before .before .before .before .before .before .before .before .before .before .before .before .before in
     let h = place-small (start .args .spelling) (fields start) (start .args .out .now) _ (c .before .before .before .before .before .before .before .before .before .before .before .text-length .ensures) (c .before .before .before .before .before .before .before .before .before .before .if1 .left) (c .before .before .before .before .before .before .before .before .put-marked .ensures) (c .before .before .before .put .ensures .1) in
     omega (arith, start .good)
 
--- src/optical_line.rt:261:9
 put-marked-requires-2 : tie.Need-put-marked-requires-2
 put-marked-requires-2 c κs =
     let start = c .before .before .before .before .before .before .before .before .before .before .before .before .before .before .before .before .before .before in
     room-second (start .args .spelling) (fields start) (start .args .out .now) _ (c .before .before .before .before .before .before .before .before .before .before .before .text-length .ensures) (c .before .before .before .before .before .before .before .before .before .before .if1 .left) (c .before .before .before .before .before .before .before .before .put-marked .ensures) (c .before .before .before .put .ensures .1)
 
--- src/optical_line.rt:262:26
 slice-aggregate-put-marked : tie.Need-slice-aggregate-put-marked
 slice-aggregate-put-marked c = search needs
 
--- src/optical_line.rt:262:5
 put-marked-requires-3 : tie.Need-put-marked-requires-3
 put-marked-requires-3 c κs =
     let start = c .before .before .before .before .before .before .before .before .before .before .before .before .before .before .before .before .before .before .before .before .before .before .before in
     room-third (start .args .spelling) (fields start) (start .args .out .now) _ (c .before .before .before .before .before .before .before .before .before .before .before .before .before .before .before .before .text-length .ensures) (c .before .before .before .before .before .before .before .before .before .before .before .before .before .before .before .if1 .left) (c .before .before .before .before .before .before .before .before .before .before .before .before .before .put-marked .ensures) (c .before .before .before .before .before .before .before .before .put .ensures .1)
     (c .before .before .before .before .put-marked2 .ensures)
 
--- src/optical_line.rt:247:1
 same-length : tie.Need-same-length
 same-length c = search needs
 
--- src/optical_line.rt:247:1
 returns-2 : tie.Need-returns-2
 returns-2 c =
     let start = c .before .before .before .before .before .before .before .before .before .before .before .before .before .before .before .before .before .before .before .before .before .before .before .before .before .before in

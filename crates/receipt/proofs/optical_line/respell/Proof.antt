@@ -1,62 +1,48 @@
 -- What was read is what the definition reads.
-use Rattle.receipt.proofs.LineCalls.{all-there, no-marks, no-fields, some-fields}
 use borrow.Author.Needs.{needs}
+use Rattle.receipt.proofs.LineCalls.{all-there, no-marks, no-fields, some-fields}
 use Rattle.receipt.proofs.optical_line.respell.Statement.{statement}
 use Rattle.receipt.proofs.optical_line.respell.Tie as tie
-use Rattle.receipt.proofs.optical_line.respell.Reads as reads
-use Rattle.receipt.proofs.optical_line.respell.Lts as lts
-use Rattle.receipt.proofs.optical_line.marks_of.Reads as marks-of-reads
-use Rattle.receipt.proofs.optical_line.put_good.Reads as put-good-reads
-use Rattle.receipt.proofs.optical_line.read_three.Reads as read-three-reads
 
--- src/optical_line.rt:279:9
 marks-of-requires : tie.Need-marks-of-requires
 marks-of-requires c κs = search needs
 
--- src/optical_line.rt:281:9
 returns : tie.Need-returns
 returns c =
     let start = c .before .before .before .before .before in
     no-marks (start .args .from) (start .args .to) (start .args .text .now) (start .args .out .now) (start .args .refused) (c .before .before .marks-of .ensures) (c .if1 .taken)
 
--- src/optical_line.rt:287:39
-slice-aggregate-read-three : tie.Need-slice-aggregate-read-three
-slice-aggregate-read-three c = search needs
+slice-aggregate-read-fields : tie.Need-slice-aggregate-read-fields
+slice-aggregate-read-fields c = search needs
 
--- src/optical_line.rt:287:9
-read-three-requires : tie.Need-read-three-requires
-read-three-requires c κs = (all-there (c .before .before .before .before .before .before .args .text .now) (c .before .before .before .marks-of .ensures) (c .before .if1 .left), search needs)
+read-fields-requires : tie.Need-read-fields-requires
+read-fields-requires c κs = (all-there (c .before .before .before .before .before .before .args .text .now) (c .before .before .before .marks-of .ensures) (c .before .if1 .left), search needs)
 
--- src/optical_line.rt:289:9
 returns-2 : tie.Need-returns-2
 returns-2 c =
     let start = c .before .before .before .before .before .before .before .before .before .before in
-    let t = c .before .before .before .read-three in
+    let t = c .before .before .before .read-fields in
     no-fields (start .args .from) (start .args .to) (start .args .text .now) (start .args .out .now) (start .args .refused) (c .before .before .before .before .before .before .before .marks-of .ensures) (c .before .before .before .before .before .if1 .left)
     (t .result) (t .last .1 .1 .1 .0) (t .ensures .1) (c .if2 .taken)
 
--- src/optical_line.rt:294:27
 slice-aggregate-put-good : tie.Need-slice-aggregate-put-good
 slice-aggregate-put-good c = search needs
 
--- src/optical_line.rt:294:5
 put-good-requires : tie.Need-put-good-requires
 put-good-requires c κs =
-    let t = c .before .before .before .before .before .read-three in (
+    let t = c .before .before .before .before .before .read-fields in (
       all-there (c .before .before .before .before .before .before .before .before .before .before .before .before .args .text .now) (c .before .before .before .before .before .before .before .before .before .marks-of .ensures) (c .before .before .before .before .before .before .before .if1 .left),
       t .ensures .0,
       search needs,
     )
 
--- src/optical_line.rt:275:1
 same-length : tie.Need-same-length
 same-length c = search needs
 
--- src/optical_line.rt:275:1
 returns-3 : tie.Need-returns-3
 returns-3 c =
     let start = c .before .before .before .before .before .before .before .before .before .before .before .before .before .before .before in
-    let t = c .before .before .before .before .before .before .before .before .read-three in
+    let t = c .before .before .before .before .before .before .before .before .read-fields in
     some-fields (start .args .from) (start .args .to) (start .args .text .now) (start .args .out .now) (start .args .refused) (c .before .before .before .before .before .before .before .before .before .before .before .before .marks-of .ensures) (c .before .before .before .before .before .before .before .before .before .before .if1 .left)
     (t .result) (t .last .1 .1 .1 .0) (t .ensures .1) (c .before .before .before .before .before .if2 .left) (c .before .before .put-good .ensures)
 
@@ -66,8 +52,8 @@ respell-spec =
     (tie.spec
     marks-of-requires
     returns
-    slice-aggregate-read-three
-    read-three-requires
+    slice-aggregate-read-fields
+    read-fields-requires
     returns-2
     slice-aggregate-put-good
     put-good-requires

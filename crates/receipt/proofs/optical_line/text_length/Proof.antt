@@ -1,51 +1,39 @@
 -- The lengths of the parts.
-use Rattle.receipt.proofs.LineCalls.{Sizes, good-sizes, text-long}
-use Rattle.receipt.specs.LineReading.{codeFields}
 use native.Mathlib.Omega.{arith}
 use borrow.Author.Needs.{needs}
+use Rattle.receipt.specs.LineReading.{codeFields}
+use Rattle.receipt.proofs.LineCalls.{Sizes, good-sizes, text-long}
 use Rattle.receipt.proofs.optical_line.text_length.Statement.{statement}
 use Rattle.receipt.proofs.optical_line.text_length.Tie as tie
-use Rattle.receipt.proofs.optical_line.text_length.Reads as reads
-use Rattle.receipt.proofs.optical_line.text_length.Lts as lts
-use Rattle.receipt.proofs.optical_line.spelled_length.Reads as spelled-length-reads
 
 -- good fields are short
 sizes : (c : tie.After-spelled-length3) → Sizes (codeFields (c .before .before .before .before .before .before .before .before .args .start .now) (c .before .before .before .before .before .before .before .before .args .counter .now) (c .before .before .before .before .before .before .before .before .args .serial .now) (c .before .before .before .before .before .before .before .before .args .chain .now) (c .before .before .before .before .before .before .before .before .args .signature .now))
 sizes c = good-sizes (codeFields (c .before .before .before .before .before .before .before .before .args .start .now) (c .before .before .before .before .before .before .before .before .args .counter .now) (c .before .before .before .before .before .before .before .before .args .serial .now) (c .before .before .before .before .before .before .before .before .args .chain .now) (c .before .before .before .before .before .before .before .before .args .signature .now)) (c .before .before .before .before .before .before .before .before .pre)
 
--- src/optical_line.rt:228:9
 spelled-length-requires : tie.Need-spelled-length-requires
 spelled-length-requires c κs = search needs
 
--- src/optical_line.rt:229:9
 spelled-length-requires-2 : tie.Need-spelled-length-requires-2
 spelled-length-requires-2 c κs = search needs
 
--- src/optical_line.rt:230:9
 spelled-length-requires-3 : tie.Need-spelled-length-requires-3
 spelled-length-requires-3 c κs = search needs
 
--- src/optical_line.rt:231:5
 add-result : tie.Need-add-result
 add-result c = let h = sizes c in omega (arith, c .before .before .spelled-length .ensures .1)
 
--- src/optical_line.rt:231:5
 add-result-2 : tie.Need-add-result-2
 add-result-2 c = let h = sizes c in omega (arith, c .before .before .spelled-length .ensures .1)
 
--- src/optical_line.rt:231:5
 add-result-3 : tie.Need-add-result-3
 add-result-3 c = let h = sizes c in omega (arith, c .before .before .spelled-length .ensures .1, c .before .spelled-length2 .ensures .1)
 
--- src/optical_line.rt:231:5
 add-result-4 : tie.Need-add-result-4
 add-result-4 c = let h = sizes c in omega (arith, c .before .before .spelled-length .ensures .1, c .before .spelled-length2 .ensures .1, c .spelled-length3 .ensures .1)
 
--- src/optical_line.rt:231:5
 add-result-5 : tie.Need-add-result-5
 add-result-5 c = let h = sizes c in omega (arith, c .before .before .spelled-length .ensures .1, c .before .spelled-length2 .ensures .1, c .spelled-length3 .ensures .1)
 
--- src/optical_line.rt:224:1
 returns : tie.Need-returns
 returns c =
     let start = c .before .before .before .before .before .before .before .before in

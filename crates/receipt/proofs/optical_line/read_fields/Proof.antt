@@ -1,144 +1,114 @@
-use native.Mathlib.Omega.{arith}
 -- Each field is read after the one before it; the first that is refused or does not fit ends it.
-use Rattle.receipt.proofs.LineCalls.{places, next-fits, three-none, no-counter, no-chain, no-signature, three-found}
 use borrow.Author.Needs.{needs}
-use Rattle.receipt.proofs.optical_line.read_three.Statement.{statement}
-use Rattle.receipt.proofs.optical_line.read_three.Tie as tie
-use Rattle.receipt.proofs.optical_line.read_three.Reads as reads
-use Rattle.receipt.proofs.optical_line.read_three.Lts as lts
-use Rattle.receipt.proofs.optical_line.decode_spelled.Reads as decode-spelled-reads
-use Rattle.receipt.proofs.optical_line.no_three.Reads as no-three-reads
+use Rattle.receipt.proofs.LineCalls.{Places, places, ends-none, no-counter, no-chain, no-signature, three-found}
+use Rattle.receipt.proofs.optical_line.read_fields.Statement.{statement}
+use Rattle.receipt.proofs.optical_line.read_fields.Tie as tie
 
--- src/optical_line.rt:129:13
+-- the marks in the text
+at : (start : tie.Start) → Places (start .args .m) (start .args .text .now)
+at start = places (start .args .text .now) (start .pre .0) (start .good .1 .0 .0)
+
 add-a : tie.Need-add-a
-add-a c = next-fits (c .before .before .before .args .m .counter) (places (c .before .before .before .pre .0) .after-counter) (omega (arith, places (c .before .before .before .pre .0), c .before .before .before .good))
+add-a c = at (c .before .before .before) .counter-fits
 
--- src/optical_line.rt:131:53
 sub-decode-spelled : tie.Need-sub-decode-spelled
-sub-decode-spelled c = places (c .before .before .before .pre .0) .after-counter
+sub-decode-spelled c = at (c .before .before .before) .after-counter
 
--- src/optical_line.rt:131:53
 part-decode-spelled-start : tie.Need-part-decode-spelled-start
-part-decode-spelled-start c = places (c .before .before .before .pre .0) .after-counter
+part-decode-spelled-start c = at (c .before .before .before) .after-counter
 
--- src/optical_line.rt:131:53
 part-decode-spelled-end : tie.Need-part-decode-spelled-end
-part-decode-spelled-end c = places (c .before .before .before .pre .0) .serial
+part-decode-spelled-end c = at (c .before .before .before) .serial
 
--- src/optical_line.rt:131:28
 decode-spelled-requires : tie.Need-decode-spelled-requires
 decode-spelled-requires c κs = search needs
 
--- src/optical_line.rt:131:23
 enum-known-x : tie.Need-enum-known-x
 enum-known-x c = search needs
 
--- src/optical_line.rt:132:9
-no-three-requires : tie.Need-no-three-requires
-no-three-requires c κs = search needs
+no-ends-requires : tie.Need-no-ends-requires
+no-ends-requires c κs = search needs
 
--- src/optical_line.rt:132:9
 same-length : tie.Need-same-length
 same-length c = search needs
 
--- src/optical_line.rt:132:9
 returns : tie.Need-returns
 returns c =
     let start = c .before .before .before .before .before .before .before .before .before .before in
-    three-none _ (c .no-three .ensures) (no-counter (start .args .spelling) (start .args .text .now) (start .args .m) (start .pre .0 .is) (start .args .out .now) (start .pre .1) (c .before .before .before .before .decode-spelled .ensures) (c .before .match .keys2))
+    ends-none _ (c .no-ends .ensures) (no-counter (start .args .spelling) (start .args .text .now) (start .args .m) (start .pre .0 .is) (start .args .out .now) (start .pre .1) (c .before .before .before .before .decode-spelled .ensures) (c .before .match .keys2))
 
--- src/optical_line.rt:134:13
 add-c : tie.Need-add-c
-add-c c = next-fits (c .before .before .before .before .before .before .before .before .before .before .before .before .args .m .chain) (places (c .before .before .before .before .before .before .before .before .before .before .before .before .pre .0) .after-chain) (omega (arith, places (c .before .before .before .before .before .before .before .before .before .before .before .before .pre .0), c .before .before .before .before .before .before .before .before .before .before .before .before .good))
+add-c c = at (c .before .before .before .before .before .before .before .before .before .before .before .before) .chain-fits
 
--- src/optical_line.rt:136:53
 sub-decode-spelled-2 : tie.Need-sub-decode-spelled-2
-sub-decode-spelled-2 c = places (c .before .before .before .before .before .before .before .before .before .before .before .before .pre .0) .after-chain
+sub-decode-spelled-2 c = at (c .before .before .before .before .before .before .before .before .before .before .before .before) .after-chain
 
--- src/optical_line.rt:136:53
 part-decode-spelled-start-2 : tie.Need-part-decode-spelled-start-2
-part-decode-spelled-start-2 c = places (c .before .before .before .before .before .before .before .before .before .before .before .before .pre .0) .after-chain
+part-decode-spelled-start-2 c = at (c .before .before .before .before .before .before .before .before .before .before .before .before) .after-chain
 
--- src/optical_line.rt:136:53
 part-decode-spelled-end-2 : tie.Need-part-decode-spelled-end-2
-part-decode-spelled-end-2 c = places (c .before .before .before .before .before .before .before .before .before .before .before .before .pre .0) .signature
+part-decode-spelled-end-2 c = at (c .before .before .before .before .before .before .before .before .before .before .before .before) .signature
 
--- src/optical_line.rt:136:28
 decode-spelled-requires-2 : tie.Need-decode-spelled-requires-2
 decode-spelled-requires-2 c κs = search needs
 
--- src/optical_line.rt:136:23
 enum-known-y : tie.Need-enum-known-y
 enum-known-y c = search needs
 
--- src/optical_line.rt:137:9
-no-three-requires-2 : tie.Need-no-three-requires-2
-no-three-requires-2 c κs = search needs
+no-ends-requires-2 : tie.Need-no-ends-requires-2
+no-ends-requires-2 c κs = search needs
 
--- src/optical_line.rt:137:9
 same-length-2 : tie.Need-same-length-2
 same-length-2 c = search needs
 
--- src/optical_line.rt:137:9
 returns-2 : tie.Need-returns-2
 returns-2 c =
     let start = c .before .before .before .before .before .before .before .before .before .before .before .before .before .before .before .before .before .before .before in
-    three-none _ (c .no-three2 .ensures)
+    ends-none _ (c .no-ends2 .ensures)
     (no-chain (start .args .spelling) (start .args .text .now) (start .args .m) (start .pre .0 .is) (start .args .out .now) (start .pre .1) (c .before .before .before .before .before .before .before .before .before .before .before .before .before .decode-spelled .ensures) (c .before .before .before .before .before .before .before .before .before .x .given .1) (c .before .before .before .before .decode-spelled2 .ensures) (c .before .match2 .keys2))
 
--- src/optical_line.rt:139:13
-add-e : tie.Need-add-e
-add-e c = next-fits (c .before .before .before .before .before .before .before .before .before .before .before .before .before .before .before .before .before .before .before .before .args .m .signature) (places (c .before .before .before .before .before .before .before .before .before .before .before .before .before .before .before .before .before .before .before .before .pre .0) .after-signature) (omega (arith, c .before .before .before .before .before .before .before .before .before .before .before .before .before .before .before .before .before .before .before .before .good))
+add-rest : tie.Need-add-rest
+add-rest c = at (c .before .before .before .before .before .before .before .before .before .before .before .before .before .before .before .before .before .before .before .before) .signature-fits
 
--- src/optical_line.rt:140:53
 sub-decode-spelled-3 : tie.Need-sub-decode-spelled-3
-sub-decode-spelled-3 c = places (c .before .before .before .before .before .before .before .before .before .before .before .before .before .before .before .before .before .before .before .before .pre .0) .after-signature
+sub-decode-spelled-3 c = at (c .before .before .before .before .before .before .before .before .before .before .before .before .before .before .before .before .before .before .before .before) .after-signature
 
--- src/optical_line.rt:140:53
 part-decode-spelled-start-3 : tie.Need-part-decode-spelled-start-3
-part-decode-spelled-start-3 c = places (c .before .before .before .before .before .before .before .before .before .before .before .before .before .before .before .before .before .before .before .before .pre .0) .after-signature
+part-decode-spelled-start-3 c = at (c .before .before .before .before .before .before .before .before .before .before .before .before .before .before .before .before .before .before .before .before) .after-signature
 
--- src/optical_line.rt:140:53
 part-decode-spelled-end-3 : tie.Need-part-decode-spelled-end-3
 part-decode-spelled-end-3 c = search needs
 
--- src/optical_line.rt:140:28
 decode-spelled-requires-3 : tie.Need-decode-spelled-requires-3
 decode-spelled-requires-3 c κs = search needs
 
--- src/optical_line.rt:140:23
 enum-known-z : tie.Need-enum-known-z
 enum-known-z c = search needs
 
--- src/optical_line.rt:141:9
-no-three-requires-3 : tie.Need-no-three-requires-3
-no-three-requires-3 c κs = search needs
+no-ends-requires-3 : tie.Need-no-ends-requires-3
+no-ends-requires-3 c κs = search needs
 
--- src/optical_line.rt:141:9
 same-length-3 : tie.Need-same-length-3
 same-length-3 c = search needs
 
--- src/optical_line.rt:141:9
 returns-3 : tie.Need-returns-3
 returns-3 c =
     let start = c .before .before .before .before .before .before .before .before .before .before .before .before .before .before .before .before .before .before .before .before .before .before .before .before .before .before .before in
-    three-none _ (c .no-three3 .ensures)
+    ends-none _ (c .no-ends3 .ensures)
     (no-signature (start .args .spelling) (start .args .text .now) (start .args .m) (start .pre .0 .is) (start .args .out .now) (start .pre .1) (c .before .before .before .before .before .before .before .before .before .before .before .before .before .before .before .before .before .before .before .before .before .decode-spelled .ensures) (c .before .before .before .before .before .before .before .before .before .before .before .before .before .before .before .before .before .x .given .1) (c .before .before .before .before .before .before .before .before .before .before .before .before .decode-spelled2 .ensures) (c .before .before .before .before .before .before .before .before .y .given .1)
     (c .before .before .before .before .decode-spelled3 .ensures) (c .before .match3 .keys2))
 
--- src/optical_line.rt:124:1
 same-length-4 : tie.Need-same-length-4
 same-length-4 c = search needs
 
--- src/optical_line.rt:124:1
 returns-4 : tie.Need-returns-4
 returns-4 c =
     let start = c .before .before .before .before .before .before .before .before .before .before .before .before .before .before .before .before .before .before .before .before .before .before .before .before .before .before .before .before in
     three-found (start .args .spelling) (start .args .text .now) (start .args .m) (start .pre .0 .is) (start .args .out .now) (start .pre .1) (c .before .before .before .before .before .before .before .before .before .before .before .before .before .before .before .before .before .before .before .before .before .before .decode-spelled .ensures) (c .before .before .before .before .before .before .before .before .before .before .before .before .before .before .before .before .before .before .x .given .1) (c .before .before .before .before .before .before .before .before .before .before .before .before .before .decode-spelled2 .ensures) (c .before .before .before .before .before .before .before .before .before .y .given .1)
     (c .before .before .before .before .before .decode-spelled3 .ensures) (c .before .z .given .1)
 
-pub read-three-spec : {M : Type 1} → statement M
-read-three-spec =
+pub read-fields-spec : {M : Type 1} → statement M
+read-fields-spec =
     tie.close
     (tie.spec
     add-a
@@ -147,7 +117,7 @@ read-three-spec =
     part-decode-spelled-end
     decode-spelled-requires
     enum-known-x
-    no-three-requires
+    no-ends-requires
     same-length
     returns
     add-c
@@ -156,16 +126,16 @@ read-three-spec =
     part-decode-spelled-end-2
     decode-spelled-requires-2
     enum-known-y
-    no-three-requires-2
+    no-ends-requires-2
     same-length-2
     returns-2
-    add-e
+    add-rest
     sub-decode-spelled-3
     part-decode-spelled-start-3
     part-decode-spelled-end-3
     decode-spelled-requires-3
     enum-known-z
-    no-three-requires-3
+    no-ends-requires-3
     same-length-3
     returns-3
     same-length-4
