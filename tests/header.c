@@ -1,6 +1,6 @@
 /* What include/ditgrux.h says besides the contracts: the wrappers pass every detail to its place and back, an empty signature may be
- * NULL, the walk of the entries ends at the length of the journal, what is left after a refusal, what to do when the buffer is full, and
- * where power fails.
+ * NULL, the walk of the entries ends at the length of the journal, what is left after a refusal, what to do when the buffer is full,
+ * where power fails, and what the optical line is of a code.
  * Prints each line that fails; exit status 1 where one does. Compiles as C99 and as C++11. */
 #include "ditgrux.h"
 
@@ -49,6 +49,16 @@ static size_t number_at(const uint8_t *bytes, int count)
     return number;
 }
 
+/* The line of a code gives the code back. */
+static int comes_back(const uint8_t *code, size_t length)
+{
+    uint8_t line[DITGRUX_LONGEST_LINE], again[DITGRUX_LONGEST_CODE];
+    size_t line_length, back;
+    return ditgrux_line(code, length, line, sizeof line, &line_length) == DITGRUX_DONE &&
+           ditgrux_unline(line, line_length, again, sizeof again, &back) == DITGRUX_DONE && back == length &&
+           memcmp(again, code, length) == 0;
+}
+
 static size_t walk(const uint8_t *bytes, size_t *forms)
 {
     uint8_t code[DITGRUX_LONGEST_CODE];
@@ -60,7 +70,7 @@ static size_t walk(const uint8_t *bytes, size_t *forms)
     *forms = 0;
     for (entry = 0; entry < receipts; entry++) {
         length = number_at(bytes + at, 2);
-        *forms += ditgrux_code(bytes + at + 2, length, code, sizeof code, &written) == DITGRUX_DONE;
+        *forms += ditgrux_code(bytes + at + 2, length, code, sizeof code, &written) == DITGRUX_DONE && comes_back(code, written);
         at += 2 + length;
     }
     return at;
@@ -268,6 +278,83 @@ static void power_cut(void)
     CHECK(memcmp(twin + length, journal + length, DITGRUX_LONGEST_INPUT) != 0);
 }
 
+/* ---- the optical line */
+
+typedef uint32_t (*writer)(const uint8_t *, size_t, uint8_t *, size_t, size_t *);
+
+/* The number of a refused call; 0 where it has changed something. */
+static uint32_t refused(writer call, const void *text, size_t length, size_t room)
+{
+    uint8_t out[512];
+    size_t wrote = 1;
+    uint32_t number;
+    memset(out, 0xA5, sizeof out);
+    number = call((const uint8_t *)text, length, out, room, &wrote);
+    return wrote == 0 && is_all(0xA5, out, sizeof out) ? number : 0;
+}
+
+/* With so much room the call gives what is expected, and writes nothing after it. */
+static int gives_in(size_t room, writer call, const void *text, size_t length, const void *expected, size_t expected_length)
+{
+    uint8_t out[512];
+    size_t wrote = 0;
+    memset(out, 0xA5, sizeof out);
+    return call((const uint8_t *)text, length, out, room, &wrote) == DITGRUX_DONE && wrote == expected_length &&
+           memcmp(out, expected, wrote) == 0 && is_all(0xA5, out + wrote, sizeof out - wrote);
+}
+
+/* With more room and with exactly the room the call gives what is expected; with one byte less it is refused. */
+static int gives(writer call, const void *text, size_t length, const void *expected, size_t expected_length)
+{
+    return gives_in(512, call, text, length, expected, expected_length) &&
+           gives_in(expected_length, call, text, length, expected, expected_length) &&
+           (expected_length == 0 || refused(call, text, length, expected_length - 1) == DITGRUX_OUTPUT_SHORT);
+}
+
+#define FRONT "_R1-AT0_K-1_2_2026-11-15T08:00:00_-1,00_0,00_0,00_0,00_0,00_"
+#define FAILED_64 "U2ljaGVyaGVpdHNlaW5yaWNodHVuZyBhdXNnZWZhbGxlbg=="
+#define FAILED_32 "KNUWG2DFOJUGK2LUONSWS3TSNFRWQ5DVNZTSAYLVONTWKZTBNRWGK3Q="
+#define CODE FRONT "U1RP_2a_hArhdCTSjbM=_" FAILED_64
+#define LINE FRONT "KNKE6===_2a_QQFOC5BE2KG3G===_" FAILED_32
+#define EMPTY "_R1-____________" /* twelve fields, counter and chain field empty, and the "_" before the signature */
+#define TEXT(text) text, sizeof(text) - 1
+
+static void lines(void)
+{
+    static const uint8_t eight[] = {0x84, 0x0A, 0xE1, 0x74, 0x24, 0xD2, 0x8D, 0xB3};
+    CHECK(gives(ditgrux_line, TEXT(CODE), TEXT(LINE)) && gives(ditgrux_unline, TEXT(LINE), TEXT(CODE)));
+    CHECK(gives(ditgrux_line, TEXT(EMPTY FAILED_64), TEXT(EMPTY FAILED_32)));
+    CHECK(gives(ditgrux_unline, TEXT(EMPTY FAILED_32), TEXT(EMPTY FAILED_64)));
+
+    /* 24, 26, 23: each before the next */
+    CHECK(refused(ditgrux_line, "", 0, 0) == DITGRUX_BAD_CODE && refused(ditgrux_line, TEXT(LINE), 0) == DITGRUX_BAD_CODE);
+    CHECK(refused(ditgrux_line, CODE, sizeof CODE, 0) == DITGRUX_BAD_CODE);
+    CHECK(refused(ditgrux_line, TEXT(EMPTY "_" FAILED_64), 0) == DITGRUX_BAD_FIELDS);
+    CHECK(refused(ditgrux_line, TEXT("_R1-___________" FAILED_64), 0) == DITGRUX_BAD_FIELDS);
+    CHECK(refused(ditgrux_line, TEXT(FRONT "U1RP_2a_hArhdCTSjbN=_" FAILED_64), 0) == DITGRUX_BAD_FIELDS); /* an unused bit */
+    CHECK(refused(ditgrux_line, TEXT(FRONT "U1R_2a_hArhdCTSjbM=_" FAILED_64), 0) == DITGRUX_BAD_FIELDS);
+    CHECK(refused(ditgrux_line, TEXT(CODE), 0) == DITGRUX_OUTPUT_SHORT);
+
+    /* 27 before 23, never 24 or 26 */
+    CHECK(refused(ditgrux_unline, "", 0, 0) == DITGRUX_BAD_LINE && refused(ditgrux_unline, TEXT(CODE), 0) == DITGRUX_BAD_LINE);
+    CHECK(refused(ditgrux_unline, LINE, sizeof LINE, 0) == DITGRUX_BAD_LINE);
+    CHECK(refused(ditgrux_unline, TEXT(EMPTY "_" FAILED_32), 0) == DITGRUX_BAD_LINE);
+    CHECK(refused(ditgrux_unline, TEXT("_R1-___________" FAILED_32), 0) == DITGRUX_BAD_LINE);
+    CHECK(refused(ditgrux_unline, TEXT(FRONT "KNKE6===_2a_QQFOC5BE2KG3g===_" FAILED_32), 0) == DITGRUX_BAD_LINE); /* a small letter */
+    CHECK(refused(ditgrux_unline, TEXT(FRONT "KNKE6===_2a_QQFOC5BE2KG3H===_" FAILED_32), 0) == DITGRUX_BAD_LINE); /* an unused bit */
+    CHECK(refused(ditgrux_unline, TEXT(FRONT "KNKE6==_2a_QQFOC5BE2KG3G===_" FAILED_32), 0) == DITGRUX_BAD_LINE);
+    CHECK(refused(ditgrux_unline, TEXT(FRONT "KNKE6===_2a_QQFOC5BE2KG3G===_" "KNUWG2DF"), 0) == DITGRUX_BAD_LINE); /* no signature */
+    CHECK(refused(ditgrux_unline, TEXT(LINE), 0) == DITGRUX_OUTPUT_SHORT);
+
+    CHECK(gives(ditgrux_base32, eight, sizeof eight, TEXT("QQFOC5BE2KG3G===")) && gives(ditgrux_base32, "", 0, "", 0));
+    CHECK(gives(ditgrux_unbase32, TEXT("QQFOC5BE2KG3G==="), eight, sizeof eight) && gives(ditgrux_unbase32, "", 0, "", 0));
+    CHECK(refused(ditgrux_base32, eight, sizeof eight, 0) == DITGRUX_OUTPUT_SHORT);
+    CHECK(refused(ditgrux_unbase32, TEXT("QQFOC5BE2KG3G==="), 0) == DITGRUX_OUTPUT_SHORT);
+    CHECK(refused(ditgrux_unbase32, TEXT("QQFOC5BE2KG3G=="), 0) == DITGRUX_BAD_FORM);
+    CHECK(refused(ditgrux_unbase32, TEXT("QQFOC5BE2KG3H==="), 512) == DITGRUX_BAD_FORM);
+    CHECK(refused(ditgrux_unbase32, TEXT("qqfoc5be2kg3g==="), 512) == DITGRUX_BAD_FORM);
+}
+
 int main(void)
 {
     CHECK(make_settings(sizeof key, sizeof settings, settings) == DITGRUX_DONE);
@@ -279,5 +366,6 @@ int main(void)
     refusals();
     power_cut();
     reading();
+    lines();
     return failures ? 1 : 0;
 }

@@ -1,5 +1,5 @@
-/* The longest receipt that there is: the header's sizes are those of its texts, exactly. And how many bytes of stack each exported call
- * uses on it, answered and refused: the call runs on a stack of its own that was filled with a pattern, and what is no longer the
+/* The longest receipt that there is: the header's sizes are those of its texts, exactly; and the code with the longest optical line. And
+ * how many bytes of stack each exported call uses on them, answered and refused: the call runs on a stack of its own that was filled with a pattern, and what is no longer the
  * pattern was used. Prints a line for each; exit status 1 where a size or an answer is another or a call goes past the limit that the
  * README names. */
 #include "ditgrux.h"
@@ -12,12 +12,13 @@
 enum { STACK = 1 << 18, LIMIT = 3700, PATTERN = 0xA5, RECEIPTS = 20 };
 
 static uint8_t stack[STACK], journal[1 << 16], state[DITGRUX_STATE], again[DITGRUX_STATE], settings[DITGRUX_SETTINGS], output[512];
+static uint8_t optical[DITGRUX_LONGEST_ANY_LINE];
 static const uint8_t key[DITGRUX_KEY] = "a key of thirty-two plain bytes";
 static const uint8_t signature[DITGRUX_SIGNATURE] = "no signature of any device, only sixty-four bytes to be spelled";
 static const uint8_t name[DITGRUX_LONGEST_NAME + 1] = "0123456789abcdef0123456789abcdef";
 static ucontext_t home, away;
 static uint32_t number, answer, index_;
-static size_t length, start, form_start, form_length, code_length, room, cut;
+static size_t length, start, form_start, form_length, code_length, line_length, room, cut;
 static uint8_t hash[DITGRUX_HASH], given[DITGRUX_SIGNATURE], form[DITGRUX_LONGEST_COMPACT], text[1024];
 
 static void nothing(void) {}
@@ -69,6 +70,16 @@ static void fields(void)
     answer = ditgrux_fields(output, code_length - cut, &start, &length);
 }
 
+static void line(void)
+{
+    answer = ditgrux_line(output, code_length - cut, text, room, &length);
+}
+
+static void unline(void)
+{
+    answer = ditgrux_unline(optical, line_length - cut, text, room, &length);
+}
+
 static void read_back(void)
 {
     answer = ditgrux_read(settings, sizeof settings, journal + form_start, form_length - cut, text, room, given, sizeof given,
@@ -98,6 +109,16 @@ static void base64(void)
 static void unbase64(void)
 {
     answer = ditgrux_unbase64(0, text, 400 - cut, output, sizeof output, &length);
+}
+
+static void base32(void)
+{
+    answer = ditgrux_base32(journal, 300, text, room, &length);
+}
+
+static void unbase32(void)
+{
+    answer = ditgrux_unbase32(text, 480 - cut, output, sizeof output, &length);
 }
 
 /* Runs a call on the other stack; the bytes that it used, without those of an empty call. */
@@ -188,6 +209,70 @@ static int texts(void)
     return bad + measure("code", code, DITGRUX_OUTPUT_SHORT) + measure("base64", base64, DITGRUX_OUTPUT_SHORT);
 }
 
+/* A call whose text has this length: refused without room and with one byte less, answered with exactly the room. */
+static int in_rooms(const char *title, void (*call)(void), size_t exact)
+{
+    int bad;
+    room = 0;
+    bad = measure(title, call, DITGRUX_OUTPUT_SHORT) + (length != 0);
+    room = exact - 1;
+    bad += measure(title, call, DITGRUX_OUTPUT_SHORT) + (length != 0);
+    room = exact;
+    return bad + measure(title, call, 0) + (length != exact);
+}
+
+/* The line of the code in `output`, which has this length, and back. */
+static int line_and_back(const char *title, size_t longest)
+{
+    int bad;
+    room = sizeof text;
+    bad = measure("line", line, 0) + exactly(title, length, longest);
+    line_length = length <= sizeof optical ? length : 0;
+    memcpy(optical, text, line_length);
+    bad += measure("unline", unline, 0) + (length != code_length || memcmp(text, output, code_length));
+    bad += in_rooms("line", line, line_length) + in_rooms("unline", unline, code_length);
+    cut = 1;
+    bad += measure("line", line, DITGRUX_BAD_CODE) + measure("unline", unline, DITGRUX_BAD_LINE);
+    cut = line_length;
+    bad += measure("unline", unline, DITGRUX_BAD_LINE);
+    cut = 0;
+    output[4] = '_';
+    bad += measure("line", line, DITGRUX_BAD_FIELDS);
+    return bad;
+}
+
+/* The code with the longest line: a payload of the longest length, six bytes of counter and 126 of chain, nothing else in its fields but
+ * what fills it up. */
+static void make_longest_line(void)
+{
+    static const uint8_t fields[] = {0, 8, 9, 10, 11, 12, 13, 14, 15, 16, 25, 26, DITGRUX_LONGEST_PAYLOAD};
+    size_t i;
+    code_length = DITGRUX_LONGEST_CODE;
+    memset(output, 'A', code_length);
+    memcpy(output + 1, "R1-", 3);
+    for (i = 0; i < sizeof fields; i++)
+        output[fields[i]] = '_';
+    memset(output + code_length - 2, '=', 2);
+}
+
+static int lines(void)
+{
+    int bad;
+    room = sizeof text;
+    code();
+    code_length = length;
+    memcpy(output, text, code_length);
+    bad = line_and_back("line", DITGRUX_LONGEST_LINE);
+    make_longest_line();
+    bad += line_and_back("any line", DITGRUX_LONGEST_ANY_LINE);
+    room = sizeof text;
+    bad += measure("base32", base32, 0) + (length != 480) + measure("unbase32", unbase32, 0) + (length != 300);
+    cut = 1;
+    bad += measure("unbase32", unbase32, DITGRUX_BAD_FORM);
+    cut = 0;
+    return bad + in_rooms("base32", base32, 480);
+}
+
 /* What is left of the refused calls on a whole journal: each stops at another question. */
 static int refusals(void)
 {
@@ -207,6 +292,6 @@ int main(void)
     int bad;
     room = sizeof journal;
     bad = longest();
-    bad += refusals() + texts();
+    bad += refusals() + texts() + lines();
     return bad ? EXIT_FAILURE : EXIT_SUCCESS;
 }
