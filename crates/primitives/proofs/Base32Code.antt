@@ -21,7 +21,7 @@ use Rattle.primitives.specs.declared.base64.Decoded.the-variants.{Upto, 
 use Rattle.primitives.proofs.ByteLists.{bytes-take, bytes-drop}
 use Rattle.primitives.proofs.Each.{Each, none-left, one-more, each-at}
 use Rattle.primitives.proofs.Numbers.{length-bytesOf, value-lt}
-use Rattle.primitives.proofs.Over.{over-nil, over-snoc, length-over, then, placed-room, placed-full, after-room, after-full, room-true, room-false}
+use Rattle.primitives.proofs.Over.{length-over, then, placed-room, placed-full, after-room, after-full, room-true, room-false}
 use Rattle.primitives.proofs.Radix.{digits-zero, digits-suc, length-digits, number-snoc}
 use Rattle.primitives.proofs.Rows.{both}
 use Rattle.primitives.proofs.Table.{every, by-rule}
@@ -111,39 +111,33 @@ module _ {s out₀ out : List ℕ} {at i o : ℕ} (e : Pass (lettersOf base32) s
 pub lent-rest : (s : List ℕ) (i : ℕ) → take (length s - i) (drop i s) ≡ drop i s
 lent-rest s i = take-all (length s - i) (drop i s) (omega (arith, length-drop i s))
 
--- ---- '=' one after the other
+-- ---- at most eight '='
 
-pub record Filling (out₀ : List ℕ) (at n : ℕ) (out : List ℕ) (i : ℕ) : Type 0 where
-  pub within : i ≤ n
-  pub room : at + n ≤ length out₀
-  pub is : out ≡ overwrite out₀ at (replicate i fill)
+abbrev pub eightFills : List ℕ
+eightFills = fill ∷ fill ∷ fill ∷ fill ∷ fill ∷ fill ∷ fill ∷ fill ∷ []
 
-pub filling-start : (out₀ : List ℕ) (at n : ℕ) → at + n ≤ length out₀ → Filling out₀ at n out₀ 0
-filling-start out₀ at n h = record { within = omega arith; room = h; is = sym (over-nil out₀ at) }
+fills : (n : ℕ) → n ≤ 8 → take n eightFills ≡ replicate n fill
+fills n h = ap (take n) refl ∙ take-replicate n 8 h
+  where
+    take-replicate : (n m : ℕ) → n ≤ m → take n (replicate m fill) ≡ replicate n fill
+    take-replicate zero m h = refl
+    take-replicate (suc n) zero h = absurd (omega arith)
+    take-replicate (suc n) (suc m) h = ap (λ (l : List ℕ). fill ∷ l) (take-replicate n m (omega arith))
 
-one-fill-more : (i : ℕ) → replicate i fill ++ (fill ∷ []) ≡ replicate (suc i) fill
-one-fill-more zero = refl
-one-fill-more (suc i) = ap (λ (l : List ℕ). fill ∷ l) (one-fill-more i)
+pub fill-few : (n k : ℕ) → n ≡ fillFor 8 k → n ≤ 8
+unfolding fillFor
+fill-few n k e = omega arith
 
-module _ {out₀ out : List ℕ} {at n i : ℕ} (e : Filling out₀ at n out i) where
-  fills : length (replicate i fill) ≡ i
-  fills = length-replicate i fill
-
-  pub filling-long : length out ≡ length out₀
-  filling-long = ap length (e .is) ∙ length-over out₀ at (replicate i fill) (omega (arith, fills, e .within, e .room))
-
-  pub filling-more : i < n → Filling out₀ at n (set out (at + i) 61) (i + 1)
-  filling-more h =
-      record {
-        within = omega arith;
-        room = e .room;
-        is = (λ j. set (e .is j) (at + sym fills j) 61)
-            ∙ over-snoc out₀ at (replicate i fill) 61 (omega (arith, fills, e .room))
-            ∙ ap (overwrite out₀ at) (one-fill-more i ∙ ap (λ (k : ℕ). replicate k fill) (sym (add-one i)));
-      }
-
-  pub filling-end : n ≤ i → out ≡ overwrite out₀ at (replicate n fill)
-  filling-end h = let s : i ≡ n = omega (arith, e .within) in e .is ∙ ap (λ (k : ℕ). overwrite out₀ at (replicate k fill)) s
+pub filled-in : (out : List ℕ) (at n : ℕ) {r : ℕ} {out′ : List ℕ} → n ≤ 8 → at + n ≤ length out → r ≡ placeAfter out at (take (n - 0) eightFills) → out′ ≡ placed out at (take (n - 0) eightFills)
+    → (r ≡ at + n) × (out′ ≡ overwrite out at (replicate n fill))
+filled-in out at n {r} {out′} h room p q =
+    let z : n - 0 ≡ n = omega arith in
+    let e : take (n - 0) eightFills ≡ replicate n fill = ap (λ (k : ℕ). take k eightFills) z ∙ fills n h in
+    let l : length (replicate n fill) ≡ n = length-replicate n fill in
+    let fits : at + length (replicate n fill) ≤ length out = omega arith in (
+      p ∙ ap (placeAfter out at) e ∙ after-room out at (replicate n fill) fits ∙ ap (λ (k : ℕ). at + k) l,
+      q ∙ ap (placed out at) e ∙ placed-room out at (replicate n fill) fits,
+    )
 
 -- ---- the number of letters
 

@@ -10,6 +10,7 @@ ghost use Rattle.primitives.specs.BaseRule.{fill, lettersOf, fillFor, le
 ghost use Rattle.primitives.specs.Base32.{LetterTable32, DigitTable32, letter32, digit32, base32, encoding32, encodedLength32, decodeAnswer32, decodeBuffer32};
 use crate::base64::Decoded;
 use crate::buffer::has_room;
+use crate::buffer::put;
 use crate::buffer::put_be;
 use crate::buffer::value_at;
 
@@ -96,17 +97,13 @@ fn put_letters(table: &[u8; 32], s: &[u8], out: &mut [u8], at: usize) -> usize
     put_last(table, &s[i..], out, o)
 }
 
-// Writes n '=' at a place; returns the place after them.
+// Writes at most eight '=' at a place; returns the place after them.
 fn put_fill(out: &mut [u8], at: usize, n: usize) -> usize
-    requires { ⌜ at + n ≤ length (now out) ⌝ }
+    requires { ⌜ (n ≤ 8) × (at + n ≤ length (now out)) ⌝ }
     ensures { λ r. ⌜ (r ≡ at + n) × (now (out .exit) ≡ overwrite (now (out .entry)) at (replicate n fill)) ⌝ }
 {
-    let mut i: usize = 0;
-    while i < n {
-        out[at + i] = b'=';
-        i += 1;
-    }
-    at + n
+    let marks = *b"========";
+    put(out, at, &marks[0..n])
 }
 
 // How many '=' follow n letters.

@@ -35,7 +35,7 @@ use Rattle.receipt.specs.Form.{part, parts, payloadGood, signatureGood, 
 use Rattle.receipt.specs.Code.{lastAt, partsOfCode}
 use Rattle.receipt.specs.FormReading.{found}
 use Rattle.receipt.specs.Line.{spell, unspell, CodeFields, countOf, twelve, payloadIn, textIn, codeFieldsGood, signatureMark, chainMark, serialMark, counterMark, marksThere, goodFields, withFields, fieldsOf, refusalOf, lineAnswer, lineBuffer}
-use Rattle.receipt.specs.LineReading.{codeFields, fieldsAt, marked, marksOf, AllThere, EndsIn, ThreeFields, three, threeOf, threeRead, noEnds}
+use Rattle.receipt.specs.LineReading.{longestFields, codeFields, fieldsAt, marked, marksOf, AllThere, EndsIn, ThreeFields, three, threeOf, threeRead, noEnds}
 use Rattle.receipt.specs.declared.optical_line.Spelling.{Spelling}
 use Rattle.receipt.specs.declared.optical_line.Spelling.the-variants.{Base64, Base32}
 use Rattle.receipt.specs.declared.form.Reading.{Reading}
@@ -229,11 +229,11 @@ module _ (o : Option (List ℕ)) (out : List ℕ) (at : ℕ) {d : Decoded} (e : 
           ⊎-elim (λ w. absurd (omega (arith, rw k at w))) (λ w. absurd (omega (arith, rw k at w))) t
 
 -- three texts that do not fit
-no-three : (o₁ o₂ o₃ : Option (List ℕ)) → ((x y z : List ℕ) → o₁ ≡ some x → o₂ ≡ some y → o₃ ≡ some z → 259 < length x + length y + length z) → none ≡ three o₁ o₂ o₃
+no-three : (o₁ o₂ o₃ : Option (List ℕ)) → ((x y z : List ℕ) → o₁ ≡ some x → o₂ ≡ some y → o₃ ≡ some z → longestFields < length x + length y + length z) → none ≡ three o₁ o₂ o₃
 no-three none o₂ o₃ h = refl
 no-three (some x) none o₃ h = refl
 no-three (some x) (some y) none h = refl
-no-three (some x) (some y) (some z) h = rw (lt-leb (length x + length y + length z) 259 (h x y z refl refl refl))
+no-three (some x) (some y) (some z) h = rw (lt-leb (length x + length y + length z) longestFields (h x y z refl refl refl))
 
 -- three texts one after the other
 module _ (x y z rest : List ℕ) (n₁ n₂ n₃ : ℕ) (e₁ : n₁ ≡ length x) (e₂ : n₂ ≡ n₁ + length y) (e₃ : n₃ ≡ n₂ + length z) where
@@ -258,7 +258,7 @@ pub ends-none : {r : Ends} (buffer : List ℕ) {o : Option ThreeFields} → r �
 unfolding threeRead
 ends-none buffer e n = rw e (record { counter = omega arith; chain = omega arith; signature = omega arith }, n)
 
-module _ (s : Spelling) (text : List ℕ) (m : Marks) (is : m ≡ marksOf text) (out : List ℕ) (l : length out ≡ 259) where
+module _ (s : Spelling) (text : List ℕ) (m : Marks) (is : m ≡ marksOf text) (out : List ℕ) (l : length out ≡ longestFields) where
   abbrev o₁ : Option (List ℕ)
   o₁ = unspell s (part (m .counter + 1) (m .serial) text)
 
@@ -280,7 +280,7 @@ module _ (s : Spelling) (text : List ℕ) (m : Marks) (is : m ≡ marksOf text) 
       g₁ : Got o₁ out 0 n₁ out₁
       g₁ = got o₁ out 0 (e₁ .0) u₁ (e₁ .1)
 
-      l₁ : length out₁ ≡ 259
+      l₁ : length out₁ ≡ longestFields
       l₁ = ap length (g₁ .put) ∙ length-over out 0 (g₁ .bytes) (omega (arith, g₁ .end, g₁ .fits)) ∙ l
 
       -- what stands for the first
@@ -295,7 +295,7 @@ module _ (s : Spelling) (text : List ℕ) (m : Marks) (is : m ≡ marksOf text) 
         g₂ : Got o₂ out₁ n₁ n₂ out₂
         g₂ = got o₂ out₁ n₁ (e₂ .0) u₂ (e₂ .1)
 
-        l₂ : length out₂ ≡ 259
+        l₂ : length out₂ ≡ longestFields
         l₂ = ap length (g₂ .put) ∙ length-over out₁ n₁ (g₂ .bytes) (omega (arith, g₂ .end, g₂ .fits)) ∙ l₁
 
         same₂ : (y : List ℕ) → o₂ ≡ some y → n₁ + length y ≡ n₂
@@ -329,7 +329,7 @@ module _ (s : Spelling) (text : List ℕ) (m : Marks) (is : m ≡ marksOf text) 
           unfolding z
           end₃ = g₃ .end
 
-          small : n₃ ≤ 259
+          small : n₃ ≤ longestFields
           small = omega (arith, g₃ .fits, l₂)
 
           put₁ : out₁ ≡ overwrite out 0 x
@@ -350,12 +350,12 @@ module _ (s : Spelling) (text : List ℕ) (m : Marks) (is : m ≡ marksOf text) 
           unfolding overwrite
           buffer-is = put₃
 
-          l₃ : length out₃ ≡ 259
+          l₃ : length out₃ ≡ longestFields
           l₃ = ap length (g₃ .put) ∙ length-over out₂ n₂ (g₃ .bytes) (omega (arith, g₃ .end, g₃ .fits)) ∙ l₂
 
           three-are : three o₁ o₂ o₃ ≡ some (record { counter = x; chain = y; signature = z })
           unfolding x y z
-          three-are = rw (g₁ .is, g₂ .is, g₃ .is, le-leb (length (g₁ .bytes) + length (g₂ .bytes) + length (g₃ .bytes)) 259 (omega (arith, end₁, end₂, end₃, small)))
+          three-are = rw (g₁ .is, g₂ .is, g₃ .is, le-leb (length (g₁ .bytes) + length (g₂ .bytes) + length (g₃ .bytes)) longestFields (omega (arith, end₁, end₂, end₃, small)))
 
           pub three-found : EndsIn (record { good = true; counter = n₁; chain = n₂; signature = n₃ }) out₃ × (threeRead (record { good = true; counter = n₁; chain = n₂; signature = n₃ }) out₃ ≡ threeOf s text)
           unfolding threeRead
@@ -619,16 +619,16 @@ unfolding after
 fit-fields start serial none o₂ o₃ = refl
 fit-fields start serial (some x) none o₃ = refl
 fit-fields start serial (some x) (some y) none = refl
-fit-fields start serial (some x) (some y) (some z) = go (leb (length x + length y + length z) 259) refl
+fit-fields start serial (some x) (some y) (some z) = go (leb (length x + length y + length z) longestFields) refl
   where
-    bad : 259 < length x + length y + length z → (t : Bool) → codeFieldsGood (codeFields start x serial y z) ≡ t → t ≡ false
+    bad : longestFields < length x + length y + length z → (t : Bool) → codeFieldsGood (codeFields start x serial y z) ≡ t → t ≡ false
     bad h true g = let k = good-sizes (codeFields start x serial y z) g in absurd (omega arith)
     bad h false g = refl
 
-    go : (t : Bool) → leb (length x + length y + length z) 259 ≡ t
+    go : (t : Bool) → leb (length x + length y + length z) longestFields ≡ t
         → goodFields (codeFields start x serial y z) ≡ after start serial (cond t (some (record { counter = x; chain = y; signature = z })) none)
     go true q = refl
-    go false q = rw (bad (leb-false (length x + length y + length z) 259 q) (codeFieldsGood (codeFields start x serial y z)) refl)
+    go false q = rw (bad (leb-false (length x + length y + length z) longestFields q) (codeFieldsGood (codeFields start x serial y z)) refl)
 
 module _ (from to : Spelling) (text out : List ℕ) (refused : ℕ) {m : Marks} (is : m ≡ marksOf text) where
   pub no-marks : not (m .there) ≡ true → Answers refused (Option·map (textIn to) (fieldsOf from text)) out (record { number = refused; length = 0 }) out

@@ -1,5 +1,5 @@
 -- What the private readers and writers of code and line promise their callers. Only their contracts use this, not the definitions of the calls.
-use Prim.Native.Nat.{ℕ, _+_, _≤_, _<_}
+use Prim.Native.Nat.{ℕ, _+_, _*_, _/_, _≤_, _<_}
 use mathlib.Core.Bool.{false, cond}
 use mathlib.Core.List.{List, [], _∷_, _++_}
 use mathlib.Core.Option.{Option, none, some}
@@ -14,9 +14,9 @@ use Rattle.receipt.specs.declared.optical_line.Spelling.{Spelling}
 use Rattle.receipt.specs.declared.optical_line.Marks.{Marks}
 use Rattle.receipt.specs.declared.optical_line.Ends.{Ends}
 
--- the most bytes of the three spelled fields together: counter and chain are shorter than the payload
+-- the most bytes of the three spelled fields together: a code has four letters for three bytes of counter and chain, all of them in its payload
 abbrev pub longestFields : ℕ
-longestFields = longestPayload + 64
+longestFields = longestPayload * 3 / 4 + 64
 
 -- the five fields
 abbrev pub codeFields : List ℕ → List ℕ → List ℕ → List ℕ → List ℕ → CodeFields

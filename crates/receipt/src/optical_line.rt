@@ -34,8 +34,8 @@ pub(crate) enum Spelling {
     Base32,
 }
 
-// The most bytes of counter field, chain field and signature together: counter and chain are shorter than the payload.
-const LONGEST_FIELDS: usize = LONGEST_PAYLOAD + 64;
+// The most bytes of counter field, chain field and signature together: a code has four letters for three bytes of the first two, all of them in its payload.
+const LONGEST_FIELDS: usize = LONGEST_PAYLOAD * 3 / 4 + 64;
 
 // ---- the spelled fields
 

@@ -1,6 +1,6 @@
 -- `base32::base32_encode` meets its contract: the letters are written, and the padding after them.
 use Rattle.primitives.proofs.Questions.{at-most, above}
-use Rattle.primitives.proofs.Base32Code.{encode-full, letters-room, fill-room, encode-room}
+use Rattle.primitives.proofs.Base32Code.{fill-few, encode-full, letters-room, fill-room, encode-room}
 use borrow.Author.Needs.{needs}
 use native.Mathlib.Omega.{arith}
 use Rattle.primitives.proofs.base32.base32_encode.Statement.{statement}
@@ -28,7 +28,8 @@ fill-for-requires : tie.Need-fill-for-requires
 fill-for-requires c κs = search needs
 
 put-fill-requires : tie.Need-put-fill-requires
-put-fill-requires c κs = fill-room _ _ _ (c .before .before .before .before .before .before .before .before .before .before .base32-length .ensures) (at-most _ _ (c .before .before .before .before .before .before .before .before .before .has-room .ensures) (c .before .before .before .before .before .before .before .before .if1 .left)) (c .before .before .before .before .put-letters .ensures .0) (c .fill-for .ensures) (c .before .before .before .before .put-letters .ensures .1)
+put-fill-requires c κs =
+    (fill-few _ _ (c .fill-for .ensures), fill-room _ _ _ (c .before .before .before .before .before .before .before .before .before .before .base32-length .ensures) (at-most _ _ (c .before .before .before .before .before .before .before .before .before .has-room .ensures) (c .before .before .before .before .before .before .before .before .if1 .left)) (c .before .before .before .before .put-letters .ensures .0) (c .fill-for .ensures) (c .before .before .before .before .put-letters .ensures .1))
 
 same-length : tie.Need-same-length
 same-length c = search needs

@@ -1,56 +1,27 @@
--- `base32::put_fill` meets its contract. The loop's invariant: `i` of them are written (`Filling`).
-use Prim.Native.Nat.{_-_}
-use Rattle.primitives.proofs.Base32Code.{Filling, filling-start, filling-long, filling-more, filling-end}
+-- `base32::put_fill` meets its contract.
+use Rattle.primitives.proofs.Base32Code.{filled-in}
 use borrow.Author.Needs.{needs}
-use native.Mathlib.Omega.{arith}
 use Rattle.primitives.proofs.base32.put_fill.Statement.{statement}
 use Rattle.primitives.proofs.base32.put_fill.Tie as tie
 
-abbrev Inv-loop : tie.InvT-loop
-Inv-loop out₀ at n i₀ out i = Filling out₀ at n out i
+sub-put : tie.Need-sub-put
+sub-put c = search needs
 
-abbrev μ-loop : tie.MeasureT-loop
-μ-loop out₀ at n i₀ out i = n - i
+part-put-start : tie.Need-part-put-start
+part-put-start c = search needs
 
-loop-holds : tie.Need-loop-holds Inv-loop μ-loop
-loop-holds c = filling-start _ _ _ (c .pre)
+part-put-end : tie.Need-part-put-end
+part-put-end c = search needs
 
-add-out : tie.Need-add-out Inv-loop μ-loop
-add-out c = omega (arith, c .before .loop .inv .room, c .loop-test .taken)
+put-requires : tie.Need-put-requires
+put-requires c κs = search needs
 
-slice-write-out : tie.Need-slice-write-out Inv-loop μ-loop
-slice-write-out c = omega (arith, filling-long (c .before .loop .inv), c .before .loop .inv .room, c .loop-test .taken)
+same-length : tie.Need-same-length
+same-length c = search needs
 
-add-i : tie.Need-add-i Inv-loop μ-loop
-add-i c = search needs
-
-loop-less : tie.Need-loop-less Inv-loop μ-loop
-loop-less c = search needs
-
-loop-again : tie.Need-loop-again Inv-loop μ-loop
-loop-again c = filling-more (c .before .loop .inv) (c .loop-test .taken)
-
-add-result : tie.Need-add-result Inv-loop μ-loop
-add-result c = omega (arith, c .before .loop .inv .room)
-
-same-length : tie.Need-same-length Inv-loop μ-loop
-same-length c = filling-long (c .before .loop .inv)
-
-returns : tie.Need-returns Inv-loop μ-loop
-returns c = (search needs, filling-end (c .before .loop .inv) (c .loop-test .left))
+returns : tie.Need-returns
+returns c = filled-in _ _ _ (c .before .before .before .before .before .before .before .before .before .pre .0) (c .before .before .before .before .before .before .before .before .before .pre .1) (c .before .before .put .ensures .0) (c .before .before .put .ensures .1)
 
 pub put-fill-spec : {M : Type 1} → statement M
 put-fill-spec =
-    tie.close
-    (tie.spec
-    Inv-loop
-    μ-loop
-    loop-holds
-    add-out
-    slice-write-out
-    add-i
-    loop-less
-    loop-again
-    add-result
-    same-length
-    returns)
+    tie.close (tie.spec sub-put part-put-start part-put-end put-requires same-length returns)
