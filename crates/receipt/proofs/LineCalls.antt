@@ -370,11 +370,11 @@ module _ (s : Spelling) (text : List ℕ) (m : Marks) (is : m ≡ marksOf text) 
 -- ---- counting
 
 module _ (b : ℕ) (s : List ℕ) (i : ℕ) where
-  pub count-yes : i < length s → getD s i 0 ≡ b → countOf b (drop i s) ≡ 1 + countOf b (drop (i + 1) s)
+  count-yes : i < length s → getD s i 0 ≡ b → countOf b (drop i s) ≡ 1 + countOf b (drop (i + 1) s)
   unfolding countOf
   count-yes h e = rw (drop-cons s i 0 h, eq-eqb (getD s i 0) b e, add-one i) (omega arith)
 
-  pub count-no : i < length s → (getD s i 0 ≡ b → ⊥) → countOf b (drop i s) ≡ countOf b (drop (i + 1) s)
+  count-no : i < length s → (getD s i 0 ≡ b → ⊥) → countOf b (drop i s) ≡ countOf b (drop (i + 1) s)
   unfolding countOf
   count-no h n = rw (drop-cons s i 0 h, ne-eqb (getD s i 0) b n, add-one i)
 
@@ -390,7 +390,7 @@ module _ (b : ℕ) (s : List ℕ) (i n : ℕ) {n′ : ℕ} (h : i < length s) (i
   pub passed : (getD s i 0 ≡ b → ⊥) → n′ ≡ n → (i + 1 ≤ length s) × (n′ ≤ i + 1) × (n′ + countOf b (drop (i + 1) s) ≡ countOf b s)
   passed e q = let k = count-no b s i h e in (omega arith, omega arith, omega arith)
 
-pub count-most : (b : ℕ) (s : List ℕ) → countOf b s ≤ length s
+count-most : (b : ℕ) (s : List ℕ) → countOf b s ≤ length s
 unfolding countOf
 count-most b [] = omega arith
 count-most b (x ∷ s) = go (count-most b s) (eqb x b)
@@ -409,7 +409,7 @@ module _ (f : CodeFields) where
   unfolding payloadIn rest
   front-is = simp append-assoc
 
-  pub length-payload : length (payloadIn Base64 f) ≡ length (f .start) + (length (f .counter) + 2) / 3 * 4 + length (f .serial) + (length (f .chain) + 2) / 3 * 4 + 3
+  length-payload : length (payloadIn Base64 f) ≡ length (f .start) + (length (f .counter) + 2) / 3 * 4 + length (f .serial) + (length (f .chain) + 2) / 3 * 4 + 3
   unfolding payloadIn
   length-payload = simp (length-append, length-encoding) (omega arith)
 
