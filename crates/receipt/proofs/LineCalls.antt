@@ -44,6 +44,8 @@ use Rattle.receipt.specs.declared.optical_line.Ends.{Ends}
 use Rattle.receipt.proofs.Finding.{last-most}
 use Rattle.receipt.proofs.CodeTexts.{good-payload, good-signature}
 use Rattle.receipt.proofs.CodeCalls.{has-room}
+use Rattle.receipt.proofs.LineFields.{good-most}
+use Rattle.receipt.proofs.Lines.{payload-length}
 use Rattle.receipt.proofs.FormCalls.{lent-front, lent-rest, put-next}
 
 -- what a call answers and leaves in the output, if it is refused with n or has a text to write
@@ -622,7 +624,7 @@ fit-fields start serial (some x) (some y) none = refl
 fit-fields start serial (some x) (some y) (some z) = go (leb (length x + length y + length z) longestFields) refl
   where
     bad : longestFields < length x + length y + length z → (t : Bool) → codeFieldsGood (codeFields start x serial y z) ≡ t → t ≡ false
-    bad h true g = let k = good-sizes (codeFields start x serial y z) g in absurd (omega arith)
+    bad h true g = let k = good-most (codeFields start x serial y z) g in absurd (omega (arith, payload-length (codeFields start x serial y z), k .0, k .1))
     bad h false g = refl
 
     go : (t : Bool) → leb (length x + length y + length z) longestFields ≡ t
