@@ -1,16 +1,16 @@
 -- BASE32: the loops of the writer and of the reader, the reader's tests, and the answers of both.
 use Prim.Native.Nat.{ℕ, zero, suc, _+_, _-_, _*_, _/_, _%_, _^_, _≤_, _<_}
-use mathlib.Core.Path.{_≡_, refl, sym, ap, _∙_, subst}
-use mathlib.Core.Bool.{Bool, true, false, cond, _&&_, and-false, and-true}
+use mathlib.Core.Path.{_≡_, refl, sym, ap, _∙_}
+use mathlib.Core.Bool.{Bool, true, false, _&&_, and-false, and-true}
 use mathlib.Core.List.{List, [], _∷_, _++_, map}
 use mathlib.Core.Option.{some}
 use native.Mathlib.Nat.{pow-suc, pow-le-pow-right}
 use native.Mathlib.Numerals.{add-one}
 use native.Mathlib.Omega.{arith}
-use borrow.Author.Tests.{lt-ltb, le-ltb, eq-eqb, ne-eqb, eqb-true}
-use lib.Dec.{T, ltb, eqb, lit<, lit≤}
+use borrow.Author.Tests.{lt-ltb, le-ltb, eq-eqb, ne-eqb}
+use lib.Dec.{T, eqb, lit<, lit≤}
 use lib.Pow.{shl-exact}
-use lib.ListN.{length, getD, take, drop, set, replicate, length-append, length-drop, length-replicate, length-map, take-append-drop, drop-of-length-le}
+use lib.ListN.{length, getD, take, drop, replicate, length-drop, length-replicate, length-map, take-append-drop, drop-of-length-le}
 use lib.Seq.{take-suc, take-all, length-take-le, drop-drop, getD-drop}
 use Rattle.primitives.specs.Bytes.{AllBytes}
 use Rattle.primitives.specs.Place.{overwrite, placed, placeAfter}
@@ -18,15 +18,16 @@ use Rattle.primitives.specs.Number.{digitsOf, numberOf, numberAfter, byt
 use Rattle.primitives.specs.BaseRule.{fill, lettersFor, spareBits, lettersOf, fillFor, textOf, numberIn, bytesFor, bitsAfter, bytesIn, lettersKnown, wellEnded, beforeFill, lettersIn, isText, readText}
 use Rattle.primitives.specs.Base32.{letter32, digit32, base32, LetterTable32, DigitTable32, encoding32, decoding32, encodedLength32, decodeAnswer32, decodeBuffer32}
 use Rattle.primitives.specs.declared.base64.Decoded.the-variants.{Upto, Refused, NoRoom}
-use Rattle.primitives.proofs.ByteLists.{bytes-take, bytes-drop}
-use Rattle.primitives.proofs.Each.{Each, none-left, one-more, each-at}
+use Rattle.primitives.proofs.ByteLists.{bytes-drop}
+use Rattle.primitives.proofs.Each.{Each, one-more, each-at}
 use Rattle.primitives.proofs.Numbers.{length-bytesOf, value-lt}
-use Rattle.primitives.proofs.Over.{length-over, then, placed-room, placed-full, after-room, after-full, room-true, room-false}
+use Rattle.primitives.proofs.Over.{length-over, then, placed-room, placed-full, after-room, after-full}
 use Rattle.primitives.proofs.Radix.{digits-zero, digits-suc, length-digits, number-snoc}
 use Rattle.primitives.proofs.Rows.{both}
 use Rattle.primitives.proofs.Table.{every, by-rule}
 use Rattle.primitives.proofs.Writing.{drop-one}
-use Rattle.primitives.proofs.Base64Loops.{Pass, pass-room, pass-more, pass-rest, pass-left, pass-long}
+use Rattle.primitives.proofs.Base64Answers.{answer-full, answer-room}
+use Rattle.primitives.proofs.Base64Loops.{Pass, pass-room, pass-more, pass-rest, pass-left}
 use Rattle.primitives.proofs.BaseTexts.{map-append, known-letter, before-go, before-stop, before-zero, length-letters, letters-most, spare-lt}
 use Rattle.primitives.proofs.BaseGroups.{letters-append, bytes-append-in}
 use Rattle.primitives.proofs.Base32Laws.{base32-good, length-encoding32}
@@ -388,12 +389,7 @@ module _ (text out : List ℕ) (at : ℕ) where
     is = rw (sym e) (ap (λ (m : ℕ). some (bytesIn base32 (take m text))) count)
 
     pub decode-full : length out < at + (n / 8 * 5 + n % 8 * 5 / 8) → (NoRoom ≡ decodeAnswer32 text out at) × (out ≡ decodeBuffer32 text out at)
-    decode-full full =
-        let h : length out < at + length (bytesIn base32 (take n text)) = omega (arith, size) in
-        rw (sym is) (
-          ap (λ (t : Bool). cond t (Upto (at + length (bytesIn base32 (take n text)))) NoRoom) (sym (room-false out at (bytesIn base32 (take n text)) h)),
-          sym (placed-full out at (bytesIn base32 (take n text)) h),
-        )
+    decode-full full = answer-full (decoding32 text) (bytesIn base32 (take n text)) out at is (omega (arith, size))
 
     module _ (fit : at + (n / 8 * 5 + n % 8 * 5 / 8) ≤ length out) where
       pub decode-fits : at + length (bytesIn base32 (take n text)) ≤ length out
@@ -401,11 +397,7 @@ module _ (text out : List ℕ) (at : ℕ) where
 
       pub decode-room : {o : ℕ} {out′ : List ℕ} → o ≡ at + length (bytesIn base32 (take n text)) → out′ ≡ overwrite out at (bytesIn base32 (take n text))
           → (Upto o ≡ decodeAnswer32 text out at) × (out′ ≡ decodeBuffer32 text out at)
-      decode-room p q =
-          rw (sym is) (
-            ap Upto p ∙ ap (λ (t : Bool). cond t (Upto (at + length (bytesIn base32 (take n text)))) NoRoom) (sym (room-true out at (bytesIn base32 (take n text)) decode-fits)),
-            q ∙ sym (placed-room out at (bytesIn base32 (take n text)) decode-fits),
-          )
+      decode-room = answer-room (decoding32 text) (bytesIn base32 (take n text)) out at is decode-fits
 
 -- ---- the writer's answer
 

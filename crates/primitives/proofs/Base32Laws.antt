@@ -1,7 +1,7 @@
 -- BASE32, what a caller may rely on: it is a good base, so that reading what was written gives it back and an accepted text is the
 -- encoding of its bytes; the length of a text, and which bytes it consists of.
-use Prim.Native.Nat.{ℕ, zero, suc, _+_, _-_, _*_, _/_, _%_, _≤_, _<_}
-use mathlib.Core.Path.{_≡_, refl, sym, ap, _∙_}
+use Prim.Native.Nat.{ℕ, _+_, _-_, _*_, _/_, _%_, _≤_, _<_}
+use mathlib.Core.Path.{_≡_, refl, ap, _∙_}
 use mathlib.Core.Bool.{Bool, not, _&&_, _||_}
 use mathlib.Core.List.{List}
 use mathlib.Core.Option.{some}
@@ -10,7 +10,7 @@ use borrow.Author.Tests.{lt-ltb}
 use lib.Dec.{T, ltb, eqb, ltb→lt, eqb→eq}
 use lib.ListN.{length, getD, replicate}
 use Rattle.primitives.specs.Bytes.{AllBytes}
-use Rattle.primitives.specs.BaseRule.{GoodBase, fill, lettersFor, fillFor}
+use Rattle.primitives.specs.BaseRule.{GoodBase, lettersFor, fillFor}
 use Rattle.primitives.specs.Base32.{letter32, digit32, base32, encoding32, decoding32, encodedLength32}
 use Rattle.primitives.proofs.ByteLists.{each-bytes}
 use Rattle.primitives.proofs.Each.{each-at}

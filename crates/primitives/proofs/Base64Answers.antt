@@ -3,7 +3,7 @@ use Prim.Native.Nat.{ℕ, zero, suc, _+_, _-_, _*_, _/_, _%_, _≤_, _<_}
 use mathlib.Core.Path.{_≡_, refl, sym, ap, _∙_}
 use mathlib.Core.Bool.{Bool, true, false, cond, _&&_}
 use mathlib.Core.List.{List, [], _∷_}
-use mathlib.Core.Option.{some}
+use mathlib.Core.Option.{Option, some}
 use native.Mathlib.Omega.{arith}
 use borrow.Author.Tests.{eq-eqb, ne-eqb}
 use lib.Dec.{eqb}
@@ -13,7 +13,7 @@ use Rattle.primitives.specs.Place.{overwrite, placed, placeAfter}
 use Rattle.primitives.specs.declared.base64.Alphabet.{Alphabet}
 use Rattle.primitives.specs.declared.base64.Alphabet.the-variants.{Standard, UrlSafe}
 use Rattle.primitives.specs.declared.base64.Decoded.the-variants.{Upto, Refused, NoRoom}
-use Rattle.primitives.specs.Base64.{letters, pad, paddingCount, padding, encoding, encodedLength, bytes, known, ended, whole, unmarked, letterCount, unpadded, accepted, decoding, decodeAnswer, decodeBuffer}
+use Rattle.primitives.specs.Base64.{letters, pad, paddingCount, padding, encoding, encodedLength, bytes, known, ended, whole, unmarked, letterCount, unpadded, accepted, decoding, answerOf, bufferOf, decodeAnswer, decodeBuffer}
 use Rattle.primitives.proofs.Base64Lengths.{length-bytes, length-encoding, length-parts}
 use Rattle.primitives.proofs.Over.{then, length-over, placed-room, placed-full, after-room, after-full, room-true, room-false}
 
@@ -102,6 +102,17 @@ module _ (a : Alphabet) (text : List ℕ) where
 
 -- ---- the reader's answer
 
+-- of bytes that were found: there is no room for them, or they are written
+module _ (o : Option (List ℕ)) (ys out : List ℕ) (at : ℕ) (is : some ys ≡ o) where
+  pub answer-full : length out < at + length ys → (NoRoom ≡ answerOf o out at) × (out ≡ bufferOf o out at)
+  answer-full h =
+      rw (sym is) (ap (λ (t : Bool). cond t (Upto (at + length ys)) NoRoom) (sym (room-false out at ys h)), sym (placed-full out at ys h))
+
+  pub answer-room : at + length ys ≤ length out → {end : ℕ} {out′ : List ℕ} → end ≡ at + length ys → out′ ≡ overwrite out at ys
+      → (Upto end ≡ answerOf o out at) × (out′ ≡ bufferOf o out at)
+  answer-room h p q =
+      rw (sym is) (ap Upto p ∙ ap (λ (t : Bool). cond t (Upto (at + length ys)) NoRoom) (sym (room-true out at ys h)), q ∙ sym (placed-room out at ys h))
+
 module _ (a : Alphabet) (text out : List ℕ) (at : ℕ) where
   pub decode-refused : false ≡ accepted a text → (Refused ≡ decodeAnswer a text out at) × (out ≡ decodeBuffer a text out at)
   unfolding decoding
@@ -117,14 +128,8 @@ module _ (a : Alphabet) (text out : List ℕ) (at : ℕ) where
     unfolding decoding
     is = rw (sym e) (ap (λ (m : ℕ). some (bytes a (take m text))) count)
 
-    module _ (full : length out < at + (n / 4 * 3 + n % 4 * 3 / 4)) where
-      pub decode-full : (NoRoom ≡ decodeAnswer a text out at) × (out ≡ decodeBuffer a text out at)
-      decode-full =
-          let h : length out < at + length (bytes a (take n text)) = omega (arith, size) in
-          rw (sym is) (
-            ap (λ (t : Bool). cond t (Upto (at + length (bytes a (take n text)))) NoRoom) (sym (room-false out at (bytes a (take n text)) h)),
-            sym (placed-full out at (bytes a (take n text)) h),
-          )
+    pub decode-full : length out < at + (n / 4 * 3 + n % 4 * 3 / 4) → (NoRoom ≡ decodeAnswer a text out at) × (out ≡ decodeBuffer a text out at)
+    decode-full full = answer-full (decoding a text) (bytes a (take n text)) out at is (omega (arith, size))
 
     module _ (fit : at + (n / 4 * 3 + n % 4 * 3 / 4) ≤ length out) where
       pub bytes-room : at + length (bytes a (take n text)) ≤ length out
@@ -132,8 +137,4 @@ module _ (a : Alphabet) (text out : List ℕ) (at : ℕ) where
 
       pub decode-room : {o : ℕ} {out′ : List ℕ} → o ≡ at + length (bytes a (take n text)) → out′ ≡ overwrite out at (bytes a (take n text))
           → (Upto o ≡ decodeAnswer a text out at) × (out′ ≡ decodeBuffer a text out at)
-      decode-room p q =
-          rw (sym is) (
-            ap Upto p ∙ ap (λ (t : Bool). cond t (Upto (at + length (bytes a (take n text)))) NoRoom) (sym (room-true out at (bytes a (take n text)) bytes-room)),
-            q ∙ sym (placed-room out at (bytes a (take n text)) bytes-room),
-          )
+      decode-room = answer-room (decoding a text) (bytes a (take n text)) out at is bytes-room

@@ -14,7 +14,7 @@ use Rattle.primitives.specs.Bytes.{AllBytes}
 use Rattle.primitives.specs.declared.base64.Alphabet.{Alphabet}
 use Rattle.primitives.specs.declared.base64.Alphabet.the-variants.{Standard, UrlSafe}
 use Rattle.primitives.specs.Base64.{letter, digit, fromBytes, fromDigits, quad, triple, letters, pad, paddingCount, padding, encoding, encodedLength, bytes, known, ended, whole, unmarked, letterCount, unpadded, accepted, decoding}
-use Rattle.primitives.proofs.ByteLists.{bytes-nil, bytes-cons, bytes-head, bytes-tail, bytes-take, each-bytes}
+use Rattle.primitives.proofs.ByteLists.{bytes-head, bytes-tail, bytes-take, each-bytes}
 use Rattle.primitives.proofs.Each.{Each, none-left, one-more, each-append, each-replicate, each-at}
 use Rattle.primitives.proofs.Writing.{drop-one, drop-two}
 use Rattle.primitives.proofs.Base64Letters.{digit-letter, letter-digit, letter-small, foreign, pad-foreign, dot-foreign, digits-group, bytes-group, byte-1, byte-2, byte-3, sum-small, digit-1, digit-2, digit-3, digit-4}

@@ -1,6 +1,6 @@
 -- The rule of RFC 4648, over every good base: bytes that fill whole letters are written, and letters that fill whole bytes are read, before
 -- the rest.
-use Prim.Native.Nat.{ℕ, _+_, _-_, _*_, _/_, _%_, _^_, _≤_, _<_}
+use Prim.Native.Nat.{ℕ, _+_, _-_, _*_, _/_, _%_, _^_, _<_}
 use mathlib.Core.Path.{_≡_, sym, ap, _∙_, subst}
 use mathlib.Core.List.{List, _++_, map}
 use native.Mathlib.Nat.{add-mul, mul-assoc, add-mul-div-right, div-lt-iff-lt-mul}

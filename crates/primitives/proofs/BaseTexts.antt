@@ -2,7 +2,7 @@
 use Prim.Native.Nat.{ℕ, zero, suc, _+_, _-_, _*_, _/_, _%_, _^_, _≤_, _<_}
 use mathlib.Core.Path.{_≡_, refl, sym, ap, _∙_, subst}
 use mathlib.Core.Bool.{Bool, true, false, cond, _&&_}
-use mathlib.Core.List.{List, [], _∷_, _++_, map, append-assoc, append-nil}
+use mathlib.Core.List.{List, [], _∷_, _++_, map}
 use mathlib.Core.Option.{none, some}
 use mathlib.Core.Logic.{_⊎_, inl, inr}
 use native.Mathlib.Nat.{le-of-suc-le-suc, eq-or-lt-of-le, add-zero, add-suc, suc-mul, pow-zero, pow-suc, mod-lt, div-add-mod'}
@@ -14,13 +14,13 @@ use lib.Pow.{pow-pos, pow-add, shl-lt, shr-lt, shl-shr, split, low}
 use lib.ListN.{length, getD, take, drop, replicate, length-append, length-replicate, length-drop, length-map, getD-replicate, take-append-drop, List·getD-append}
 use lib.Seq.{take-at, length-take-le, getD-append-add, getD-drop, ext-getD}
 use Rattle.primitives.specs.Bytes.{AllBytes}
-use Rattle.primitives.specs.Number.{digitsOf, numberOf, bytesOf, valueOf}
+use Rattle.primitives.specs.Number.{digitsOf, numberOf, valueOf}
 use Rattle.primitives.specs.BaseRule.{Base, GoodBase, fill, lettersFor, spareBits, lettersOf, fillFor, textOf, numberIn, bytesFor, bitsAfter, bytesIn, lettersKnown, wellEnded, beforeFill, lettersIn, isText, readText}
-use Rattle.primitives.proofs.ByteLists.{bytes-head, bytes-tail, bytes-take, each-bytes}
+use Rattle.primitives.proofs.ByteLists.{bytes-head, bytes-tail, bytes-take}
 use Rattle.primitives.proofs.Each.{Each, none-left, one-more, each-append, each-replicate, each-at}
 use Rattle.primitives.proofs.Numbers.{length-bytesOf, bytes-bytesOf, value-lt, value-bytesOf, bytesOf-value}
 use Rattle.primitives.proofs.Radix.{Below, length-digits, digits-below, number-lt, number-digits, digits-number}
-use Rattle.primitives.proofs.Rows.{both, true-is-not-false}
+use Rattle.primitives.proofs.Rows.{both}
 
 -- ---- powers
 

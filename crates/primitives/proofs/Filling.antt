@@ -1,5 +1,5 @@
 -- Loops that fill a part of a buffer: a copy from the front, a number's bytes from the end. Also the two answers of a writer.
-use Prim.Native.Nat.{ℕ, zero, suc, _+_, _-_, _/_, _%_, _≤_, _<_}
+use Prim.Native.Nat.{ℕ, zero, suc, _+_, _-_, _≤_, _<_}
 use mathlib.Core.Path.{_≡_, refl, sym, ap, _∙_}
 use mathlib.Core.Bool.{Bool, true, false}
 use mathlib.Core.List.{List, [], _∷_, _++_, append-assoc, append-nil}
@@ -12,7 +12,6 @@ use lib.ListN.{length, getD, take, set}
 use lib.Seq.{take-suc, length-take-le, take-all}
 use Rattle.primitives.specs.Place.{overwrite, placed, placeAfter}
 use Rattle.primitives.proofs.Over.{over-nil, over-snoc, over-cons, length-over, placed-room, placed-full, after-room, after-full}
-use Rattle.primitives.proofs.Numbers.{bytesOf-suc}
 
 -- ---- the question whether there is room, and the answers
 

@@ -31,6 +31,7 @@ use Rattle.primitives.proofs.Rows.{both}
 use Rattle.primitives.proofs.Base64Lengths.{length-encoding}
 use Rattle.primitives.proofs.Base32Laws.{length-encoding32, length32-most}
 use Rattle.receipt.specs.Texts.{beginning}
+use Rattle.receipt.specs.Payload.{longestPayload}
 use Rattle.receipt.specs.Form.{part, parts, payloadGood, signatureGood, partsGood}
 use Rattle.receipt.specs.Code.{lastAt, partsOfCode}
 use Rattle.receipt.specs.FormReading.{found}
@@ -419,41 +420,41 @@ module _ (f : CodeFields) where
     begins : take 4 (payloadIn Base64 f) ≡ take 4 (f .start)
     begins = ap (take 4) front-is ∙ take-append-le 4 (f .start) rest h
 
-    payload-is : payloadGood (payloadIn Base64 f) ≡ leb (length (payloadIn Base64 f)) 195 && same (take 4 (f .start)) beginning
+    payload-is : payloadGood (payloadIn Base64 f) ≡ leb (length (payloadIn Base64 f)) longestPayload && same (take 4 (f .start)) beginning
     unfolding payloadGood
     payload-is = rw (le-leb 4 (length (payloadIn Base64 f)) (omega (arith, length-payload)), begins)
 
-    start-is : payloadGood (f .start) ≡ leb (length (f .start)) 195 && same (take 4 (f .start)) beginning
+    start-is : payloadGood (f .start) ≡ leb (length (f .start)) longestPayload && same (take 4 (f .start)) beginning
     unfolding payloadGood
     start-is = rw (le-leb 4 (length (f .start)) h)
 
     pub start-bad : {r : Bool} → r ≡ payloadGood (f .start) → not r ≡ true → false ≡ payloadGood (payloadIn Base64 f)
-    start-bad {r} e t = go (leb (length (payloadIn Base64 f)) 195) refl
+    start-bad {r} e t = go (leb (length (payloadIn Base64 f)) longestPayload) refl
       where
-        w : leb (length (f .start)) 195 && same (take 4 (f .start)) beginning ≡ false
+        w : leb (length (f .start)) longestPayload && same (take 4 (f .start)) beginning ≡ false
         w = sym start-is ∙ no e t
 
-        go : (t : Bool) → leb (length (payloadIn Base64 f)) 195 ≡ t → false ≡ payloadGood (payloadIn Base64 f)
+        go : (t : Bool) → leb (length (payloadIn Base64 f)) longestPayload ≡ t → false ≡ payloadGood (payloadIn Base64 f)
         go true q =
-            let k : length (f .start) ≤ 195 = omega (arith, leb-true (length (payloadIn Base64 f)) 195 q, length-payload) in
-            let v : same (take 4 (f .start)) beginning ≡ false = rw (le-leb (length (f .start)) 195 k) at w in
+            let k : length (f .start) ≤ longestPayload = omega (arith, leb-true (length (payloadIn Base64 f)) longestPayload q, length-payload) in
+            let v : same (take 4 (f .start)) beginning ≡ false = rw (le-leb (length (f .start)) longestPayload k) at w in
             rw (payload-is, q, v)
         go false q = rw (payload-is, q)
 
     pub start-good : {r : Bool} → r ≡ payloadGood (f .start) → not r ≡ false → {x y : ℕ} → x ≡ (length (f .counter) + 2) / 3 * 4 → y ≡ (length (f .chain) + 2) / 3 * 4
-        → leb (length (f .start) + x + length (f .serial) + y + 3) 195 ≡ payloadGood (payloadIn Base64 f)
+        → leb (length (f .start) + x + length (f .serial) + y + 3) longestPayload ≡ payloadGood (payloadIn Base64 f)
     start-good {r} e t {x} {y} p q =
-        let v = both (leb (length (f .start)) 195) (same (take 4 (f .start)) beginning) (sym start-is ∙ yes e t) in
+        let v = both (leb (length (f .start)) longestPayload) (same (take 4 (f .start)) beginning) (sym start-is ∙ yes e t) in
         let n : length (f .start) + x + length (f .serial) + y + 3 ≡ length (payloadIn Base64 f) = omega (arith, length-payload) in
-        rw (n, payload-is, v .1) (sym (and-true (leb (length (payloadIn Base64 f)) 195)))
+        rw (n, payload-is, v .1) (sym (and-true (leb (length (payloadIn Base64 f)) longestPayload)))
 
 -- ---- good fields
 
 module _ (f : CodeFields) where
   pub record Sizes : Type 0 where
-    pub start : length (f .start) ≤ 195
-    pub spelled : length (f .counter) + length (f .chain) ≤ 195
-    pub serial : length (f .serial) ≤ 195
+    pub start : length (f .start) ≤ longestPayload
+    pub spelled : length (f .counter) + length (f .chain) ≤ longestPayload
+    pub serial : length (f .serial) ≤ longestPayload
     pub signature : length (f .signature) ≤ 64
 
   pub good-sizes : codeFieldsGood f ≡ true → Sizes

@@ -1,7 +1,6 @@
 -- The optical line of a code: the reader is exact, a line is the image of a code, and the calls undo each other.
 use Prim.Native.Nat.{ℕ, _+_, _*_, _/_}
 use mathlib.Core.Path.{_≡_, refl, sym, ap, _∙_}
-use mathlib.Core.Bool.{true}
 use mathlib.Core.List.{List, [], _∷_}
 use mathlib.Core.Option.{Option, none, some, Option·map}
 use native.Mathlib.Omega.{arith}
@@ -13,14 +12,14 @@ use Rattle.primitives.specs.Base32.{encodedLength32}
 use Rattle.primitives.proofs.ByteLists.{bytes-nil, bytes-cons, bytes-append}
 use Rattle.receipt.specs.Form.{Parts}
 use Rattle.receipt.specs.Code.{partsOfCode}
-use Rattle.receipt.specs.Line.{spell, CodeFields, FieldsOfBytes, countOf, payloadIn, textIn, fieldsOf, refusalOf, lineAnswer, lineBuffer, unlineAnswer, unlineBuffer, codeRemade}
+use Rattle.receipt.specs.Line.{spell, CodeFields, FieldsOfBytes, payloadIn, textIn, fieldsOf, refusalOf, lineAnswer, lineBuffer, unlineAnswer, unlineBuffer, codeRemade}
 use Rattle.receipt.specs.LineLaws.{SpelledAs, FieldsAreExact, TwelveSeparators, ImageOf, HasCode, HasLine, LineIsImage, CodeHasLine, LongestLinesAre, LineIsShort, CodeAfterLine, LineAfterCode}
 use Rattle.receipt.specs.declared.optical_line.Spelling.{Spelling}
 use Rattle.receipt.specs.declared.optical_line.Spelling.the-variants.{Base64, Base32}
 use Rattle.receipt.proofs.Codes.{code-back}
 use Rattle.receipt.proofs.MarkCounts.{one-mark, count-append, count-none}
 use Rattle.receipt.proofs.Spellings.{spell-bytes, spell-none, spelledLength, length-spell}
-use Rattle.receipt.proofs.LineFields.{good-parts, good-most, start-nine, serial-none, fields-back, fields-only, one-spelling, code-of, partsIn}
+use Rattle.receipt.proofs.LineFields.{good-parts, good-most, start-nine, serial-none, fields-back, fields-only, code-of, partsIn}
 use Rattle.receipt.proofs.Undoing.{round}
 
 -- ---- the reader

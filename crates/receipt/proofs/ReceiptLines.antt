@@ -15,7 +15,7 @@ use Rattle.receipt.specs.Payload.{payload}
 use Rattle.receipt.specs.Form.{Parts, parts, partsOfForm}
 use Rattle.receipt.specs.Compact.{TypedEntry, signatureText, compact, spellable}
 use Rattle.receipt.specs.Code.{codeText, codeAnswer, codeBuffer}
-use Rattle.receipt.specs.Line.{CodeFields, textIn, longestLine}
+use Rattle.receipt.specs.Line.{textIn, longestLine}
 use Rattle.receipt.specs.LineLaws.{SpelledAs, ImageOf, ReceiptHasLine, FormHasLine}
 use Rattle.receipt.specs.declared.settings.Settings.{Settings}
 use Rattle.receipt.specs.declared.entry.Entry.{Entry}

@@ -1,6 +1,6 @@
 -- `base32::count_letters` meets its contract: only '=' stands after the first `n` bytes.
 use Prim.Native.Nat.{_≤_}
-use mathlib.Core.Path.{_≡_, refl, sym, _∙_}
+use mathlib.Core.Path.{_≡_, sym, _∙_}
 use lib.ListN.{length}
 use Rattle.primitives.specs.BaseRule.{beforeFill, lettersIn}
 use Rattle.primitives.proofs.Base32Code.{letters-start, letters-stop, letters-go, letters-none}

@@ -1,7 +1,5 @@
 -- `base32::is_text` meets its contract: three questions in a row.
-use mathlib.Core.Path.{sym, ap, _∙_}
-use Prim.Native.Nat.{_-_}
-use lib.ListN.{length}
+use mathlib.Core.Path.{sym, _∙_}
 use lib.Seq.{length-take-le}
 use borrow.Author.Tests.{not-true, not-false}
 use Rattle.primitives.proofs.Base32Code.{not-filled, not-known, ended-known}

@@ -1,7 +1,6 @@
 -- `base32::put_last` meets its contract: the letters are those of the number that zero bits fill up.
 use Prim.Native.Nat.{ℕ, _+_}
 use mathlib.Core.Path.{refl, ap, _∙_}
-use lib.ListN.{length}
 use Rattle.primitives.specs.Bytes.{AllBytes}
 use Rattle.primitives.specs.Place.{overwrite}
 use Rattle.primitives.proofs.Base32Code.{last-count, last-is}
