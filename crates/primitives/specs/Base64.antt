@@ -9,7 +9,7 @@ use mathlib.Core.Path.{_≡_}
 use lib.Dec.{ltb, leb, eqb}
 use lib.ListN.{length, getD, take, replicate}
 use Rattle.primitives.specs.Place.{room, placed}
-use Rattle.primitives.specs.BaseRule.{Base}
+use Rattle.primitives.specs.BaseRule.{Base, fill}
 use Rattle.primitives.specs.declared.base64.Alphabet.{Alphabet}
 use Rattle.primitives.specs.declared.base64.Alphabet.the-variants.{Standard, UrlSafe}
 use Rattle.primitives.specs.declared.base64.Decoded.{Decoded}
@@ -75,7 +75,7 @@ letters a (x ∷ y ∷ z ∷ rest) = quad a (fromBytes x y z) ++ letters a rest
 
 -- the padding
 abbrev pub pad : ℕ
-pad = code "="
+pad = fill
 
 -- section 4: padding fills the last group up to four letters; UrlSafe has no padding
 abbrev pub paddingCount : Alphabet → ℕ → ℕ
