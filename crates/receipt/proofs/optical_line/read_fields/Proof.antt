@@ -26,16 +26,13 @@ decode-spelled-requires c κs = search needs
 enum-known-x : tie.Need-enum-known-x
 enum-known-x c = search needs
 
-no-ends-requires : tie.Need-no-ends-requires
-no-ends-requires c κs = search needs
-
 same-length : tie.Need-same-length
 same-length c = search needs
 
 returns : tie.Need-returns
 returns c =
-    let start = c .before .before .before .before .before .before .before .before .before .before in
-    ends-none _ (c .no-ends .ensures) (no-counter (start .args .spelling) (start .args .text .now) (start .args .m) (start .pre .0 .is) (start .args .out .now) (start .pre .1) (c .before .before .before .before .decode-spelled .ensures) (c .before .match .keys2))
+    let start = c .before .before .before .before .before .before .before .before .before in
+    ends-none _ (no-counter (start .args .spelling) (start .args .text .now) (start .args .m) (start .pre .0 .is) (start .args .out .now) (start .pre .1) (c .before .before .before .decode-spelled .ensures) (c .match .keys2))
 
 add-c : tie.Need-add-c
 add-c c = at (c .before .before .before .before .before .before .before .before .before .before .before .before) .chain-fits
@@ -55,17 +52,14 @@ decode-spelled-requires-2 c κs = search needs
 enum-known-y : tie.Need-enum-known-y
 enum-known-y c = search needs
 
-no-ends-requires-2 : tie.Need-no-ends-requires-2
-no-ends-requires-2 c κs = search needs
-
 same-length-2 : tie.Need-same-length-2
 same-length-2 c = search needs
 
 returns-2 : tie.Need-returns-2
 returns-2 c =
-    let start = c .before .before .before .before .before .before .before .before .before .before .before .before .before .before .before .before .before .before .before in
-    ends-none _ (c .no-ends2 .ensures)
-    (no-chain (start .args .spelling) (start .args .text .now) (start .args .m) (start .pre .0 .is) (start .args .out .now) (start .pre .1) (c .before .before .before .before .before .before .before .before .before .before .before .before .before .decode-spelled .ensures) (c .before .before .before .before .before .before .before .before .before .x .given .1) (c .before .before .before .before .decode-spelled2 .ensures) (c .before .match2 .keys2))
+    let start = c .before .before .before .before .before .before .before .before .before .before .before .before .before .before .before .before .before .before in
+    ends-none _
+    (no-chain (start .args .spelling) (start .args .text .now) (start .args .m) (start .pre .0 .is) (start .args .out .now) (start .pre .1) (c .before .before .before .before .before .before .before .before .before .before .before .before .decode-spelled .ensures) (c .before .before .before .before .before .before .before .before .x .given .1) (c .before .before .before .decode-spelled2 .ensures) (c .match2 .keys2))
 
 add-rest : tie.Need-add-rest
 add-rest c = at (c .before .before .before .before .before .before .before .before .before .before .before .before .before .before .before .before .before .before .before .before) .signature-fits
@@ -85,18 +79,15 @@ decode-spelled-requires-3 c κs = search needs
 enum-known-z : tie.Need-enum-known-z
 enum-known-z c = search needs
 
-no-ends-requires-3 : tie.Need-no-ends-requires-3
-no-ends-requires-3 c κs = search needs
-
 same-length-3 : tie.Need-same-length-3
 same-length-3 c = search needs
 
 returns-3 : tie.Need-returns-3
 returns-3 c =
-    let start = c .before .before .before .before .before .before .before .before .before .before .before .before .before .before .before .before .before .before .before .before .before .before .before .before .before .before .before in
-    ends-none _ (c .no-ends3 .ensures)
-    (no-signature (start .args .spelling) (start .args .text .now) (start .args .m) (start .pre .0 .is) (start .args .out .now) (start .pre .1) (c .before .before .before .before .before .before .before .before .before .before .before .before .before .before .before .before .before .before .before .before .before .decode-spelled .ensures) (c .before .before .before .before .before .before .before .before .before .before .before .before .before .before .before .before .before .x .given .1) (c .before .before .before .before .before .before .before .before .before .before .before .before .decode-spelled2 .ensures) (c .before .before .before .before .before .before .before .before .y .given .1)
-    (c .before .before .before .before .decode-spelled3 .ensures) (c .before .match3 .keys2))
+    let start = c .before .before .before .before .before .before .before .before .before .before .before .before .before .before .before .before .before .before .before .before .before .before .before .before .before .before in
+    ends-none _
+    (no-signature (start .args .spelling) (start .args .text .now) (start .args .m) (start .pre .0 .is) (start .args .out .now) (start .pre .1) (c .before .before .before .before .before .before .before .before .before .before .before .before .before .before .before .before .before .before .before .before .decode-spelled .ensures) (c .before .before .before .before .before .before .before .before .before .before .before .before .before .before .before .before .x .given .1) (c .before .before .before .before .before .before .before .before .before .before .before .decode-spelled2 .ensures) (c .before .before .before .before .before .before .before .y .given .1)
+    (c .before .before .before .decode-spelled3 .ensures) (c .match3 .keys2))
 
 same-length-4 : tie.Need-same-length-4
 same-length-4 c = search needs
@@ -117,7 +108,6 @@ read-fields-spec =
     part-decode-spelled-end
     decode-spelled-requires
     enum-known-x
-    no-ends-requires
     same-length
     returns
     add-c
@@ -126,7 +116,6 @@ read-fields-spec =
     part-decode-spelled-end-2
     decode-spelled-requires-2
     enum-known-y
-    no-ends-requires-2
     same-length-2
     returns-2
     add-rest
@@ -135,7 +124,6 @@ read-fields-spec =
     part-decode-spelled-end-3
     decode-spelled-requires-3
     enum-known-z
-    no-ends-requires-3
     same-length-3
     returns-3
     same-length-4
