@@ -1,6 +1,6 @@
 -- Three pieces in a row, where there is room for all.
 use Prim.Native.Nat.{zero-le}
-use borrow.Author.Needs.{needs}
+use mathlib.Core.Path.{refl, _∙_}
 use Rattle.receipt.proofs.LineCalls.{Places, places, ends-in, copied-fits, spelled-short, sum-fits, length-fits, no-place, room-first, room-second, room-third, put-fields}
 use Rattle.receipt.proofs.optical_line.put_fields.Statement.{statement}
 use Rattle.receipt.proofs.optical_line.put_fields.Tie as tie
@@ -99,7 +99,7 @@ put-piece-requires-2 c κs =
     room-second (start .args .spelling) (start .args .m) (start .args .text .now) (start .args .e) (start .args .bytes .now) (start .pre .0) (start .pre .2) (c .before .before .before .before .before .before .before .before .spelled-lengths .ensures) (start .args .out .now) (c .before .before .before .before .before .before .before .if1 .left) (c .before .before .before .before .put-piece .ensures)
 
 slice-aggregate-put-piece : tie.Need-slice-aggregate-put-piece
-slice-aggregate-put-piece c = search needs
+slice-aggregate-put-piece c = refl
 
 put-piece-requires-3 : tie.Need-put-piece-requires-3
 put-piece-requires-3 c κs =
@@ -107,7 +107,7 @@ put-piece-requires-3 c κs =
     room-third (start .args .spelling) (start .args .m) (start .args .text .now) (start .args .e) (start .args .bytes .now) (start .pre .0) (start .pre .2) (c .before .before .before .before .before .before .before .before .before .before .before .before .before .spelled-lengths .ensures) (start .args .out .now) (c .before .before .before .before .before .before .before .before .before .before .before .before .if1 .left) (c .before .before .before .before .before .before .before .before .before .put-piece .ensures) (c .before .before .before .before .put-piece2 .ensures)
 
 same-length : tie.Need-same-length
-same-length c = search needs
+same-length c = c .before .before .put-piece3 .kept .1 .1 .1 .0 ∙ c .before .before .before .before .before .before .before .put-piece2 .kept .1 .1 .1 .0 ∙ c .before .before .before .before .before .before .before .before .before .before .before .before .put-piece .kept .1 .1 .1 .0
 
 returns-2 : tie.Need-returns-2
 returns-2 c =
