@@ -6,8 +6,8 @@ use mathlib.Core.List.{List, [], _∷_, _++_}
 use native.Mathlib.Nat.{add-zero}
 use native.Mathlib.Numerals.{add-one}
 use native.Mathlib.Omega.{arith}
-use borrow.Author.Tests.{eq-eqb, ne-eqb, eqb-true, eqb-false}
-use lib.Dec.{eqb}
+use borrow.Author.Tests.{ltb-true, ltb-false, eq-eqb, ne-eqb, eqb-true, eqb-false}
+use lib.Dec.{ltb, eqb}
 use lib.ListN.{length, getD, take, drop, length-append, length-take, length-drop, take-append-drop, drop-of-length-le}
 use lib.Seq.{drop-cons, drop-at, take-append-le, drop-append-le, length-take-le, getD-append-add, getD-at, getD-take, getD-drop}
 use Rattle.receipt.specs.Form.{firstAt, nextAt, part, Without}
@@ -152,6 +152,23 @@ module _ (b : ℕ) (s : List ℕ) where
       go : lastBefore b s n ≤ length s → (t : Bool) → cond t n (lastBefore b s n) ≤ length s
       go k true = omega arith
       go k false = k
+
+  -- none stands after it
+  before-after : (n j : ℕ) → lastBefore b s n < j → j < n → getD s j 0 ≡ b → ⊥
+  unfolding lastBefore
+  before-after zero j h k q = absurd (omega arith)
+  before-after (suc n) j h k q = go (before-after n j) (eqb (getD s n 0) b) refl h (ltb j n) refl
+    where
+      go : (lastBefore b s n < j → j < n → getD s j 0 ≡ b → ⊥) → (t : Bool) → eqb (getD s n 0) b ≡ t → cond t n (lastBefore b s n) < j → (u : Bool) → ltb j n ≡ u → ⊥
+      go f true e l u p = absurd (omega arith)
+      go f false e l true p = f l (ltb-true j n p) q
+      go f false e l false p =
+          let w : j ≡ n = omega (arith, ltb-false j n p) in
+          eqb-false (getD s n 0) b e (ap (λ (i : ℕ). getD s i 0) (sym w) ∙ q)
+
+  pub last-after : (j : ℕ) → lastAt b s < j → j < length s → getD s j 0 ≡ b → ⊥
+  unfolding lastAt
+  last-after j h k q = before-after (length s) j h k q
 
   pub last-most : lastAt b s ≤ length s
   unfolding lastAt

@@ -1,7 +1,7 @@
 -- What the functions of the optical line show at their returns, over plain lists.
 use Prim.Native.Nat.{ℕ, suc, _+_, _-_, _*_, _/_, _^_, _≤_, _<_}
 use mathlib.Core.Path.{_≡_, refl, sym, ap, _∙_}
-use mathlib.Core.Bool.{Bool, true, false, cond, not, _&&_, and-true, and-false}
+use mathlib.Core.Bool.{Bool, true, false, cond, not, _&&_, and-false}
 use mathlib.Core.List.{List, [], _∷_, _++_, append-assoc}
 use mathlib.Core.Logic.{_⊎_, ⊎-elim}
 use mathlib.Core.Option.{Option, none, some, Option·map}
@@ -13,7 +13,7 @@ use mir.Syntax.{w64}
 use mir.Val.{Fits}
 use lib.Dec.{ltb, leb, eqb}
 use lib.ListN.{length, getD, take, drop, length-append, length-take, length-drop, drop-of-length-le}
-use lib.Seq.{drop-cons, take-append-le, take-all, take-at, drop-at}
+use lib.Seq.{drop-cons, take-suc, take-append-le, take-all, take-at, drop-at, length-take-le, getD-take, getD-drop}
 use Rattle.primitives.specs.Place.{overwrite, placed, placeAfter}
 use Rattle.primitives.specs.Bytes.{same}
 use Rattle.primitives.specs.Base64.{answerOf, bufferOf, encoding}
@@ -36,15 +36,15 @@ use Rattle.receipt.specs.Form.{part, parts, payloadGood, signatureGood, 
 use Rattle.receipt.specs.Code.{lastAt, partsOfCode}
 use Rattle.receipt.specs.FormReading.{found}
 use Rattle.receipt.specs.Line.{spell, unspell, CodeFields, countOf, twelve, payloadIn, textIn, codeFieldsGood, signatureMark, chainMark, serialMark, counterMark, marksThere, goodFields, withFields, fieldsOf, refusalOf, lineAnswer, lineBuffer}
-use Rattle.receipt.specs.LineReading.{longestFields, codeFields, fieldsAt, marked, marksOf, AllThere, EndsIn, ThreeFields, three, threeOf, threeRead, noEnds}
+use Rattle.receipt.specs.LineReading.{longestFields, codeFields, fieldsAt, piece, marksOf, AllThere, EndsIn, ThreeFields, three, threeOf, threeRead}
 use Rattle.receipt.specs.declared.optical_line.Spelling.{Spelling}
 use Rattle.receipt.specs.declared.optical_line.Spelling.the-variants.{Base64, Base32}
 use Rattle.receipt.specs.declared.form.Reading.{Reading}
 use Rattle.receipt.specs.declared.optical_line.Marks.{Marks}
 use Rattle.receipt.specs.declared.optical_line.Ends.{Ends}
-use Rattle.receipt.proofs.Finding.{last-most}
-use Rattle.receipt.proofs.CodeTexts.{good-payload, good-signature}
-use Rattle.receipt.proofs.CodeCalls.{has-room}
+use Rattle.receipt.proofs.Finding.{last-is, last-after, last-most}
+use Rattle.receipt.proofs.CodeTexts.{payload-most, good-payload, good-signature}
+use Rattle.receipt.proofs.CodeCalls.{no-room, has-room}
 use Rattle.receipt.proofs.LineFields.{good-most}
 use Rattle.receipt.proofs.Lines.{payload-length}
 use Rattle.receipt.proofs.FormCalls.{lent-front, lent-rest, put-next}
@@ -70,6 +70,43 @@ module _ {s : Spelling} (xs : List ℕ) where
   pub decode-as : (out : List ℕ) (at : ℕ) {v : Spelling} {r : Decoded} {out′ : List ℕ} → s ≡ v → (r ≡ answerOf (unspell v xs) out at) × (out′ ≡ bufferOf (unspell v xs) out at)
       → (r ≡ answerOf (unspell s xs) out at) × (out′ ≡ bufferOf (unspell s xs) out at)
   decode-as out at e h = rw e h
+
+-- ---- counting
+
+module _ (b : ℕ) (s : List ℕ) (i : ℕ) where
+  count-yes : i < length s → getD s i 0 ≡ b → countOf b (drop i s) ≡ 1 + countOf b (drop (i + 1) s)
+  unfolding countOf
+  count-yes h e = rw (drop-cons s i 0 h, eq-eqb (getD s i 0) b e, add-one i) (omega arith)
+
+  count-no : i < length s → (getD s i 0 ≡ b → ⊥) → countOf b (drop i s) ≡ countOf b (drop (i + 1) s)
+  unfolding countOf
+  count-no h n = rw (drop-cons s i 0 h, ne-eqb (getD s i 0) b n, add-one i)
+
+  pub count-end : length s ≤ i → countOf b (drop i s) ≡ 0
+  unfolding countOf
+  count-end h = rw (drop-of-length-le s h)
+
+-- a turn of the loop
+module _ (b : ℕ) (s : List ℕ) (i n : ℕ) {n′ : ℕ} (h : i < length s) (inv : (i ≤ length s) × (n ≤ i) × (n + countOf b (drop i s) ≡ countOf b s)) where
+  pub counted : getD s i 0 ≡ b → n′ ≡ n + 1 → (i + 1 ≤ length s) × (n′ ≤ i + 1) × (n′ + countOf b (drop (i + 1) s) ≡ countOf b s)
+  counted e q = let k = count-yes b s i h e in (omega arith, omega arith, omega arith)
+
+  pub passed : (getD s i 0 ≡ b → ⊥) → n′ ≡ n → (i + 1 ≤ length s) × (n′ ≤ i + 1) × (n′ + countOf b (drop (i + 1) s) ≡ countOf b s)
+  passed e q = let k = count-no b s i h e in (omega arith, omega arith, omega arith)
+
+count-most : (b : ℕ) (s : List ℕ) → countOf b s ≤ length s
+unfolding countOf
+count-most b [] = omega arith
+count-most b (x ∷ s) = go (count-most b s) (eqb x b)
+  where
+    go : countOf b s ≤ length s → (t : Bool) → cond t (suc (countOf b s)) (countOf b s) ≤ suc (length s)
+    go h true = omega arith
+    go h false = omega arith
+
+count-none : (b : ℕ) (s : List ℕ) → ((i : ℕ) → i < length s → getD s i 0 ≡ b → ⊥) → countOf b s ≡ 0
+unfolding countOf
+count-none b [] w = refl
+count-none b (x ∷ s) w = rw (ne-eqb x b (w 0 (omega arith))) (count-none b s (λ i h e. w (suc i) (omega arith) e))
 
 -- ---- the marks
 
@@ -162,12 +199,15 @@ all-there {m} text e t =
 pub record Places (m : Marks) (text : List ℕ) : Type 0 where
   pub counter : m .counter ≤ length text
   pub after-counter : m .counter + 1 ≤ m .serial
+  pub counter-end : m .counter + 1 ≤ length text
   pub counter-fits : Fits w64 (m .counter + 1)
   pub serial : m .serial ≤ length text
   pub after-serial : m .serial + 1 ≤ m .chain
-  pub serial-fits : Fits w64 (m .serial + 1)
+  pub ordered : m .serial ≤ m .chain
+  pub serial-part : m .serial ≤ m .chain + 1
   pub chain : m .chain ≤ length text
   pub after-chain : m .chain + 1 ≤ m .signature
+  pub chain-end : m .chain + 1 ≤ length text
   pub chain-fits : Fits w64 (m .chain + 1)
   pub signature : m .signature ≤ length text
   pub after-signature : m .signature + 1 ≤ length text
@@ -178,17 +218,92 @@ places text h l =
     record {
       counter = omega arith;
       after-counter = omega arith;
+      counter-end = omega arith;
       counter-fits = omega arith;
       serial = omega arith;
       after-serial = omega arith;
-      serial-fits = omega arith;
+      ordered = omega arith;
+      serial-part = omega arith;
       chain = omega arith;
       after-chain = omega arith;
+      chain-end = omega arith;
       chain-fits = omega arith;
       signature = omega arith;
       after-signature = omega arith;
       signature-fits = omega arith;
     }
+
+-- ---- parts of a text
+
+module _ (s : List ℕ) (a e : ℕ) where
+  length-part : a ≤ e → e ≤ length s → length (part a e s) ≡ e - a
+  length-part h k = omega (arith, length-take (e - a) (drop a s), length-drop a s)
+
+  part-most : {n : ℕ} → length s ≤ n → length (part a e s) ≤ n
+  part-most h = omega (arith, length-take (e - a) (drop a s), length-drop a s)
+
+  part-snoc : a ≤ e → e < length s → part a (e + 1) s ≡ part a e s ++ (getD s e 0 ∷ [])
+  part-snoc h k =
+      let n : e + 1 - a ≡ suc (e - a) = omega arith in
+      let m : a + (e - a) ≡ e = omega arith in
+      ap (λ (i : ℕ). take i (drop a s)) n ∙ take-suc (drop a s) (e - a) 0 (omega (arith, length-drop a s))
+      ∙ ap (λ (x : ℕ). part a e s ++ (x ∷ [])) (getD-drop a s (e - a) 0 ∙ ap (λ (i : ℕ). getD s i 0) m)
+
+  part-cons : a < e → e ≤ length s → part a e s ≡ getD s a 0 ∷ part (a + 1) e s
+  part-cons h k =
+      let n : e - a ≡ suc (e - (a + 1)) = omega arith in
+      let w : a < length s = omega arith in
+      (λ i. take (n i) (drop-cons s a 0 w i)) ∙ ap (λ (j : ℕ). getD s a 0 ∷ take (e - (a + 1)) (drop j s)) (sym (add-one a))
+
+-- the last b of a front, and what stands after it there
+module _ (b : ℕ) (text : List ℕ) (n k : ℕ) (is : k ≡ lastAt b (take n text)) (h : k < n) (l : n ≤ length text) where
+  front-long : length (take n text) ≡ n
+  front-long = length-take-le n text l
+
+  mark-is : getD text k 0 ≡ b
+  mark-is = sym (getD-take n text k 0 h) ∙ ap (λ (i : ℕ). getD (take n text) i 0) is ∙ last-is b (take n text) (omega (arith, front-long))
+
+  none-after : countOf b (part (k + 1) n text) ≡ 0
+  none-after = count-none b (part (k + 1) n text) at
+    where
+      at : (i : ℕ) → i < length (part (k + 1) n text) → getD (part (k + 1) n text) i 0 ≡ b → ⊥
+      at i w q =
+          let m : length (part (k + 1) n text) ≡ n - (k + 1) = length-part text (k + 1) n (omega arith) l in
+          let f : getD (part (k + 1) n text) i 0 ≡ getD text (k + 1 + i) 0 = getD-take (n - (k + 1)) (drop (k + 1) text) i 0 (omega arith) ∙ getD-drop (k + 1) text i 0 in
+          last-after b (take n text) (k + 1 + i) (omega arith) (omega (arith, front-long))
+          (getD-take n text (k + 1 + i) 0 (omega arith) ∙ sym f ∙ q)
+
+-- the marks, and the parts with them
+module _ {m : Marks} (text : List ℕ) (h : AllThere m text) where
+  is-counter : m .counter ≡ lastAt 95 (take (m .serial) text)
+  unfolding counterMark
+  is-counter = ap (λ (k : Marks). k .counter) (h .is) ∙ ap (λ (k : Marks). lastAt 95 (take (k .serial) text)) (sym (h .is))
+
+  is-serial : m .serial ≡ lastAt 95 (take (m .chain) text)
+  unfolding serialMark
+  is-serial = ap (λ (k : Marks). k .serial) (h .is) ∙ ap (λ (k : Marks). lastAt 95 (take (k .chain) text)) (sym (h .is))
+
+  is-chain : m .chain ≡ lastAt 95 (take (m .signature) text)
+  unfolding chainMark
+  is-chain = ap (λ (k : Marks). k .chain) (h .is) ∙ ap (λ (k : Marks). lastAt 95 (take (k .signature) text)) (sym (h .is))
+
+  with-counter : part 0 (m .counter + 1) text ≡ part 0 (m .counter) text ++ (95 ∷ [])
+  with-counter =
+      part-snoc text 0 (m .counter) (omega arith) (omega arith)
+      ∙ ap (λ (x : ℕ). part 0 (m .counter) text ++ (x ∷ [])) (mark-is 95 text (m .serial) (m .counter) is-counter (h .counter) (omega arith))
+
+  with-serial : part (m .serial) (m .chain + 1) text ≡ (95 ∷ []) ++ part (m .serial + 1) (m .chain) text ++ (95 ∷ [])
+  with-serial =
+      part-cons text (m .serial) (m .chain + 1) (omega arith) (omega arith)
+      ∙ (λ i. mark-is 95 text (m .chain) (m .serial) is-serial (h .serial) (omega arith) i ∷ second i)
+    where
+      second : part (m .serial + 1) (m .chain + 1) text ≡ part (m .serial + 1) (m .chain) text ++ (95 ∷ [])
+      second =
+          part-snoc text (m .serial + 1) (m .chain) (omega arith) (omega arith)
+          ∙ ap (λ (x : ℕ). part (m .serial + 1) (m .chain) text ++ (x ∷ [])) (mark-is 95 text (m .signature) (m .chain) is-chain (h .chain) (omega arith))
+
+  serial-none : countOf 95 (part (m .serial + 1) (m .chain) text) ≡ 0
+  serial-none = none-after 95 text (m .chain) (m .serial) is-serial (h .serial) (omega arith)
 
 -- ---- the three spelled fields
 
@@ -256,10 +371,14 @@ module _ (x y z rest : List ℕ) (n₁ n₂ n₃ : ℕ) (e₁ : n₁ ≡ length 
       ap (part n₂ n₃) (append-assoc (x ++ y) z rest)
       ∙ ap (take (n₃ - n₂)) (drop-at (x ++ y) (z ++ rest) n₂ (omega (arith, length-append x y))) ∙ take-at z rest (n₃ - n₂) (omega arith)
 
-pub ends-none : {r : Ends} (buffer : List ℕ) {o : Option ThreeFields} → r ≡ noEnds → none ≡ o
-    → EndsIn r buffer × (threeRead r buffer ≡ o)
+pub ends-in : {e : Ends} {buffer : List ℕ} → EndsIn e buffer → (e .counter ≤ length buffer) × (e .chain ≤ length buffer)
+ends-in h = (omega arith, omega arith)
+
+-- the answer if one is refused
+pub ends-none : (buffer : List ℕ) {o : Option ThreeFields} → none ≡ o
+    → EndsIn (record { good = false; counter = 0; chain = 0; signature = 0 }) buffer × (threeRead (record { good = false; counter = 0; chain = 0; signature = 0 }) buffer ≡ o)
 unfolding threeRead
-ends-none buffer e n = rw e (record { counter = omega arith; chain = omega arith; signature = omega arith }, n)
+ends-none buffer n = (record { counter = omega arith; chain = omega arith; signature = omega arith }, n)
 
 module _ (s : Spelling) (text : List ℕ) (m : Marks) (is : m ≡ marksOf text) (out : List ℕ) (l : length out ≡ longestFields) where
   abbrev o₁ : Option (List ℕ)
@@ -370,38 +489,6 @@ module _ (s : Spelling) (text : List ℕ) (m : Marks) (is : m ≡ marksOf text) 
                     ∙ sym three-are ∙ sym three-at,
               )
 
--- ---- counting
-
-module _ (b : ℕ) (s : List ℕ) (i : ℕ) where
-  count-yes : i < length s → getD s i 0 ≡ b → countOf b (drop i s) ≡ 1 + countOf b (drop (i + 1) s)
-  unfolding countOf
-  count-yes h e = rw (drop-cons s i 0 h, eq-eqb (getD s i 0) b e, add-one i) (omega arith)
-
-  count-no : i < length s → (getD s i 0 ≡ b → ⊥) → countOf b (drop i s) ≡ countOf b (drop (i + 1) s)
-  unfolding countOf
-  count-no h n = rw (drop-cons s i 0 h, ne-eqb (getD s i 0) b n, add-one i)
-
-  pub count-end : length s ≤ i → countOf b (drop i s) ≡ 0
-  unfolding countOf
-  count-end h = rw (drop-of-length-le s h)
-
--- a turn of the loop
-module _ (b : ℕ) (s : List ℕ) (i n : ℕ) {n′ : ℕ} (h : i < length s) (inv : (i ≤ length s) × (n ≤ i) × (n + countOf b (drop i s) ≡ countOf b s)) where
-  pub counted : getD s i 0 ≡ b → n′ ≡ n + 1 → (i + 1 ≤ length s) × (n′ ≤ i + 1) × (n′ + countOf b (drop (i + 1) s) ≡ countOf b s)
-  counted e q = let k = count-yes b s i h e in (omega arith, omega arith, omega arith)
-
-  pub passed : (getD s i 0 ≡ b → ⊥) → n′ ≡ n → (i + 1 ≤ length s) × (n′ ≤ i + 1) × (n′ + countOf b (drop (i + 1) s) ≡ countOf b s)
-  passed e q = let k = count-no b s i h e in (omega arith, omega arith, omega arith)
-
-count-most : (b : ℕ) (s : List ℕ) → countOf b s ≤ length s
-unfolding countOf
-count-most b [] = omega arith
-count-most b (x ∷ s) = go (count-most b s) (eqb x b)
-  where
-    go : countOf b s ≤ length s → (t : Bool) → cond t (suc (countOf b s)) (countOf b s) ≤ suc (length s)
-    go h true = omega arith
-    go h false = omega arith
-
 -- ---- the payload of the code
 
 module _ (f : CodeFields) where
@@ -428,36 +515,34 @@ module _ (f : CodeFields) where
     unfolding payloadGood
     start-is = rw (le-leb 4 (length (f .start)) h)
 
-    pub start-bad : {r : Bool} → r ≡ payloadGood (f .start) → not r ≡ true → false ≡ payloadGood (payloadIn Base64 f)
-    start-bad {r} e t = go (leb (length (payloadIn Base64 f)) longestPayload) refl
+    start-bad : payloadGood (f .start) ≡ false → payloadGood (payloadIn Base64 f) ≡ false
+    start-bad e = go (leb (length (payloadIn Base64 f)) longestPayload) refl
       where
-        w : leb (length (f .start)) longestPayload && same (take 4 (f .start)) beginning ≡ false
-        w = sym start-is ∙ no e t
-
-        go : (t : Bool) → leb (length (payloadIn Base64 f)) longestPayload ≡ t → false ≡ payloadGood (payloadIn Base64 f)
+        go : (t : Bool) → leb (length (payloadIn Base64 f)) longestPayload ≡ t → payloadGood (payloadIn Base64 f) ≡ false
         go true q =
             let k : length (f .start) ≤ longestPayload = omega (arith, leb-true (length (payloadIn Base64 f)) longestPayload q, length-payload) in
-            let v : same (take 4 (f .start)) beginning ≡ false = rw (le-leb (length (f .start)) longestPayload k) at w in
+            let v : same (take 4 (f .start)) beginning ≡ false = rw (le-leb (length (f .start)) longestPayload k) at (sym start-is ∙ e) in
             rw (payload-is, q, v)
         go false q = rw (payload-is, q)
 
-    pub start-good : {r : Bool} → r ≡ payloadGood (f .start) → not r ≡ false → {x y : ℕ} → x ≡ (length (f .counter) + 2) / 3 * 4 → y ≡ (length (f .chain) + 2) / 3 * 4
-        → leb (length (f .start) + x + length (f .serial) + y + 3) longestPayload ≡ payloadGood (payloadIn Base64 f)
-    start-good {r} e t {x} {y} p q =
-        let v = both (leb (length (f .start)) longestPayload) (same (take 4 (f .start)) beginning) (sym start-is ∙ yes e t) in
-        let n : length (f .start) + x + length (f .serial) + y + 3 ≡ length (payloadIn Base64 f) = omega (arith, length-payload) in
-        rw (n, payload-is, v .1) (sym (and-true (leb (length (payloadIn Base64 f)) longestPayload)))
+    payload-long : longestPayload < length (payloadIn Base64 f) → payloadGood (payloadIn Base64 f) ≡ false
+    payload-long l = rw (payload-is, lt-leb (length (payloadIn Base64 f)) longestPayload l)
+
+    start-good : payloadGood (f .start) ≡ true → length (payloadIn Base64 f) ≤ longestPayload → payloadGood (payloadIn Base64 f) ≡ true
+    start-good e l =
+        let v = both (leb (length (f .start)) longestPayload) (same (take 4 (f .start)) beginning) (sym start-is ∙ e) in
+        rw (payload-is, le-leb (length (payloadIn Base64 f)) longestPayload l, v .1)
 
 -- ---- good fields
 
 module _ (f : CodeFields) where
-  pub record Sizes : Type 0 where
-    pub start : length (f .start) ≤ longestPayload
-    pub spelled : length (f .counter) + length (f .chain) ≤ longestPayload
-    pub serial : length (f .serial) ≤ longestPayload
-    pub signature : length (f .signature) ≤ 64
+  record Sizes : Type 0 where
+    start : length (f .start) ≤ longestPayload
+    spelled : length (f .counter) + length (f .chain) ≤ longestPayload
+    serial : length (f .serial) ≤ longestPayload
+    signature : length (f .signature) ≤ 64
 
-  pub good-sizes : codeFieldsGood f ≡ true → Sizes
+  good-sizes : codeFieldsGood f ≡ true → Sizes
   unfolding codeFieldsGood
   good-sizes g =
       let p = parts (payloadIn Base64 f) (f .signature) in
@@ -466,148 +551,178 @@ module _ (f : CodeFields) where
       let k = good-payload p b in
       record { start = omega arith; spelled = omega arith; serial = omega arith; signature = good-signature p b }
 
-module _ (start counter serial chain signature : List ℕ) where
-  -- the questions in their row
-  pub not-nine : {n : ℕ} → n ≡ countOf 95 start → (n ≡ 9 → ⊥) → false ≡ codeFieldsGood (codeFields start counter serial chain signature)
+-- the questions in their row, of fields in a text and in a buffer
+module _ {m : Marks} (text : List ℕ) (e : Ends) (bytes : List ℕ) (there : AllThere m text) {n : ℕ} (is : n ≡ countOf 95 (take (m .counter - 0) text)) where
+  abbrev f : CodeFields
+  f = fieldsAt m text e bytes
+
+  pub not-nine : (n ≡ 9 → ⊥) → false ≡ codeFieldsGood (fieldsAt m text e bytes)
   unfolding codeFieldsGood twelve
-  not-nine e h = rw (ne-eqb (countOf 95 start) 9 (λ q. h (e ∙ q)))
+  not-nine h = rw (ne-eqb (countOf 95 (f .start)) 9 (λ q. h (is ∙ q)))
 
-  module _ {n : ℕ} (e : n ≡ countOf 95 start) (h : n ≡ 9) where
-    nine : eqb (countOf 95 start) 9 ≡ true
-    nine = eq-eqb (countOf 95 start) 9 (sym e ∙ h)
+  module _ (nine : n ≡ 9) where
+    are-twelve : twelve f ≡ true
+    unfolding twelve
+    are-twelve = rw (eq-eqb (countOf 95 (f .start)) 9 (sym is ∙ nine), eq-eqb (countOf 95 (f .serial)) 0 (serial-none text there))
 
-    pub four-there : 4 ≤ length start
-    four-there = omega (arith, count-most 95 start)
+    four : 4 ≤ length (f .start)
+    four = omega (arith, count-most 95 (f .start))
 
-    pub not-none : {m : ℕ} → m ≡ countOf 95 serial → (m ≡ 0 → ⊥) → false ≡ codeFieldsGood (codeFields start counter serial chain signature)
-    unfolding codeFieldsGood twelve
-    not-none q k = rw (nine, ne-eqb (countOf 95 serial) 0 (λ z. k (q ∙ z)))
+    bad : payloadGood (payloadIn Base64 f) ≡ false → false ≡ codeFieldsGood f
+    unfolding codeFieldsGood
+    bad q = rw (are-twelve, q)
 
-    module _ {m : ℕ} (q : m ≡ countOf 95 serial) (k : m ≡ 0) {g : Bool} (w : g ≡ payloadGood (payloadIn Base64 (codeFields start counter serial chain []))) where
-      same-payload : payloadGood (payloadIn Base64 (codeFields start counter serial chain [])) ≡ payloadGood (payloadIn Base64 (codeFields start counter serial chain signature))
-      unfolding payloadIn
-      same-payload = refl
+    module _ {g : Bool} (asked : g ≡ payloadGood (take (m .counter - 0) text)) where
+      pub not-started : not g ≡ true → false ≡ codeFieldsGood (fieldsAt m text e bytes)
+      not-started t = bad (start-bad f four (no asked t))
 
-      pub not-payload : not g ≡ true → false ≡ codeFieldsGood (codeFields start counter serial chain signature)
-      unfolding codeFieldsGood twelve
-      not-payload t = rw (nine, eq-eqb (countOf 95 serial) 0 (sym q ∙ k), sym same-payload, no w t)
+      -- the length of the payload is a sum that fits
+      module _ (started : not g ≡ false) (ends : EndsIn e bytes) (most : length bytes ≤ longestFields) (l : length text * 1 < 2 ^ 63) {x y : ℕ}
+          (long₁ : x ≡ (length (take (e .counter - 0) bytes) + 2) / 3 * 4) (long₂ : y ≡ (length (take (e .chain - e .counter) (drop (e .counter) bytes)) + 2) / 3 * 4) where
+        start-long : length (f .start) ≡ m .counter - 0
+        start-long = length-part text 0 (m .counter) (omega arith) (omega arith)
 
-      pub then-signature : not g ≡ false → {r : Bool} → r ≡ signatureGood signature → r ≡ codeFieldsGood (codeFields start counter serial chain signature)
-      unfolding codeFieldsGood twelve
-      then-signature t v = rw (nine, eq-eqb (countOf 95 serial) 0 (sym q ∙ k), sym same-payload, yes w t) v
+        short : m .counter ≤ longestPayload
+        short = omega (arith, start-long, payload-most (f .start) (yes asked started))
+
+        small₁ : x ≤ 348
+        small₁ = omega (arith, long₁, part-most bytes 0 (e .counter) most)
+
+        small₂ : y ≤ 348
+        small₂ = omega (arith, long₂, part-most bytes (e .counter) (e .chain) most)
+
+        pub fits₁ : Fits w64 (m .counter + x)
+        fits₁ = omega (arith, short, small₁)
+
+        pub fits₂ : Fits w64 (m .counter + x + (m .chain - m .serial))
+        fits₂ = omega (arith, short, small₁)
+
+        pub fits₃ : Fits w64 (m .counter + x + (m .chain - m .serial) + y)
+        fits₃ = omega (arith, short, small₁, small₂)
+
+        pub fits₄ : Fits w64 (m .counter + x + (m .chain - m .serial) + y + 2)
+        fits₄ = omega (arith, short, small₁, small₂)
+
+        sum-is : m .counter + x + (m .chain - m .serial) + y + 2 ≡ length (payloadIn Base64 f)
+        sum-is =
+            omega (arith, start-long, long₁, long₂, length-payload f, length-part text (m .serial + 1) (m .chain) (omega arith) (omega arith))
+
+        pub too-long : longestPayload < m .counter + x + (m .chain - m .serial) + y + 2 → false ≡ codeFieldsGood (fieldsAt m text e bytes)
+        too-long h = bad (payload-long f four (omega (arith, sum-is)))
+
+        pub then-signature : m .counter + x + (m .chain - m .serial) + y + 2 ≤ longestPayload → {r : Bool} → r ≡ signatureGood (take (e .signature - e .chain) (drop (e .chain) bytes))
+            → r ≡ codeFieldsGood (fieldsAt m text e bytes)
+        unfolding codeFieldsGood
+        then-signature h v = rw (are-twelve, start-good f four (yes asked started) (omega (arith, sum-is))) v
 
 -- ---- writing
 
-module _ (s : Spelling) (f : CodeFields) where
-  length-text : length (textIn s f) ≡ length (f .start) + length (spell s (f .counter)) + length (f .serial) + length (spell s (f .chain)) + length (spell s (f .signature)) + 4
+module _ (s : Spelling) (front xs out : List ℕ) (at : ℕ) (h : at + length (piece s front xs) ≤ length out) {p r : ℕ} {o₁ o₂ : List ℕ} where
+  pub put-piece : (p ≡ placeAfter out at front) × (o₁ ≡ placed out at front) → (r ≡ placeAfter o₁ p (spell s xs)) × (o₂ ≡ placed o₁ p (spell s xs))
+      → (r ≡ at + length (piece s front xs)) × (o₂ ≡ overwrite out at (piece s front xs))
+  put-piece e₁ e₂ =
+      let n : length (front ++ spell s xs) ≡ length front + length (spell s xs) = length-append front (spell s xs) in
+      let w₁ : o₁ ≡ overwrite out at front = e₁ .1 ∙ placed-room out at front (omega arith) in
+      let q : p ≡ at + length front = e₁ .0 ∙ after-room out at front (omega arith) in
+      let k : length o₁ ≡ length out = ap length w₁ ∙ length-over out at front (omega arith) in
+      let u : r ≡ p + length (spell s xs) = e₂ .0 ∙ after-room o₁ p (spell s xs) (omega arith) in
+      (omega arith, put-next out front (spell s xs) at w₁ (e₂ .1) q (omega arith))
+
+-- a text in three pieces
+module _ (s : Spelling) (m : Marks) (text : List ℕ) (e : Ends) (bytes : List ℕ) (there : AllThere m text) where
+  abbrev g : CodeFields
+  g = fieldsAt m text e bytes
+
+  abbrev t₁ : List ℕ
+  t₁ = piece s (part 0 (m .counter + 1) text) (g .counter)
+
+  abbrev t₂ : List ℕ
+  t₂ = piece s (part (m .serial) (m .chain + 1) text) (g .chain)
+
+  abbrev t₃ : List ℕ
+  t₃ = piece s (95 ∷ []) (g .signature)
+
+  in-three : textIn s g ≡ ((g .start ++ (95 ∷ [])) ++ spell s (g .counter)) ++ (((95 ∷ []) ++ g .serial ++ (95 ∷ [])) ++ spell s (g .chain)) ++ t₃
   unfolding textIn payloadIn
-  length-text = simp length-append (omega arith)
+  in-three = simp append-assoc
 
-  pub text-long : {x y z : ℕ} → x ≡ length (spell s (f .counter)) → y ≡ length (spell s (f .chain)) → z ≡ length (spell s (f .signature))
-      → length (f .start) + x + length (f .serial) + y + z + 4 ≡ length (textIn s f)
-  text-long p q r = omega (arith, length-text)
+  text-is : textIn s g ≡ t₁ ++ t₂ ++ t₃
+  text-is = in-three ∙ (λ i. (sym (with-counter text there) i ++ spell s (g .counter)) ++ (sym (with-serial text there) i ++ spell s (g .chain)) ++ t₃)
 
-  -- the text in three parts, each with a spelled field at its end
-  text-parts : textIn s f ≡ marked s (f .start) (f .counter) ++ (95 ∷ []) ++ marked s (f .serial) (f .chain) ++ marked s [] (f .signature)
-  unfolding textIn payloadIn
-  text-parts = simp append-assoc
+  long₁ : length t₁ ≡ m .counter + 1 + length (spell s (g .counter))
+  long₁ = length-append (part 0 (m .counter + 1) text) (spell s (g .counter)) ∙ omega (arith, length-part text 0 (m .counter + 1) (omega arith) (omega arith))
 
-length-marked : (s : Spelling) (front xs : List ℕ) → length (marked s front xs) ≡ length front + length (spell s xs) + 1
-length-marked s front xs = simp length-append (omega arith)
+  long₂ : length t₂ ≡ m .chain + 1 - m .serial + length (spell s (g .chain))
+  long₂ = length-append (part (m .serial) (m .chain + 1) text) (spell s (g .chain)) ∙ omega (arith, length-part text (m .serial) (m .chain + 1) (omega arith) (omega arith))
 
-module _ (s : Spelling) (front xs out : List ℕ) (at : ℕ) (h : at + length (marked s front xs) ≤ length out) {r : ℕ} {o₁ o₂ o₃ : List ℕ} where
-  pub put-marked : o₁ ≡ placed out at front → o₂ ≡ placed o₁ (at + length front) (95 ∷ []) → (r ≡ placeAfter o₂ (at + length front + 1) (spell s xs)) × (o₃ ≡ placed o₂ (at + length front + 1) (spell s xs))
-      → (r ≡ at + length (marked s front xs)) × (o₃ ≡ overwrite out at (marked s front xs))
-  put-marked e₁ e₂ e₃ =
-      let n : length (marked s front xs) ≡ length front + length (spell s xs) + 1 = length-marked s front xs in
-      let l : length (front ++ (95 ∷ [])) ≡ length front + 1 = length-append front (95 ∷ []) in
-      let w₁ : o₁ ≡ overwrite out at front = e₁ ∙ placed-room out at front (omega arith) in
-      let w₂ : o₂ ≡ overwrite out at (front ++ (95 ∷ [])) = put-next out front (95 ∷ []) at w₁ e₂ refl (omega arith) in
-      let k : length o₂ ≡ length out = ap length w₂ ∙ length-over out at (front ++ (95 ∷ [])) (omega arith) in
-      let m : r ≡ at + length front + 1 + length (spell s xs) = e₃ .0 ∙ after-room o₂ (at + length front + 1) (spell s xs) (omega arith) in
-      (omega arith, put-next out (front ++ (95 ∷ [])) (spell s xs) at w₂ (e₃ .1) (omega arith) (omega arith))
+  long₃ : length t₃ ≡ 1 + length (spell s (g .signature))
+  long₃ = length-append (95 ∷ []) (spell s (g .signature))
 
-module _ (s : Spelling) (f : CodeFields) (out : List ℕ) (n : ℕ) (long : n ≡ length (textIn s f)) (h : n ≤ length out) where
-  m₁ : List ℕ
-  m₁ = marked s (f .start) (f .counter)
+  text-long : length (textIn s g) ≡ length t₁ + length t₂ + length t₃
+  text-long = ap length text-is ∙ length-append (t₁ ++ t₂) t₃ ∙ ap (λ (n : ℕ). n + length t₃) (length-append t₁ t₂)
 
-  m₂ : List ℕ
-  m₂ = marked s (f .serial) (f .chain)
+  -- its length is a sum that fits
+  module _ (good : codeFieldsGood (fieldsAt m text e bytes) ≡ true) where
+    sizes : Sizes g
+    sizes = good-sizes g good
 
-  m₃ : List ℕ
-  m₃ = marked s [] (f .signature)
+    pub spelled-short : (length (take (e .counter - 0) bytes) ≤ longestFields) × (length (take (e .chain - e .counter) (drop (e .counter) bytes)) ≤ longestFields) × (length (take (e .signature - e .chain) (drop (e .chain) bytes)) ≤ longestFields)
+    spelled-short = (omega (arith, sizes .spelled), omega (arith, sizes .spelled), omega (arith, sizes .signature))
 
-  sum : n ≡ length m₁ + 1 + length m₂ + length m₃
-  unfolding m₁ m₂ m₃
-  sum = omega (arith, length-text s f, length-marked s (f .start) (f .counter), length-marked s (f .serial) (f .chain), length-marked s [] (f .signature))
+    copied : m .counter + 1 + (m .chain + 1 - m .serial) ≤ 400
+    copied =
+        omega (arith, sizes .start, sizes .serial, length-part text 0 (m .counter) (omega arith) (omega arith), length-part text (m .serial + 1) (m .chain) (omega arith) (omega arith))
 
-  pub room-first : 0 + length (marked s (f .start) (f .counter)) ≤ length out
-  unfolding m₁
-  room-first = omega (arith, sum)
+    pub copied-fits : Fits w64 (m .counter + 1 + (m .chain + 1 - m .serial))
+    copied-fits = omega (arith, copied)
 
-  module _ {p : ℕ} {o₁ o₂ : List ℕ} (e₁ : (p ≡ 0 + length (marked s (f .start) (f .counter))) × (o₁ ≡ overwrite out 0 (marked s (f .start) (f .counter)))) (e₂ : o₂ ≡ placed o₁ p (95 ∷ [])) where
-    first : o₂ ≡ overwrite out 0 (m₁ ++ (95 ∷ []))
-    unfolding m₁
-    first = put-next out m₁ (95 ∷ []) 0 (e₁ .1) e₂ (e₁ .0) (omega (arith, sum))
+    module _ {n : ℕ} (spelled : (n ≡ length (spell s (take (e .counter - 0) bytes)) + length (spell s (take (e .chain - e .counter) (drop (e .counter) bytes))) + length (spell s (take (e .signature - e .chain) (drop (e .chain) bytes)))) × (n ≤ 2048)) where
+      pub sum-fits : Fits w64 (m .counter + 1 + (m .chain + 1 - m .serial) + n)
+      sum-fits = omega (arith, copied, spelled .1)
 
-    first-long : length (m₁ ++ (95 ∷ [])) ≡ length m₁ + 1
-    first-long = length-append m₁ (95 ∷ [])
+      pub length-fits : Fits w64 (m .counter + 1 + (m .chain + 1 - m .serial) + n + 1)
+      length-fits = omega (arith, copied, spelled .1)
 
-    place : p ≡ length m₁
-    unfolding m₁
-    place = omega (arith, e₁ .0)
+      abbrev total : ℕ
+      total = m .counter + 1 + (m .chain + 1 - m .serial) + n + 1
 
-    kept₂ : length o₂ ≡ length out
-    kept₂ = ap length first ∙ length-over out 0 (m₁ ++ (95 ∷ [])) (omega (arith, sum, first-long))
+      sum-is-long : total ≡ length (textIn s g)
+      sum-is-long = omega (arith, text-long, long₁, long₂, long₃, spelled .0)
 
-    pub room-second : (p + 1) + length (marked s (f .serial) (f .chain)) ≤ length o₂
-    unfolding m₂
-    room-second = omega (arith, sum, place, kept₂)
+      sum-of : total ≡ length t₁ + length t₂ + length t₃
+      sum-of = sum-is-long ∙ text-long
 
-    pub place-small : p ≤ length out
-    place-small = omega (arith, sum, place)
+      module _ (out : List ℕ) where
+        pub no-place : length out < m .counter + 1 + (m .chain + 1 - m .serial) + n + 1
+            → (record { number = 23; length = 0 } ≡ written out (textIn s (fieldsAt m text e bytes))) × (out ≡ placed out 0 (textIn s (fieldsAt m text e bytes)))
+        no-place h = no-room out (textIn s g) total (sym sum-is-long) h
 
-    module _ {q : ℕ} {o₃ : List ℕ} (e₃ : (q ≡ (p + 1) + length (marked s (f .serial) (f .chain))) × (o₃ ≡ overwrite o₂ (p + 1) (marked s (f .serial) (f .chain)))) where
-      second : o₃ ≡ overwrite out 0 (m₁ ++ (95 ∷ []) ++ m₂)
-      unfolding m₂
-      second = then out (m₁ ++ (95 ∷ [])) m₂ 0 (p + 1) first (e₃ .1) (omega (arith, place, first-long)) (omega (arith, sum, first-long))
+        module _ (h : m .counter + 1 + (m .chain + 1 - m .serial) + n + 1 ≤ length out) where
+          pub room-first : 0 + length (piece s (take (m .counter + 1 - 0) text) (take (e .counter - 0) bytes)) ≤ length out
+          room-first = omega (arith, sum-of)
 
-      second-long : length (m₁ ++ (95 ∷ []) ++ m₂) ≡ length m₁ + 1 + length m₂
-      second-long = length-append (m₁ ++ (95 ∷ [])) m₂ ∙ omega (arith, first-long)
+          module _ {p : ℕ} {o₁ : List ℕ} (w₁ : (p ≡ 0 + length (piece s (take (m .counter + 1 - 0) text) (take (e .counter - 0) bytes))) × (o₁ ≡ overwrite out 0 (piece s (take (m .counter + 1 - 0) text) (take (e .counter - 0) bytes)))) where
+            kept₁ : length o₁ ≡ length out
+            kept₁ = ap length (w₁ .1) ∙ length-over out 0 t₁ room-first
 
-      place₃ : q ≡ length m₁ + 1 + length m₂
-      unfolding m₂
-      place₃ = omega (arith, e₃ .0, place)
+            pub room-second : p + length (piece s (take (m .chain + 1 - m .serial) (drop (m .serial) text)) (take (e .chain - e .counter) (drop (e .counter) bytes))) ≤ length o₁
+            room-second = omega (arith, sum-of, w₁ .0, kept₁)
 
-      kept₃ : length o₃ ≡ length out
-      kept₃ = ap length second ∙ length-over out 0 (m₁ ++ (95 ∷ []) ++ m₂) (omega (arith, sum, second-long))
+            module _ {q : ℕ} {o₂ : List ℕ} (w₂ : (q ≡ p + length (piece s (take (m .chain + 1 - m .serial) (drop (m .serial) text)) (take (e .chain - e .counter) (drop (e .counter) bytes))))
+                × (o₂ ≡ overwrite o₁ p (piece s (take (m .chain + 1 - m .serial) (drop (m .serial) text)) (take (e .chain - e .counter) (drop (e .counter) bytes))))) where
+              kept₂ : length o₂ ≡ length out
+              kept₂ = ap length (w₂ .1) ∙ length-over o₁ p t₂ room-second ∙ kept₁
 
-      pub room-third : q + length (marked s [] (f .signature)) ≤ length o₃
-      unfolding m₃
-      room-third = omega (arith, sum, place₃, kept₃)
+              pub room-third : q + length (piece s (95 ∷ []) (take (e .signature - e .chain) (drop (e .chain) bytes))) ≤ length o₂
+              room-third = omega (arith, sum-of, w₁ .0, w₂ .0, kept₂)
 
-      pub put-fields : {o₄ : List ℕ} → o₄ ≡ overwrite o₃ q (marked s [] (f .signature))
-          → (record { number = 0; length = n } ≡ written out (textIn s f)) × (o₄ ≡ placed out 0 (textIn s f))
-      unfolding m₁ m₂ m₃
-      put-fields {o₄} e₄ =
-          let w : o₄ ≡ overwrite out 0 (m₁ ++ (95 ∷ []) ++ m₂ ++ m₃) = then out (m₁ ++ (95 ∷ []) ++ m₂) m₃ 0 q second e₄ (omega (arith, place₃, second-long)) (omega (arith, sum, second-long)) in
-          has-room out (textIn s f) n (sym long) h (w ∙ ap (overwrite out 0) (sym (text-parts s f)))
-
--- the parts of the buffer lie in it
-pub part-most : (a e : ℕ) (s : List ℕ) {n : ℕ} → length s ≤ n → length (part a e s) ≤ n
-part-most a e s h = omega (arith, length-take (e - a) (drop a s), length-drop a s)
-
-pub ends-in : {e : Ends} {buffer : List ℕ} → EndsIn e buffer → (e .counter ≤ length buffer) × (e .chain ≤ length buffer)
-ends-in h = (omega arith, omega arith)
-
--- the answer to good fields, and to others
-module _ (s : Spelling) (f : CodeFields) (out : List ℕ) (refused : ℕ) {g : Bool} (e : g ≡ codeFieldsGood f) where
-  pub put-none : not g ≡ true → Answers refused (Option·map (textIn s) (goodFields f)) out (record { number = refused; length = 0 }) out
-  put-none t = (rw (no e t), rw (no e t))
-
-  pub put-some : {a : Answer} {out′ : List ℕ} → not g ≡ false → (a ≡ written out (textIn s f)) × (out′ ≡ placed out 0 (textIn s f))
-      → Answers refused (Option·map (textIn s) (goodFields f)) out a out′
-  put-some t h = rw (yes e t) h
+              pub put-fields : {o₃ : List ℕ} → o₃ ≡ overwrite o₂ q (piece s (95 ∷ []) (take (e .signature - e .chain) (drop (e .chain) bytes)))
+                  → (record { number = 0; length = m .counter + 1 + (m .chain + 1 - m .serial) + n + 1 } ≡ written out (textIn s (fieldsAt m text e bytes))) × (o₃ ≡ placed out 0 (textIn s (fieldsAt m text e bytes)))
+              put-fields {o₃} w₃ =
+                  let l = length-append t₁ t₂ in
+                  let two : o₂ ≡ overwrite out 0 (t₁ ++ t₂) = then out t₁ t₂ 0 p (w₁ .1) (w₂ .1) (w₁ .0) room-first in
+                  let three : o₃ ≡ overwrite out 0 (t₁ ++ t₂ ++ t₃) = then out (t₁ ++ t₂) t₃ 0 q two w₃ (omega (arith, w₁ .0, w₂ .0)) (omega (arith, sum-of)) in
+                  has-room out (textIn s g) total (sym sum-is-long) h (three ∙ ap (overwrite out 0) (sym text-is))
 
 -- ---- respelling
 
@@ -655,14 +770,17 @@ module _ (from to : Spelling) (text out : List ℕ) (refused : ℕ) {m : Marks} 
         let q : fieldsOf from text ≡ none = rw (not-true (e .good) u) at fields-are in
         (rw q, rw q)
 
-    are-found : not (e .good) ≡ false → fieldsOf from text ≡ goodFields (fieldsAt m text e buffer)
-    unfolding threeRead after
-    are-found u = rw (lent-front text (m .counter), is) (rw (not-false (e .good) u) at fields-are)
+    module _ (read : not (e .good) ≡ false) {g : Bool} (asked : g ≡ codeFieldsGood (fieldsAt m text e buffer)) where
+      are-found : fieldsOf from text ≡ goodFields (fieldsAt m text e buffer)
+      unfolding threeRead after
+      are-found = rw (lent-front text (m .counter), is) (rw (not-false (e .good) read) at fields-are)
 
-    pub some-fields : {a : Answer} {out′ : List ℕ} → not (e .good) ≡ false
-        → Answers refused (Option·map (textIn to) (goodFields (fieldsAt m text e buffer))) out a out′
-        → Answers refused (Option·map (textIn to) (fieldsOf from text)) out a out′
-    some-fields u h = rw (are-found u) h
+      pub bad-fields : not g ≡ true → Answers refused (Option·map (textIn to) (fieldsOf from text)) out (record { number = refused; length = 0 }) out
+      bad-fields t = (rw (are-found, no asked t), rw (are-found, no asked t))
+
+      pub good-fields : {a : Answer} {out′ : List ℕ} → not g ≡ false → (a ≡ written out (textIn to (fieldsAt m text e buffer))) × (out′ ≡ placed out 0 (textIn to (fieldsAt m text e buffer)))
+          → Answers refused (Option·map (textIn to) (fieldsOf from text)) out a out′
+      good-fields t h = rw (are-found, yes asked t) h
 
 -- ---- the calls
 

@@ -1,12 +1,11 @@
 -- What the private readers and writers of code and line promise their callers. Only their contracts use this, not the definitions of the calls.
-use Prim.Native.Nat.{ℕ, _+_, _*_, _/_, _≤_, _<_}
-use mathlib.Core.Bool.{false, cond}
-use mathlib.Core.List.{List, [], _∷_, _++_}
+use Prim.Native.Nat.{ℕ, _+_, _≤_, _<_, _*_, _/_}
+use mathlib.Core.Bool.{cond}
+use mathlib.Core.List.{List, _++_}
 use mathlib.Core.Option.{Option, none, some}
 use mathlib.Core.Path.{_≡_}
 use lib.Dec.{leb}
 use lib.ListN.{length, drop}
-use Rattle.receipt.specs.Texts.{separator}
 use Rattle.receipt.specs.Payload.{longestPayload}
 use Rattle.receipt.specs.Form.{part}
 use Rattle.receipt.specs.Line.{spell, unspell, CodeFields, counterMark, serialMark, chainMark, signatureMark, marksThere}
@@ -22,10 +21,6 @@ longestFields = longestPayload * 3 / 4 + 64
 abbrev pub codeFields : List ℕ → List ℕ → List ℕ → List ℕ → List ℕ → CodeFields
 codeFields start counter serial chain signature =
     record { start = start; counter = counter; serial = serial; chain = chain; signature = signature }
-
--- a text, "_" and a spelled field
-abbrev pub marked : Spelling → List ℕ → List ℕ → List ℕ
-marked s front xs = front ++ (separator ∷ []) ++ spell s xs
 
 -- ---- reading
 
@@ -80,11 +75,13 @@ pub record EndsIn (e : Ends) (buffer : List ℕ) : Type 0 where
   pub chain : e .chain ≤ e .signature
   pub signature : e .signature ≤ length buffer
 
--- the answer if one is refused
-abbrev pub noEnds : Ends
-noEnds = record { good = false; counter = 0; chain = 0; signature = 0 }
-
 -- the five fields, in the text and in the buffer
 abbrev pub fieldsAt : Marks → List ℕ → Ends → List ℕ → CodeFields
 fieldsAt m text e buffer =
     codeFields (part 0 (m .counter) text) (part 0 (e .counter) buffer) (part (m .serial + 1) (m .chain) text) (part (e .counter) (e .chain) buffer) (part (e .chain) (e .signature) buffer)
+
+-- ---- writing
+
+-- a text, and then a spelled field
+abbrev pub piece : Spelling → List ℕ → List ℕ → List ℕ
+piece s front xs = front ++ spell s xs

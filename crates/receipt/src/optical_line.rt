@@ -16,17 +16,14 @@ use primitives::base64_length;
 use primitives::put;
 ghost use mathlib.Core.Path.{_≡_};
 ghost use mathlib.Core.Bool.{true};
-ghost use mathlib.Core.List.{[]};
 ghost use mathlib.Core.Option.{Option·map};
 ghost use Prim.Native.Nat.{_+_, _*_, _≤_};
 ghost use lib.ListN.{length};
 ghost use Rattle.primitives.specs.Place.{overwrite, placed, placeAfter};
 ghost use Rattle.primitives.specs.Base64.{answerOf, bufferOf};
 ghost use Rattle.primitives.specs.Answers.{written, answerWith, bufferWith};
-ghost use Rattle.receipt.specs.Form.{payloadGood};
-ghost use Rattle.receipt.specs.Line.{spell, unspell, countOf, payloadIn, textIn, codeFieldsGood, goodFields, fieldsOf, lineAnswer, lineBuffer, unlineAnswer, unlineBuffer};
-ghost use Rattle.receipt.specs.LineReading.{longestFields, codeFields, marked, marksOf, AllThere, threeOf, threeRead, EndsIn, noEnds, fieldsAt};
-ghost use Rattle.receipt.specs.declared.optical_line.Spelling.the-variants.{Base64};
+ghost use Rattle.receipt.specs.Line.{spell, unspell, countOf, textIn, codeFieldsGood, fieldsOf, lineAnswer, lineBuffer, unlineAnswer, unlineBuffer};
+ghost use Rattle.receipt.specs.LineReading.{longestFields, marksOf, AllThere, threeOf, threeRead, EndsIn, fieldsAt, piece};
 
 // How counter field, chain field and signature are spelled: in a code in BASE64, in a line in BASE32.
 pub(crate) enum Spelling {
@@ -107,35 +104,30 @@ struct Ends {
     signature: usize,
 }
 
-fn no_ends() -> Ends
-    ensures { λ r. ⌜ r ≡ noEnds ⌝ }
-{
-    Ends {
-        good: false,
-        counter: 0,
-        chain: 0,
-        signature: 0,
-    }
-}
-
 // Reads the three spelled fields of a text, one after the other, to the start of a buffer.
 fn read_fields(spelling: Spelling, text: &[u8], m: Marks, out: &mut [u8]) -> Ends
     requires { ⌜ AllThere m (now text) × (length (now out) ≡ longestFields) ⌝ }
     ensures { λ r. ⌜ EndsIn r (now (out .exit)) × (threeRead r (now (out .exit)) ≡ threeOf spelling (now (text .entry))) ⌝ }
 {
+    let nothing = Ends {
+        good: false,
+        counter: 0,
+        chain: 0,
+        signature: 0,
+    };
     let a = m.counter + 1;
     let b = m.serial;
     let Decoded::Upto(x) = decode_spelled(spelling, &text[a..b], out, 0) else {
-        return no_ends();
+        return nothing;
     };
     let c = m.chain + 1;
     let d = m.signature;
     let Decoded::Upto(y) = decode_spelled(spelling, &text[c..d], out, x) else {
-        return no_ends();
+        return nothing;
     };
     let rest = d + 1;
     let Decoded::Upto(z) = decode_spelled(spelling, &text[rest..], out, y) else {
-        return no_ends();
+        return nothing;
     };
     Ends {
         good: true,
@@ -162,131 +154,91 @@ fn count_of(b: u8, s: &[u8]) -> usize
     n
 }
 
-// The code's payload is good: its first nine fields begin as a payload does, and it is not too long.
-fn code_payload_good(start: &[u8], counter: &[u8], serial: &[u8], chain: &[u8]) -> bool
-    requires { ⌜ (4 ≤ length (now start)) × (length (now counter) ≤ longestFields) × (length (now chain) ≤ longestFields) ⌝ }
-    ensures { λ r. ⌜ r ≡ payloadGood (payloadIn Base64 (codeFields (now (start .entry)) (now (counter .entry)) (now (serial .entry)) (now (chain .entry)) [])) ⌝ }
+// Twelve fields, a good payload and a good signature, asked of the code.
+// Between two marks there is no '_', so the serial has none; the payload begins with its first nine fields.
+fn fields_good(text: &[u8], m: Marks, bytes: &[u8], e: Ends) -> bool
+    requires { ⌜ AllThere m (now text) × EndsIn e (now bytes) × (length (now bytes) ≤ longestFields) ⌝ }
+    ensures { λ r. ⌜ r ≡ codeFieldsGood (fieldsAt m (now (text .entry)) e (now (bytes .entry))) ⌝ }
 {
-    if !payload_good(start) {
-        return false;
-    }
-    let tenth = base64_length(Alphabet::Standard, counter);
-    let twelfth = base64_length(Alphabet::Standard, chain);
-    start.len() + tenth + serial.len() + twelfth + 3 <= LONGEST_PAYLOAD
-}
-
-// Twelve fields, a good payload and a good signature.
-fn fields_good(start: &[u8], counter: &[u8], serial: &[u8], chain: &[u8], signature: &[u8]) -> bool
-    requires { ⌜ (length (now counter) ≤ longestFields) × (length (now chain) ≤ longestFields) ⌝ }
-    ensures { λ r. ⌜ r ≡ codeFieldsGood (codeFields (now (start .entry)) (now (counter .entry)) (now (serial .entry)) (now (chain .entry)) (now (signature .entry))) ⌝ }
-{
+    let a = m.counter;
+    let x = e.counter;
+    let y = e.chain;
+    let z = e.signature;
+    let start = &text[0..a];
     if count_of(b'_', start) != 9 {
         return false;
     }
-    if count_of(b'_', serial) != 0 {
+    if !payload_good(start) {
         return false;
     }
-    if !code_payload_good(start, counter, serial, chain) {
+    let tenth = base64_length(Alphabet::Standard, &bytes[0..x]);
+    let twelfth = base64_length(Alphabet::Standard, &bytes[x..y]);
+    if LONGEST_PAYLOAD < a + tenth + (m.chain - m.serial) + twelfth + 2 {
         return false;
     }
-    signature_good(signature)
+    signature_good(&bytes[y..z])
 }
 
 // ---- writing
 
-// The length of the code or the line of good fields.
-fn text_length(
-    spelling: Spelling,
-    start: &[u8],
-    counter: &[u8],
-    serial: &[u8],
-    chain: &[u8],
-    signature: &[u8],
-) -> usize
-    requires { ⌜ codeFieldsGood (codeFields (now start) (now counter) (now serial) (now chain) (now signature)) ≡ true ⌝ }
-    ensures { λ r. ⌜ r ≡ length (textIn spelling (codeFields (now (start .entry)) (now (counter .entry)) (now (serial .entry)) (now (chain .entry)) (now (signature .entry)))) ⌝ }
+// The length of three spelled fields together.
+fn spelled_lengths(spelling: Spelling, counter: &[u8], chain: &[u8], signature: &[u8]) -> usize
+    requires { ⌜ (length (now counter) ≤ longestFields) × (length (now chain) ≤ longestFields) × (length (now signature) ≤ longestFields) ⌝ }
+    ensures { λ r. ⌜ (r ≡ length (spell spelling (now (counter .entry))) + length (spell spelling (now (chain .entry))) + length (spell spelling (now (signature .entry))))
+        × (r ≤ 2048) ⌝ }
 {
     let x = spelled_length(spelling, counter);
     let y = spelled_length(spelling, chain);
     let z = spelled_length(spelling, signature);
-    start.len() + x + serial.len() + y + z + 4
+    x + y + z
 }
 
-// Writes a text, '_' and a spelled field at a place; returns the place after them.
-fn put_marked(spelling: Spelling, front: &[u8], s: &[u8], out: &mut [u8], at: usize) -> usize
-    requires { ⌜ at + length (marked spelling (now front) (now s)) ≤ length (now out) ⌝ }
-    ensures { λ r. let y : _ = marked spelling (now (front .entry)) (now (s .entry)) in
+// Writes a text and then a spelled field at a place; returns the place after them.
+fn put_piece(spelling: Spelling, front: &[u8], s: &[u8], out: &mut [u8], at: usize) -> usize
+    requires { ⌜ at + length (piece spelling (now front) (now s)) ≤ length (now out) ⌝ }
+    ensures { λ r. let y : _ = piece spelling (now (front .entry)) (now (s .entry)) in
         ⌜ (r ≡ at + length y) × (now (out .exit) ≡ overwrite (now (out .entry)) at y) ⌝ }
 {
-    put(out, at, front);
-    let mark = at + front.len();
-    put(out, mark, b"_");
-    put_spelled(spelling, s, out, mark + 1)
+    let p = put(out, at, front);
+    put_spelled(spelling, s, out, p)
 }
 
-// Writes the code or the line of good fields to the start of the output. Output long enough? 23.
+// Writes good fields to the start of the output: each spelled field after what stands before it in the text. Output long enough? 23.
 fn put_fields(
-    spelling: Spelling,
-    start: &[u8],
-    counter: &[u8],
-    serial: &[u8],
-    chain: &[u8],
-    signature: &[u8],
-    out: &mut [u8],
-) -> Answer
-    requires { ⌜ codeFieldsGood (codeFields (now start) (now counter) (now serial) (now chain) (now signature)) ≡ true ⌝ }
-    ensures { λ r. let y : _ = textIn spelling (codeFields (now (start .entry)) (now (counter .entry)) (now (serial .entry)) (now (chain .entry)) (now (signature .entry))) in
-        ⌜ (r ≡ written (now (out .entry)) y) × (now (out .exit) ≡ placed (now (out .entry)) 0 y) ⌝ }
-{
-    let length = text_length(spelling, start, counter, serial, chain, signature);
-    if out.len() < length {
-        return Answer {
-            number: 23,
-            length: 0,
-        };
-    }
-    let p = put_marked(spelling, start, counter, out, 0);
-    put(out, p, b"_");
-    let q = put_marked(spelling, serial, chain, out, p + 1);
-    put_marked(spelling, b"", signature, out, q);
-    Answer {
-        number: 0,
-        length: length,
-    }
-}
-
-// Writes the fields that stand in a text and in a buffer, or answers `refused` if they are not good.
-fn put_good(
     spelling: Spelling,
     text: &[u8],
     m: Marks,
     bytes: &[u8],
     e: Ends,
     out: &mut [u8],
-    refused: u32,
 ) -> Answer
-    requires { ⌜ AllThere m (now text) × EndsIn e (now bytes) × (length (now bytes) ≤ longestFields) ⌝ }
-    ensures { λ r. let o : _ = Option·map (textIn spelling) (goodFields (fieldsAt m (now (text .entry)) e (now (bytes .entry)))) in
-        ⌜ (r ≡ answerWith refused o (now (out .entry))) × (now (out .exit) ≡ bufferWith o (now (out .entry))) ⌝ }
+    requires { ⌜ AllThere m (now text) × EndsIn e (now bytes) × (codeFieldsGood (fieldsAt m (now text) e (now bytes)) ≡ true) ⌝ }
+    ensures { λ r. let y : _ = textIn spelling (fieldsAt m (now (text .entry)) e (now (bytes .entry))) in
+        ⌜ (r ≡ written (now (out .entry)) y) × (now (out .exit) ≡ placed (now (out .entry)) 0 y) ⌝ }
 {
-    let a = m.counter;
-    let b = m.serial + 1;
-    let c = m.chain;
+    let a = m.counter + 1;
+    let b = m.serial;
+    let c = m.chain + 1;
     let x = e.counter;
     let y = e.chain;
     let z = e.signature;
-    let start = &text[0..a];
     let counter = &bytes[0..x];
-    let serial = &text[b..c];
     let chain = &bytes[x..y];
     let signature = &bytes[y..z];
-    if !fields_good(start, counter, serial, chain, signature) {
+    let length = a + (c - b) + spelled_lengths(spelling, counter, chain, signature) + 1;
+    if out.len() < length {
         return Answer {
-            number: refused,
+            number: 23,
             length: 0,
         };
     }
-    put_fields(spelling, start, counter, serial, chain, signature, out)
+    let p = put_piece(spelling, &text[0..a], counter, out, 0);
+    let q = put_piece(spelling, &text[b..c], chain, out, p);
+    put_piece(spelling, b"_", signature, out, q);
+    Answer {
+        number: 0,
+        length: length,
+    }
 }
 
 // ---- the calls
@@ -311,7 +263,13 @@ fn respell(from: Spelling, to: Spelling, text: &[u8], out: &mut [u8], refused: u
             length: 0,
         };
     }
-    put_good(to, text, m, &bytes, e, out, refused)
+    if !fields_good(text, m, &bytes, e) {
+        return Answer {
+            number: refused,
+            length: 0,
+        };
+    }
+    put_fields(to, text, m, &bytes, e, out)
 }
 
 // Writes the line of a code to the start of the output.
