@@ -45,6 +45,7 @@ use Rattle.receipt.specs.declared.optical_line.Ends.{Ends}
 use Rattle.receipt.proofs.Finding.{last-is, last-after, last-most}
 use Rattle.receipt.proofs.CodeTexts.{payload-most, good-payload, good-signature}
 use Rattle.receipt.proofs.CodeCalls.{no-room, has-room}
+use Rattle.receipt.proofs.MarkCounts.{count-none}
 use Rattle.receipt.proofs.LineFields.{good-most}
 use Rattle.receipt.proofs.Lines.{payload-length}
 use Rattle.receipt.proofs.FormCalls.{lent-front, lent-rest, put-next}
@@ -102,11 +103,6 @@ count-most b (x ∷ s) = go (count-most b s) (eqb x b)
     go : countOf b s ≤ length s → (t : Bool) → cond t (suc (countOf b s)) (countOf b s) ≤ suc (length s)
     go h true = omega arith
     go h false = omega arith
-
-count-none : (b : ℕ) (s : List ℕ) → ((i : ℕ) → i < length s → getD s i 0 ≡ b → ⊥) → countOf b s ≡ 0
-unfolding countOf
-count-none b [] w = refl
-count-none b (x ∷ s) w = rw (ne-eqb x b (w 0 (omega arith))) (count-none b s (λ i h e. w (suc i) (omega arith) e))
 
 -- ---- the marks
 
@@ -264,7 +260,7 @@ module _ (b : ℕ) (text : List ℕ) (n k : ℕ) (is : k ≡ lastAt b (take n te
   mark-is = sym (getD-take n text k 0 h) ∙ ap (λ (i : ℕ). getD (take n text) i 0) is ∙ last-is b (take n text) (omega (arith, front-long))
 
   none-after : countOf b (part (k + 1) n text) ≡ 0
-  none-after = count-none b (part (k + 1) n text) at
+  none-after = count-none b (part (k + 1) n text) (record { at = at })
     where
       at : (i : ℕ) → i < length (part (k + 1) n text) → getD (part (k + 1) n text) i 0 ≡ b → ⊥
       at i w q =
