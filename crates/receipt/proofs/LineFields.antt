@@ -28,7 +28,7 @@ use Rattle.receipt.proofs.LineMarks.{four, fields-split, text-split}
 module _ (f : CodeFields) (g : codeFieldsGood f ≡ true) where
   pub good-twelve : twelve f ≡ true
   unfolding codeFieldsGood
-  good-twelve = both (twelve f) (partsGood (parts (payloadIn Base64 f) (f .signature))) g .0
+  good-twelve = both (twelve f) _ g .0
 
   pub good-parts : partsGood (parts (payloadIn Base64 f) (f .signature)) ≡ true
   unfolding codeFieldsGood
