@@ -220,27 +220,26 @@ pub fn bad_date(random: &Random) -> Date {
 /// The limit of an amount before request E4.
 const OLD_AMOUNT_LIMIT: i64 = 9_999_999_999;
 
-/// Good amounts at the limit, one cent below it, at the old limit and one cent beyond that; and none.
-pub const GOOD_EDGES: [i64; 9] = [
-    0,
-    OLD_AMOUNT_LIMIT,
-    -OLD_AMOUNT_LIMIT,
-    OLD_AMOUNT_LIMIT + 1,
-    -OLD_AMOUNT_LIMIT - 1,
-    AMOUNT_LIMIT - 1,
-    1 - AMOUNT_LIMIT,
-    AMOUNT_LIMIT,
-    -AMOUNT_LIMIT,
-];
+/// Good amounts up to the old limit.
+pub const OLD_AMOUNTS: [i64; 3] = [0, OLD_AMOUNT_LIMIT, -OLD_AMOUNT_LIMIT];
 
-/// Amounts one cent beyond the limit, and the ends of i64.
-pub const BAD_EDGES: [i64; 4] = [AMOUNT_LIMIT + 1, -AMOUNT_LIMIT - 1, i64::MAX, i64::MIN];
+/// Good amounts one cent beyond the old limit, and one cent below the limit.
+pub const NEW_AMOUNTS: [i64; 4] = [OLD_AMOUNT_LIMIT + 1, -OLD_AMOUNT_LIMIT - 1, AMOUNT_LIMIT - 1, 1 - AMOUNT_LIMIT];
+
+/// Amounts at the limit.
+pub const LAST_AMOUNTS: [i64; 2] = [AMOUNT_LIMIT, -AMOUNT_LIMIT];
+
+/// Amounts one cent beyond the limit.
+pub const NEXT_AMOUNTS: [i64; 2] = [AMOUNT_LIMIT + 1, -AMOUNT_LIMIT - 1];
+
+/// The ends of i64, which are no amounts.
+pub const ENDS: [i64; 2] = [i64::MAX, i64::MIN];
 
 /// An amount within the limits.
 pub fn amount(random: &Random) -> i64 {
     match random.below(8) {
         0 | 1 => 0,
-        2 => random.pick(&GOOD_EDGES),
+        2 => random.pick(&[&OLD_AMOUNTS[..], &NEW_AMOUNTS, &LAST_AMOUNTS].concat()),
         3 => random.between(-AMOUNT_LIMIT, AMOUNT_LIMIT),
         4 => random.pick(&[
             1,
@@ -264,7 +263,7 @@ pub fn amount(random: &Random) -> i64 {
 }
 
 pub fn bad_amount(random: &Random) -> i64 {
-    random.pick(&[random.pick(&BAD_EDGES), i64::MIN + 1, 1 << 37, 1 << 62, -(1 << 40)])
+    random.pick(&[random.pick(&NEXT_AMOUNTS), random.pick(&ENDS), i64::MIN + 1, 1 << 37, 1 << 62, -(1 << 40)])
 }
 
 /// Five amounts within the limits with this sum, which such have.

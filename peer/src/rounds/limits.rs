@@ -8,7 +8,7 @@ use crate::line::LONGEST_LINE;
 use crate::model::{Given, Journal, Printed};
 use crate::receipt::{AMOUNT_LIMIT, Details, HEADER, LONGEST_COMPACT, LONGEST_INPUT, LONGEST_PAYLOAD};
 use crate::register::State;
-use crate::sample::{self, BAD_EDGES, GOOD_EDGES, MOST};
+use crate::sample::{self, ENDS, LAST_AMOUNTS, MOST, NEW_AMOUNTS, NEXT_AMOUNTS, OLD_AMOUNTS};
 use crate::settings::{Name, Settings};
 
 impl Round<'_> {
@@ -16,10 +16,10 @@ impl Round<'_> {
 
     /// Each amount at a limit or next to one, in each of the five places.
     pub(super) fn amounts_at_the_limits(&mut self) -> Compared<()> {
-        for amount in GOOD_EDGES {
+        for amount in OLD_AMOUNTS.into_iter().chain(NEW_AMOUNTS).chain(LAST_AMOUNTS) {
             self.amount_at_the_limit(amount, true)?;
         }
-        for amount in BAD_EDGES {
+        for amount in NEXT_AMOUNTS.into_iter().chain(ENDS) {
             self.amount_at_the_limit(amount, false)?;
         }
         Ok(())
