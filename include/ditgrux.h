@@ -63,13 +63,13 @@ enum {
     DITGRUX_HASH = 32,            /* a SHA-256 value */
     DITGRUX_LONGEST_NAME = 32,    /* a register ID, or a serial */
     DITGRUX_LONGEST_HEAD = 83,    /* the head of a journal: 19 bytes, the ID and the serial */
-    DITGRUX_LONGEST_PAYLOAD = 195,
-    DITGRUX_LONGEST_INPUT = 281,  /* the text that the device signs */
-    DITGRUX_LONGEST_COMPACT = 368,
-    DITGRUX_LONGEST_ENTRY = 370,  /* an entry of the journal: two bytes of length and a compact form */
-    DITGRUX_LONGEST_CODE = 284,
-    DITGRUX_LONGEST_LINE = 308,   /* the optical line of a receipt */
-    DITGRUX_LONGEST_ANY_LINE = 348 /* the optical line of any code, whose fields may be longer than those of a receipt */
+    DITGRUX_LONGEST_PAYLOAD = 200,
+    DITGRUX_LONGEST_INPUT = 288,  /* the text that the device signs */
+    DITGRUX_LONGEST_COMPACT = 375,
+    DITGRUX_LONGEST_ENTRY = 377,  /* an entry of the journal: two bytes of length and a compact form */
+    DITGRUX_LONGEST_CODE = 289,
+    DITGRUX_LONGEST_LINE = 313,   /* the optical line of a receipt */
+    DITGRUX_LONGEST_ANY_LINE = 353 /* the optical line of any code, whose fields may be longer than those of a receipt */
 };
 
 /* ---- kinds of receipt */
@@ -92,7 +92,7 @@ enum ditgrux_number {
     DITGRUX_BAD_STATE = 6,        /* state is not 155 bytes long, holds bad settings, or contradicts itself or the buffer's size */
     DITGRUX_NUMBER_NOT_ABOVE = 7, /* receipt number is not above the last one (0 never is); ALSO: the kind is not 0, 1 or 2 */
     DITGRUX_BAD_DATE = 8,         /* no date of the years 2000 to 2099, or no time from 0:00:00 to 23:59:59 */
-    DITGRUX_BAD_AMOUNT = 9,       /* an amount is not within -9,999,999,999 to 9,999,999,999 cents */
+    DITGRUX_BAD_AMOUNT = 9,       /* an amount is not within -99,999,999,999 to 99,999,999,999 cents */
     DITGRUX_NO_START = 10,        /* the first receipt is not a standard one with five zeros */
     DITGRUX_COUNTER_FULL = 11,    /* the turnover counter would not fit its width */
     DITGRUX_BAD_SIGNATURE = 12,   /* signature is neither 64 bytes long nor empty */

@@ -16,7 +16,7 @@ use mir.Val.{SFits, toZ, ofZ}
 use mir.Facts.{toZ-ofZ, toZ-pos}
 use Rattle.primitives.specs.Place.{overwrite}
 use Rattle.receipt.specs.Decimal.{fixedOnto, fixed, digits, readLimit, valueFrom, valueOf}
-use Rattle.receipt.specs.Amount.{cents, amount, amountLimit, withinLimit, readAmount}
+use Rattle.receipt.specs.Amount.{cents, amount, amountLimit, longestAmount, withinLimit, readAmount}
 use Rattle.primitives.proofs.Rows.{true-is-not-false}
 use Rattle.primitives.proofs.Over.{then}
 use Rattle.receipt.proofs.Digits.{length-fixed, length-digits, width-short, from-digits, from-digit, from-mark, from-other, more-low, first-digits}
@@ -63,10 +63,10 @@ pub within-most : (z : ℤ) → withinLimit z ≡ true → natAbs z ≤ amountLi
 unfolding withinLimit
 within-most z e = leb-true (natAbs z) amountLimit e
 
-cents-short : (m : ℕ) → m ≤ amountLimit → length (cents m) ≤ 11
-cents-short m h = omega (arith, length-cents m, length-digits (m / 100), width-short 7 (m / 100) (omega arith))
+cents-short : (m : ℕ) → m ≤ amountLimit → suc (length (cents m)) ≤ longestAmount
+cents-short m h = omega (arith, length-cents m, length-digits (m / 100), width-short 8 (m / 100) (omega arith))
 
-pub amount-short : (z : ℤ) → withinLimit z ≡ true → length (amount z) ≤ 12
+pub amount-short : (z : ℤ) → withinLimit z ≡ true → length (amount z) ≤ longestAmount
 unfolding amount
 amount-short (pos n) e = omega (arith, cents-short n (within-most (pos n) e))
 amount-short (negsuc n) e = omega (arith, cents-short (suc n) (within-most (negsuc n) e))

@@ -21,6 +21,7 @@ use Rattle.receipt.specs.declared.form.Reading.{Reading}
 use Rattle.receipt.specs.Form.{nextAt, part, further, parts, payloadGood, signatureGood, partsGood, signedForm, partsOfForm}
 use Rattle.receipt.specs.Code.{lastAt, codeText, partsOfCode, codeAnswer, codeBuffer, uncodeAnswer, uncodeBuffer, idStart, idEnd, idThere, nowhere, idPlace, idField}
 use Rattle.primitives.specs.Answers.{written}
+use Rattle.receipt.specs.Payload.{longestPayload}
 use Rattle.receipt.specs.FormReading.{short, found}
 use Rattle.primitives.proofs.Answers.{written-room, written-full}
 use Rattle.receipt.proofs.Finding.{next-most}
@@ -121,7 +122,7 @@ module _ (form out pay sig : List ℕ) (r : Reading) (e : found (r .good) (take 
 
 module _ (code sig : List ℕ) (r : Reading) (e : found (r .good) (take (r .payload) code) (take (r .signature) sig) ≡ partsOfCode code) where
   -- the parts of an accepted code are short
-  pub code-lengths : not (r .good) ≡ false → (length (take (r .payload - 0) code) ≤ 195) × (length (take (r .signature - 0) sig) ≤ 64)
+  pub code-lengths : not (r .good) ≡ false → (length (take (r .payload - 0) code) ≤ longestPayload) × (length (take (r .signature - 0) sig) ≤ 64)
   code-lengths t =
       let q : partsOfCode code ≡ some (parts (take (r .payload) code) (take (r .signature) sig)) = sym (found-some (r .good) (take (r .payload) code) (take (r .signature) sig) e t) in
       let k : partsGood (parts (take (r .payload) code) (take (r .signature) sig)) ≡ true = code-good code (parts (take (r .payload) code) (take (r .signature) sig)) q in
@@ -177,7 +178,7 @@ module _ (code sig : List ℕ) (r : Reading) (e : found (r .good) (take (r .payl
     start-is = ap (λ (k : ℕ). k + 1) (er ∙ ap (λ (l : List ℕ). nextAt 95 l 1) (lent-front code (r .payload)))
 
     -- the second mark stands in the payload, or at its end
-    pub second-small : f ≤ 196
+    pub second-small : f ≤ longestPayload + 1
     second-small = omega (arith, er, next-most 95 (take (r .payload - 0) code) 1, code-lengths code sig r e t .0)
 
     module _ {k : ℕ} (ek : k ≡ nextAt 95 (take (r .payload - 0) code) (f + 1)) (within : r .payload ≤ length code) where

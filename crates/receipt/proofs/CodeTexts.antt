@@ -27,23 +27,23 @@ module _ (p : List ℕ) where
 
   pub payload-long : longestPayload < length p → false ≡ payloadGood p
   unfolding payloadGood
-  payload-long h = rw (lt-leb (length p) 195 h) (sym (and-false (leb 4 (length p))))
+  payload-long h = rw (lt-leb (length p) longestPayload h) (sym (and-false (leb 4 (length p))))
 
   pub payload-mark : {r : Bool} {mark : List ℕ} → 4 ≤ length p → length p ≤ longestPayload → r ≡ same (take 4 p) mark → mark ≡ beginning → r ≡ payloadGood p
   unfolding payloadGood
-  payload-mark h k e b = rw (le-leb 4 (length p) h, le-leb (length p) 195 k) (e ∙ ap (same (take 4 p)) b)
+  payload-mark h k e b = rw (le-leb 4 (length p) h, le-leb (length p) longestPayload k) (e ∙ ap (same (take 4 p)) b)
 
   pub payload-most : payloadGood p ≡ true → length p ≤ longestPayload
   unfolding payloadGood
   payload-most e =
-      leb-true (length p) 195
-      (both (leb (length p) 195) (same (take 4 p) beginning) (both (leb 4 (length p)) (leb (length p) 195 && same (take 4 p) beginning) e .1) .0)
+      leb-true (length p) longestPayload
+      (both (leb (length p) longestPayload) (same (take 4 p) beginning) (both (leb 4 (length p)) (leb (length p) longestPayload && same (take 4 p) beginning) e .1) .0)
 
   pub payload-starts : payloadGood p ≡ true → take 4 p ≡ beginning
   unfolding payloadGood
   payload-starts e =
       same-true (take 4 p) beginning
-      (both (leb (length p) 195) (same (take 4 p) beginning) (both (leb 4 (length p)) (leb (length p) 195 && same (take 4 p) beginning) e .1) .1)
+      (both (leb (length p) longestPayload) (same (take 4 p) beginning) (both (leb 4 (length p)) (leb (length p) longestPayload && same (take 4 p) beginning) e .1) .1)
 
 -- ---- the signature
 
@@ -98,7 +98,7 @@ good-inverted (some x) (some y) p e = go (partsGood (parts x y)) refl e
         record { payload = ap (λ (r : Parts). some (r .payload)) d; signature = ap (λ (r : Parts). some (r .signature)) d; good = ap partsGood (sym d) ∙ q }
     go false q f = let z : _≡_ {A = ℕ} 0 1 = cc in absurd (omega arith)
 
--- reading into a buffer of 64 and one of 195 bytes, and then asking, gives the good parts
+-- reading into a buffer of 64 bytes and one of the longest payload, and then asking, gives the good parts
 
 no-signature : false ≡ signatureGood []
 no-signature = signature-other [] (λ e. absurd (omega arith)) (λ e. absurd (omega arith))
@@ -120,15 +120,15 @@ read-signed p (some s) = go (leb (length s) 64) refl
 pub read-parts : (o₁ o₂ : Option (List ℕ)) → found (payloadGood (short longestPayload o₁) && signatureGood (short 64 o₂)) (short longestPayload o₁) (short 64 o₂) ≡ goodParts o₁ o₂
 unfolding goodParts found
 read-parts none o₂ = rw (sym no-payload)
-read-parts (some p) o₂ = go (leb (length p) 195) refl
+read-parts (some p) o₂ = go (leb (length p) longestPayload) refl
   where
     dropped : (o : Option (List ℕ)) → false ≡ payloadGood p → none ≡ goodParts (some p) o
     dropped none e = refl
     dropped (some s) e = rw (sym e)
 
-    go : (t : Bool) → leb (length p) 195 ≡ t → found (payloadGood (cond t p []) && signatureGood (short 64 o₂)) (cond t p []) (short 64 o₂) ≡ goodParts (some p) o₂
+    go : (t : Bool) → leb (length p) longestPayload ≡ t → found (payloadGood (cond t p []) && signatureGood (short 64 o₂)) (cond t p []) (short 64 o₂) ≡ goodParts (some p) o₂
     go true e = read-signed p o₂
-    go false e = rw (sym no-payload) (dropped o₂ (payload-long p (leb-false (length p) 195 e)))
+    go false e = rw (sym no-payload) (dropped o₂ (payload-long p (leb-false (length p) longestPayload e)))
 
 -- ---- exact readers
 

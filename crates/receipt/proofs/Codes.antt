@@ -17,6 +17,7 @@ use Rattle.primitives.proofs.Base64Lengths.{length-encoding}
 use Rattle.primitives.proofs.Base64Laws.{no-underscore, decode-encode, encode-decode, decoded-bytes}
 use Rattle.receipt.specs.Form.{part, Parts, partsGood, PartsOfBytes, signedForm, goodParts, partsOfForm}
 use Rattle.receipt.specs.Code.{lastAt, codeText, partsOfCode, codeAnswer, codeBuffer, uncodeAnswer, uncodeBuffer}
+use Rattle.receipt.specs.Payload.{longestPayload}
 use Rattle.receipt.specs.CodeLaws.{CodeIsExact, CodeIsShort, UncodeAfterCode, CodeAfterUncode}
 use Rattle.receipt.proofs.Finding.{last-is, last-without}
 use Rattle.receipt.proofs.CodeTexts.{good-payload, good-signature, good-some, Inverted, good-inverted, exactly}
@@ -55,7 +56,7 @@ module _ (p : Parts) where
   unfolding z
   length-code = ap length code-is ∙ omega (arith, length-append (p .payload) (95 ∷ z), length-encoding Standard (p .signature))
 
-  code-short-of : partsGood p ≡ true → length (codeText p) ≤ 195 + 1 + 88
+  code-short-of : partsGood p ≡ true → length (codeText p) ≤ longestPayload + 1 + 88
   code-short-of g = omega (arith, length-code, good-payload p g, good-signature p g)
 
 module _ (t : List ℕ) (p : Parts) (e : partsOfCode t ≡ some p) where

@@ -14,7 +14,7 @@ use Rattle.primitives.specs.Bytes.{same}
 use Rattle.primitives.specs.Counter.{widthGood}
 use Rattle.primitives.proofs.Over.{over-nil, read-over, placed-room, placed-full, after-room, after-full}
 use Rattle.receipt.specs.Settings.{every, sized, SettingsLengths}
-use Rattle.receipt.specs.Payload.{payload, fieldsGood}
+use Rattle.receipt.specs.Payload.{payload, longestPayload, fieldsGood}
 use Rattle.receipt.specs.PayloadReading.{readFields}
 use Rattle.receipt.specs.Form.{parts, signedInput, signedForm, partsOfForm, failureText}
 use Rattle.receipt.specs.FormReading.{found}
@@ -76,13 +76,13 @@ pub spells-is : (s : Settings) (n : ℕ) (f : PayloadFields) (text : List ℕ) �
 unfolding spells
 spells-is s n f text = refl
 
--- ---- the payload, in a buffer of 195 bytes
+-- ---- the payload, in a buffer of the longest payload
 
 module _ (s : Settings) (n : ℕ) (f : PayloadFields) where
-  pub payload-none : preparable s n f ≡ false → (0 ≤ 195) × (_≡_ {A = List ℕ} [] (cond (preparable s n f) (payload s n f) []))
+  pub payload-none : preparable s n f ≡ false → (0 ≤ longestPayload) × (_≡_ {A = List ℕ} [] (cond (preparable s n f) (payload s n f) []))
   payload-none e = (omega arith, rw e)
 
-  module _ (ts : SettingsLengths s) (tf : Sizes f) (out : List ℕ) (long : length out ≡ 195) (e : preparable s n f ≡ true) where
+  module _ (ts : SettingsLengths s) (tf : Sizes f) (out : List ℕ) (long : length out ≡ longestPayload) (e : preparable s n f ≡ true) where
     fits : 0 + length (payload s n f) ≤ length out
     fits =
         let p = preparable-true s n f e in
@@ -92,13 +92,13 @@ module _ (s : Settings) (n : ℕ) (f : PayloadFields) where
     payload-room = let p = preparable-true s n f e in (p .sized, p .width, fits)
 
     pub payload-some : {r : ℕ} {out₁ : List ℕ} → (r ≡ 0 + length (payload s n f)) × (out₁ ≡ overwrite out 0 (payload s n f))
-        → (r ≤ 195) × (take r out₁ ≡ cond (preparable s n f) (payload s n f) [])
+        → (r ≤ longestPayload) × (take r out₁ ≡ cond (preparable s n f) (payload s n f) [])
     payload-some {r} h =
         let q : r ≡ length (payload s n f) = omega (arith, h .0) in
         (omega (arith, fits), rw e ((λ i. take (q i) (h .1 i)) ∙ read-over out 0 (payload s n f) fits))
 
   -- what is known after that
-  module _ (m : ℕ) (pay : List ℕ) (long : length pay ≡ 195) (h : (m ≤ 195) × (take m pay ≡ cond (preparable s n f) (payload s n f) [])) where
+  module _ (m : ℕ) (pay : List ℕ) (long : length pay ≡ longestPayload) (h : (m ≤ longestPayload) × (take m pay ≡ cond (preparable s n f) (payload s n f) [])) where
     pub unprepared : m ≡ 0 → preparable s n f ≡ false
     unprepared z = go (preparable s n f) refl
       where

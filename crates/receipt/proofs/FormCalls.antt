@@ -21,6 +21,7 @@ use Rattle.primitives.proofs.Questions.{yes, no}
 use Rattle.primitives.proofs.Base64Lengths.{length-encoding}
 use Rattle.receipt.specs.declared.form.Reading.{Reading}
 use Rattle.receipt.specs.Form.{nextAt, part, Parts, parts, payloadGood, signatureGood, signedInput, signedForm, secondDot, partsOfForm, firstElement}
+use Rattle.receipt.specs.Payload.{longestPayload}
 use Rattle.receipt.specs.FormReading.{short, nothing, found}
 use Rattle.receipt.proofs.Finding.{next-from}
 use Rattle.receipt.proofs.Texts.{first-long}
@@ -123,7 +124,7 @@ module _ (alphabet : Alphabet) (text sig₀ sig : List ℕ) (from m : ℕ) (lb :
   signature-read = py .1 ∙ (λ i. short (lb i) (decoding alphabet (lent-rest text from i)))
 
 -- the two elements of a compact form, read into buffers
-module _ (form pay₀ sig₀ pay sig : List ℕ) (e n m : ℕ) (la : length pay₀ ≡ 195) (lb : length sig₀ ≡ 64) (is : e ≡ secondDot form) (h : e < length form)
+module _ (form pay₀ sig₀ pay sig : List ℕ) (e n m : ℕ) (la : length pay₀ ≡ longestPayload) (lb : length sig₀ ≡ 64) (is : e ≡ secondDot form) (h : e < length form)
     (px : (n ≤ length pay₀) × (take n pay ≡ short (length pay₀) (decoding UrlSafe (part 21 e form))))
     (py : (m ≤ length sig₀) × (take m sig ≡ short (length sig₀) (decoding UrlSafe (take (length form - (e + 1)) (drop (e + 1) form))))) where
   form-found : found (payloadGood (take n pay) && signatureGood (take m sig)) (take n pay) (take m sig) ≡ partsOfForm form
@@ -137,7 +138,7 @@ module _ (form pay₀ sig₀ pay sig : List ℕ) (e n m : ℕ) (la : length pay�
   form-bad q t = rw (sym (lent-front pay n), no q t) at form-found
 
   pub form-read : {g r : Bool} → g ≡ payloadGood (take (n - 0) pay) → not g ≡ false → r ≡ signatureGood (take (m - 0) sig)
-      → (n ≤ 195) × (m ≤ 64) × (found r (take n pay) (take m sig) ≡ partsOfForm form)
+      → (n ≤ longestPayload) × (m ≤ 64) × (found r (take n pay) (take m sig) ≡ partsOfForm form)
   form-read {g} {r} q t w =
       let a : payloadGood (take n pay) ≡ true = ap payloadGood (sym (lent-front pay n)) ∙ yes q t in
       let b : signatureGood (take m sig) ≡ r = ap signatureGood (sym (lent-front sig m)) ∙ sym w in

@@ -16,6 +16,7 @@ use Rattle.primitives.proofs.ByteLists.{bytes-take, bytes-drop, same-refl, same
 use Rattle.primitives.proofs.Base64Lengths.{length-encoding}
 use Rattle.primitives.proofs.Base64Laws.{no-dot, decode-encode, encode-decode, decoded-bytes}
 use Rattle.receipt.specs.Form.{nextAt, part, Without, Parts, partsGood, PartsOfBytes, signedForm, goodParts, secondDot, partsOfForm, header, firstElement}
+use Rattle.receipt.specs.Compact.{longestCompact}
 use Rattle.receipt.specs.CodeLaws.{FormIsExact, FormIsShort}
 use Rattle.receipt.proofs.Finding.{next-is, next-from, next-without}
 use Rattle.receipt.proofs.Texts.{first-long}
@@ -89,7 +90,7 @@ module _ (p : Parts) where
       ap length form-is
       ∙ omega (arith, spread firstElement x y first-long, length-encoding UrlSafe (p .payload), length-encoding UrlSafe (p .signature))
 
-  form-short-of : partsGood p ≡ true → length (signedForm p) ≤ 368
+  form-short-of : partsGood p ≡ true → length (signedForm p) ≤ longestCompact
   form-short-of g = omega (arith, length-form, good-payload p g, good-signature p g)
 
 -- where there is a second dot, the first element is the header's

@@ -45,7 +45,7 @@ use Rattle.receipt.specs.declared.optical_line.Ends.{Ends}
 use Rattle.receipt.proofs.Finding.{last-is, last-after, last-most}
 use Rattle.receipt.proofs.CodeTexts.{payload-most, good-payload, good-signature}
 use Rattle.receipt.proofs.CodeCalls.{no-room, has-room}
-use Rattle.receipt.proofs.MarkCounts.{count-none}
+use Rattle.receipt.proofs.MarkCounts.{count-most, count-none}
 use Rattle.receipt.proofs.LineFields.{good-most}
 use Rattle.receipt.proofs.Lines.{payload-length}
 use Rattle.receipt.proofs.FormCalls.{lent-front, lent-rest, put-next}
@@ -94,15 +94,6 @@ module _ (b : ℕ) (s : List ℕ) (i n : ℕ) {n′ : ℕ} (h : i < length s) (i
 
   pub passed : (getD s i 0 ≡ b → ⊥) → n′ ≡ n → (i + 1 ≤ length s) × (n′ ≤ i + 1) × (n′ + countOf b (drop (i + 1) s) ≡ countOf b s)
   passed e q = let k = count-no b s i h e in (omega arith, omega arith, omega arith)
-
-count-most : (b : ℕ) (s : List ℕ) → countOf b s ≤ length s
-unfolding countOf
-count-most b [] = omega arith
-count-most b (x ∷ s) = go (count-most b s) (eqb x b)
-  where
-    go : countOf b s ≤ length s → (t : Bool) → cond t (suc (countOf b s)) (countOf b s) ≤ suc (length s)
-    go h true = omega arith
-    go h false = omega arith
 
 -- ---- the marks
 
@@ -665,7 +656,7 @@ module _ (s : Spelling) (m : Marks) (text : List ℕ) (e : Ends) (bytes : List �
     pub spelled-short : (length (take (e .counter - 0) bytes) ≤ longestFields) × (length (take (e .chain - e .counter) (drop (e .counter) bytes)) ≤ longestFields) × (length (take (e .signature - e .chain) (drop (e .chain) bytes)) ≤ longestFields)
     spelled-short = (omega (arith, sizes .spelled), omega (arith, sizes .spelled), omega (arith, sizes .signature))
 
-    copied : m .counter + 1 + (m .chain + 1 - m .serial) ≤ 400
+    copied : m .counter + 1 + (m .chain + 1 - m .serial) ≤ 2 * longestPayload + 3
     copied =
         omega (arith, sizes .start, sizes .serial, length-part text 0 (m .counter) (omega arith) (omega arith), length-part text (m .serial + 1) (m .chain) (omega arith) (omega arith))
 

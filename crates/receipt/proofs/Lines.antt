@@ -1,5 +1,5 @@
 -- The optical line of a code: the reader is exact, a line is the image of a code, and the calls undo each other.
-use Prim.Native.Nat.{ℕ, _+_, _*_, _/_}
+use Prim.Native.Nat.{ℕ, _+_, _*_, _/_, _≤_}
 use mathlib.Core.Path.{_≡_, refl, sym, ap, _∙_}
 use mathlib.Core.List.{List, [], _∷_}
 use mathlib.Core.Option.{Option, none, some, Option·map}
@@ -17,9 +17,9 @@ use Rattle.receipt.specs.LineLaws.{SpelledAs, FieldsAreExact, TwelveSepa
 use Rattle.receipt.specs.declared.optical_line.Spelling.{Spelling}
 use Rattle.receipt.specs.declared.optical_line.Spelling.the-variants.{Base64, Base32}
 use Rattle.receipt.proofs.Codes.{code-back}
-use Rattle.receipt.proofs.MarkCounts.{one-mark, count-append, count-none}
+use Rattle.receipt.proofs.MarkCounts.{one-mark, count-append, count-most, count-none}
 use Rattle.receipt.proofs.Spellings.{spell-bytes, spell-none, spelledLength, length-spell}
-use Rattle.receipt.proofs.LineFields.{good-parts, good-most, start-nine, serial-none, fields-back, fields-only, code-of, partsIn}
+use Rattle.receipt.proofs.LineFields.{good-twelve, good-parts, good-most, start-nine, serial-none, fields-back, fields-only, code-of, partsIn}
 use Rattle.receipt.proofs.Undoing.{round}
 
 -- ---- the reader
@@ -70,12 +70,20 @@ pub longest-lines : LongestLinesAre
 unfolding encodedLength32
 longest-lines = (refl, refl)
 
+-- two texts of c and h bytes take at most 48 letters more in BASE32 than in BASE64, if BASE64 takes at most 48 groups of four
+growth : (c h : ℕ) → (c + 2) / 3 + (h + 2) / 3 ≤ 48 → encodedLength32 c + encodedLength32 h ≤ (c + 2) / 3 * 4 + (h + 2) / 3 * 4 + 48
+unfolding encodedLength32
+growth c h l = omega arith
+
 pub line-is-short : LineIsShort
 unfolding encodedLength32
 line-is-short line code w =
     let f = w .fields in
     let m = good-most f (w .asLine .good) in
-    omega (arith, ap length (w .asLine .is), line-length f, payload-length f, m .0, m .1)
+    let nine = start-nine f (good-twelve f (w .asLine .good)) in
+    let some = count-most 95 (f .start) in
+    let more = growth (length (f .counter)) (length (f .chain)) (omega (arith, payload-length f, m .0, nine, some)) in
+    omega (arith, ap length (w .asLine .is), line-length f, payload-length f, m .0, m .1, more)
 
 -- ---- a code and its fields
 

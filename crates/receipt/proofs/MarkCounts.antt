@@ -1,5 +1,5 @@
 -- How often a byte occurs.
-use Prim.Native.Nat.{ℕ, zero, suc, _+_, _<_}
+use Prim.Native.Nat.{ℕ, zero, suc, _+_, _≤_, _<_}
 use mathlib.Core.Path.{_≡_, refl}
 use mathlib.Core.Bool.{Bool, true, false, cond}
 use mathlib.Core.List.{List, [], _∷_, _++_}
@@ -24,6 +24,16 @@ count-append b (x ∷ xs) ys = go (eqb x b) (count-append b xs ys)
         → cond t (suc (countOf b (xs ++ ys))) (countOf b (xs ++ ys)) ≡ cond t (suc (countOf b xs)) (countOf b xs) + countOf b ys
     go true e = omega arith
     go false e = e
+
+-- at most as often as there are bytes
+pub count-most : (b : ℕ) (s : List ℕ) → countOf b s ≤ length s
+unfolding countOf
+count-most b [] = omega arith
+count-most b (x ∷ s) = go (count-most b s) (eqb x b)
+  where
+    go : countOf b s ≤ length s → (t : Bool) → cond t (suc (countOf b s)) (countOf b s) ≤ suc (length s)
+    go h true = omega arith
+    go h false = omega arith
 
 -- a list without b has none, and a list that has none is without b
 pub count-none : (b : ℕ) (xs : List ℕ) → Without b xs → countOf b xs ≡ 0

@@ -13,7 +13,7 @@ use Rattle.primitives.specs.Bytes.{AllBytes}
 use Rattle.primitives.proofs.ByteLists.{bytes-take}
 use Rattle.primitives.proofs.Rows.{both}
 use Rattle.receipt.specs.Decimal.{digits}
-use Rattle.receipt.specs.Amount.{amount, withinLimit, amountsText}
+use Rattle.receipt.specs.Amount.{amount, longestAmount, withinLimit, amountsText}
 use Rattle.receipt.specs.DateTime.{dateText}
 use Rattle.receipt.specs.Details.{amountsGood}
 use Rattle.receipt.specs.Settings.{between, idLetter, nameText, every, cspGood, settingsGood, SettingsLengths, SettingsBytes}
@@ -98,7 +98,7 @@ unfolding joined
 count-joined z [] = amount-none z
 count-joined z (y ∷ ys) = simp count-append (omega (arith, amount-none z, one-mark, count-joined y ys))
 
-length-joined : (z : ℤ) (zs : List ℤ) → amountsGood (z ∷ zs) ≡ true → length (joined (z ∷ zs)) ≤ 12 + 13 * length zs
+length-joined : (z : ℤ) (zs : List ℤ) → amountsGood (z ∷ zs) ≡ true → length (joined (z ∷ zs)) ≤ longestAmount + (longestAmount + 1) * length zs
 unfolding joined amountsGood
 length-joined z [] e = omega (arith, amount-short z (both (withinLimit z) (amountsGood []) e .0))
 length-joined z (y ∷ ys) e =
@@ -113,7 +113,7 @@ count-amounts : (zs : List ℤ) → 0 < length zs → countOf 95 (joined zs) + 1
 count-amounts [] h = absurd (omega arith)
 count-amounts (z ∷ zs) h = omega (arith, count-joined z zs)
 
-length-amounts : (zs : List ℤ) → 0 < length zs → amountsGood zs ≡ true → length (joined zs) + 1 ≤ 13 * length zs
+length-amounts : (zs : List ℤ) → 0 < length zs → amountsGood zs ≡ true → length (joined zs) + 1 ≤ (longestAmount + 1) * length zs
 length-amounts [] h e = absurd (omega arith)
 length-amounts (z ∷ zs) h e = omega (arith, length-joined z zs e)
 
@@ -165,10 +165,14 @@ fieldsIn s n e =
 abbrev pub codeOf : Settings → ℕ → Entry → List ℕ
 codeOf s n e = codeText (parts (payload s n (e .fields)) (signatureText (e .signature)))
 
+-- the nine fields up to the amounts: what does not depend on the amounts, and five amounts with a '_' before each
+abbrev longestStart : ℕ
+longestStart = 71 + 5 * (longestAmount + 1)
+
 -- they are good, the code is their spelling, and they are no longer than this
 pub record ReceiptFields (s : Settings) (n : ℕ) (e : Entry) (f : CodeFields) : Type 0 where
   pub asCode : SpelledAs Base64 (codeOf s n e) f
-  pub start : length (f .start) ≤ 136
+  pub start : length (f .start) ≤ longestStart
   pub counter : length (f .counter) ≤ 8
   pub serial : length (f .serial) ≤ 32
   pub chain : length (f .chain) ≡ 8
@@ -234,7 +238,7 @@ module _ (s : Settings) (n : ℕ) (e : Entry) (l : SettingsLengths s) (b : Setti
         signature = all-bytes .signature;
       }
 
-  start-short : length (fieldsIn s n e .start) ≤ 136
+  start-short : length (fieldsIn s n e .start) ≤ longestStart
   unfolding fieldsIn
   start-short =
       let c = spellable-true s n e can .fields in

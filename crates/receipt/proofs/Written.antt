@@ -17,7 +17,7 @@ use Rattle.receipt.specs.Decimal.{digits}
 use Rattle.receipt.specs.DateTime.{dateGood, dateText}
 use Rattle.receipt.specs.Settings.{nameText, sized, SettingsLengths}
 use Rattle.receipt.specs.Details.{amountsGood}
-use Rattle.receipt.specs.Amount.{amountsText}
+use Rattle.receipt.specs.Amount.{longestAmount, amountsText}
 use Rattle.receipt.specs.Texts.{beginning, cancellationText, trainingText}
 use Rattle.receipt.proofs.Texts.{beginning-long, cancellation-long, training-long}
 use Rattle.receipt.specs.Payload.{base64, registerPart, moment, counterContent, counterField, closing, body, payload, longestPayload, counterGood, fieldsGood, TypedFields}
@@ -160,7 +160,7 @@ module _ (s : Settings) (n : ℕ) (f : PayloadFields) where
 
 -- ---- its greatest length
 
-amounts-short : (zs : List ℤ) → amountsGood zs ≡ true → length (amountsText zs) ≤ 13 * length zs
+amounts-short : (zs : List ℤ) → amountsGood zs ≡ true → length (amountsText zs) ≤ (longestAmount + 1) * length zs
 unfolding amountsText amountsGood
 amounts-short [] e = omega arith
 amounts-short (z ∷ zs) e =
@@ -198,7 +198,7 @@ pub record Sizes (f : PayloadFields) : Type 0 where
   pub counter : length (f .counter) ≡ 8
   pub chain : length (f .chain) ≡ 8
 
--- "A payload is at most 195 bytes"
+-- "A payload is at most 200 bytes"
 pub payload-most : (s : Settings) (n : ℕ) (f : PayloadFields) → SettingsLengths s → sized s ≡ true → Sizes f → fieldsGood n f ≡ true
     → length (payload s n f) ≤ longestPayload
 payload-most s n f ts z tf e =

@@ -22,9 +22,13 @@ unfoldable pub amountsText : List ℤ → List ℕ
 amountsText [] = []
 amountsText (z ∷ zs) = (amount z ++ (separator ∷ [])) ++ amountsText zs
 
--- "each from -9,999,999,999 to 9,999,999,999"
+-- "Each amount may now reach 99,999,999,999 cents either way"
 abbrev pub amountLimit : ℕ
-amountLimit = 9999999999
+amountLimit = 99999999999
+
+-- such an amount has at most these bytes: '-', nine digits, ',', two digits
+abbrev pub longestAmount : ℕ
+longestAmount = 13
 
 unfoldable pub withinLimit : ℤ → Bool
 withinLimit z = leb (natAbs z) amountLimit

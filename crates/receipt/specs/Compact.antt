@@ -32,9 +32,9 @@ compact s n e = signedForm (parts (payload s n (e .fields)) (signatureText (e .s
 unfoldable pub signingInput : Settings → ℕ → PayloadFields → List ℕ
 signingInput s n f = signedInput (payload s n f)
 
--- "a compact form at most 368"
+-- "a compact form 375"
 abbrev pub longestCompact : ℕ
-longestCompact = 368
+longestCompact = 375
 
 -- what the code's types say of an entry
 pub record TypedEntry (e : Entry) : Type 0 where

@@ -41,11 +41,11 @@ OneSpelling =
     (s : Settings) (n : ℕ) (e f : Entry) → SettingsLengths s → SettingsBytes s → TypedEntry e → TypedEntry f → spellable s n e ≡ true → spellable s n f ≡ true
     → compact s n e ≡ compact s n f → e ≡ f
 
--- "A payload is at most 195 bytes"
+-- "A payload is at most 200 bytes"
 abbrev pub PayloadIsShort : Type 0
 PayloadIsShort = (s : Settings) (n : ℕ) (f : PayloadFields) → SettingsLengths s → TypedFields f → preparable s n f ≡ true → length (payload s n f) ≤ longestPayload
 
--- "a compact form at most 368"
+-- "a compact form 375"
 abbrev pub CompactIsShort : Type 0
 CompactIsShort = (s : Settings) (n : ℕ) (e : Entry) → SettingsLengths s → TypedEntry e → spellable s n e ≡ true → length (compact s n e) ≤ longestCompact
 

@@ -59,7 +59,7 @@ pub record Parts : Type 0 where
 abbrev pub parts : List ℕ → List ℕ → Parts
 parts p s = record { payload = p; signature = s }
 
--- 4 to 195 bytes beginning "_R1-"
+-- 4 to 200 bytes beginning "_R1-"
 unfoldable pub payloadGood : List ℕ → Bool
 payloadGood p = leb 4 (length p) && (leb (length p) longestPayload && same (take 4 p) beginning)
 

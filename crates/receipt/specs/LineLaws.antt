@@ -95,7 +95,7 @@ LineAfterCode =
 
 -- the numbers that the header names
 abbrev pub LongestLinesAre : Type 0
-LongestLinesAre = (longestLine ≡ 308) × (longestAnyLine ≡ 348)
+LongestLinesAre = (longestLine ≡ 313) × (longestAnyLine ≡ 353)
 
 -- no code has a longer line
 abbrev pub LineIsShort : Type 0

@@ -56,9 +56,9 @@ body s n f = moment (f .details .number) (f .details .date) ++ amountsText (f .d
 unfoldable pub payload : Settings → ℕ → PayloadFields → List ℕ
 payload s n f = registerPart s ++ body s n f
 
--- "A payload is at most 195 bytes"
+-- "A payload is at most 200 bytes"
 abbrev pub longestPayload : ℕ
-longestPayload = 195
+longestPayload = 200
 
 -- ---- which fields a payload may have
 

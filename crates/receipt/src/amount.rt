@@ -11,7 +11,7 @@ ghost use Rattle.primitives.specs.Place.{overwrite};
 ghost use Rattle.receipt.specs.Amount.{cents, amount, withinLimit, readAmount};
 
 // The largest amount, in cents.
-const AMOUNT_LIMIT: u64 = 9_999_999_999;
+const AMOUNT_LIMIT: u64 = 99_999_999_999;
 
 // Writes cents without a sign at a place; returns the place after them.
 fn put_cents(out: &mut [u8], at: usize, m: u64) -> usize

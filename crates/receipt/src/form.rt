@@ -18,7 +18,7 @@ ghost use Rattle.receipt.specs.Form.{failureText, firstElement, element,
 ghost use Rattle.receipt.specs.FormReading.{short, partsRead, nothing};
 
 // The longest payload.
-pub(crate) const LONGEST_PAYLOAD: usize = 195;
+pub(crate) const LONGEST_PAYLOAD: usize = 200;
 
 // ---- fixed texts
 

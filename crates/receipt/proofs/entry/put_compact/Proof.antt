@@ -11,9 +11,10 @@ use Rattle.receipt.proofs.entry.put_compact.Lts as lts
 use Rattle.receipt.proofs.entry.write_payload.Reads as write-payload-reads
 use Rattle.receipt.proofs.entry.put_signed.Reads as put-signed-reads
 use Rattle.receipt.proofs.entry.signature_zero.Reads as signature-zero-reads
+use Rattle.receipt.specs.Payload.{longestPayload}
 
 -- the buffer's length after the call
-long : (c : tie.After-payload2) → length (c .before .write-payload .last .1 .1 .1 .0) ≡ 195
+long : (c : tie.After-payload2) → length (c .before .write-payload .last .1 .1 .1 .0) ≡ longestPayload
 long c = search needs
 
 slice-aggregate-write-payload : tie.Need-slice-aggregate-write-payload

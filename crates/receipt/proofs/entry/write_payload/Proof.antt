@@ -1,4 +1,4 @@
--- A payload has room in 195 bytes.
+-- A payload has room in a buffer of the longest.
 use borrow.Author.Needs.{needs}
 use Rattle.receipt.specs.Settings.{SettingsLengths}
 use Rattle.receipt.proofs.Written.{Sizes}

@@ -1,10 +1,11 @@
 -- The marks are found in the payload, which stands at the start of the code.
 use native.Mathlib.Omega.{arith}
-use Prim.Native.Nat.{_≤_}
+use Prim.Native.Nat.{_+_, _≤_}
 use Rattle.receipt.proofs.CodeCalls.{no-id, second-small, id-unended, id-empty, id-there}
 use borrow.Author.Needs.{needs}
 use Rattle.receipt.proofs.machine_code.id_place.Statement.{statement}
 use Rattle.receipt.proofs.machine_code.id_place.Tie as tie
+use Rattle.receipt.specs.Payload.{longestPayload}
 
 slice-aggregate-read-code : tie.Need-slice-aggregate-read-code
 slice-aggregate-read-code c = search needs
@@ -35,7 +36,7 @@ next-at-requires c κs = search needs
 add-a : tie.Need-add-a
 add-a c =
     let r = c .before .before .before .before .before .read-code in
-    let h : c .next-at .result ≤ 196 = second-small _ (r .last .1 .0) (r .result) (r .ensures .2) (c .before .before .if1 .left) (c .next-at .ensures) in
+    let h : c .next-at .result ≤ longestPayload + 1 = second-small _ (r .last .1 .0) (r .result) (r .ensures .2) (c .before .before .if1 .left) (c .next-at .ensures) in
     omega arith
 
 next-at-requires-2 : tie.Need-next-at-requires-2
