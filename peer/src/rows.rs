@@ -10,8 +10,11 @@ use crate::sample::{ENDS, LAST_AMOUNTS, MOST, NEW_AMOUNTS, NEXT_AMOUNTS, PAYLOAD
 use crate::settings::{Name, Settings};
 use crate::text::hex;
 
+/// Computes the rows of a table.
+pub type Rows = fn() -> Vec<String>;
+
 /// The tables with such rows, by their place as seen from the peer's folder.
-pub const TABLES: [(&str, fn() -> Vec<String>); 5] = [
+pub const TABLES: [(&str, Rows); 5] = [
     ("../tests/takeover.tsv", takeover),
     ("tests/data/amount.tsv", amount),
     ("tests/data/code.tsv", code),
@@ -88,21 +91,14 @@ fn takeover_row(name: &str, settings: &Settings, receipts: &[Given]) -> String {
 }
 
 fn takeover() -> Vec<String> {
-    let mut rows = Vec::new();
-    rows.extend(NEW_AMOUNTS.into_iter().chain(ENDS).map(|amount| amount_row(amount, 0)));
-    for amount in LAST_AMOUNTS.into_iter().chain(NEXT_AMOUNTS) {
-        rows.extend((0..5).map(|place| amount_row(amount, place)));
-    }
-    for width in 5..=8 {
-        rows.extend(longest_rows(width));
-        for (name, sign) in [("", 1), ("-negative", -1)] {
-            let largest = ([sign * AMOUNT_LIMIT; 5], 0);
-            rows.push(journal_row(&format!("width-{width}-largest{name}-twice"), width, &[largest; 2]));
-        }
-    }
-    rows.extend(end_rows("top", 1, width_end(5)));
-    rows.extend(end_rows("bottom", -1, !width_end(5)));
-    rows
+    let once = NEW_AMOUNTS.into_iter().chain(ENDS).map(|amount| amount_row(amount, 0));
+    let everywhere = LAST_AMOUNTS.into_iter().chain(NEXT_AMOUNTS).flat_map(amount_rows);
+    let ends = [end_rows("top", 1, width_end(5)), end_rows("bottom", -1, !width_end(5))];
+    once.chain(everywhere).chain((5..=8).flat_map(width_rows)).chain(ends.concat()).collect()
+}
+
+fn amount_rows(amount: i64) -> impl Iterator<Item = String> {
+    (0..5).map(move |place| amount_row(amount, place))
 }
 
 /// A second receipt with this amount at one of the five places.
@@ -114,8 +110,8 @@ fn amount_row(amount: i64, place: usize) -> String {
 }
 
 /// The longest receipt of a width after others with the largest amounts, and with an amount beyond the limit: the upper
-/// one has as many letters as the lower limit, the lower one has one more.
-fn longest_rows(width: u64) -> [String; 3] {
+/// one has as many letters as the lower limit, the lower one has one more. Then the largest receipt twice.
+fn width_rows(width: u64) -> [String; 5] {
     let [most, least] = [[AMOUNT_LIMIT; 5], [-AMOUNT_LIMIT; 5]];
     let [mut above, mut below] = [least; 2];
     above[4] = AMOUNT_LIMIT + 1;
@@ -124,6 +120,8 @@ fn longest_rows(width: u64) -> [String; 3] {
         longest_row("", width, &[(most, 0), (least, 1), (least, 2), (least, 0)]),
         longest_row("-amount-above", width, &[(above, 0)]),
         longest_row("-amount-below", width, &[(below, 0)]),
+        journal_row(&format!("width-{width}-largest-twice"), width, &[(most, 0); 2]),
+        journal_row(&format!("width-{width}-largest-negative-twice"), width, &[(least, 0); 2]),
     ]
 }
 
@@ -198,21 +196,27 @@ fn code_rows(name: &str, printed: &Printed) -> [String; 3] {
 }
 
 fn ocr_line() -> Vec<String> {
-    let mut rows = Vec::new();
-    for length in PAYLOAD_EDGES {
-        rows.extend(line_rows(&format!("payload-{length}"), &printed(8, 8, length)));
-    }
-    for (name, counter, chain) in [("counter", 126, 6), ("chain", 6, 126)] {
-        let name = format!("longest-line-by-{name}");
-        rows.extend(line_rows(&name, &printed(counter, chain, LONGEST_PAYLOAD)));
-        rows.extend(line_rows(&format!("{name}-one-more"), &printed(counter, chain, LONGEST_PAYLOAD + 1)));
-    }
-    for width in 5..=8 {
-        let receipts = given(&[([-AMOUNT_LIMIT; 5], 0)], u32::MAX);
-        let entry = &Journal::with(&longest_settings(width), &receipts).entries[1];
-        rows.extend(line_rows(&format!("longest-receipt-width-{width}"), &Printed::of(&entry.code())));
-    }
-    rows
+    let limits =
+        PAYLOAD_EDGES.into_iter().flat_map(|length| line_rows(&format!("payload-{length}"), &printed(8, 8, length)));
+    let longest = [longest_lines("counter", 126, 6), longest_lines("chain", 6, 126)];
+    limits.chain(longest.concat()).chain((5..=8).flat_map(receipt_lines)).collect()
+}
+
+/// The longest line, by the bytes of these two fields, and one with a byte too many.
+fn longest_lines(name: &str, counter: usize, chain: usize) -> Vec<String> {
+    let name = format!("longest-line-by-{name}");
+    let rows = [
+        line_rows(&name, &printed(counter, chain, LONGEST_PAYLOAD)),
+        line_rows(&format!("{name}-one-more"), &printed(counter, chain, LONGEST_PAYLOAD + 1)),
+    ];
+    rows.concat()
+}
+
+/// The longest receipt of a width.
+fn receipt_lines(width: u64) -> [String; 2] {
+    let receipts = given(&[([-AMOUNT_LIMIT; 5], 0)], u32::MAX);
+    let entry = &Journal::with(&longest_settings(width), &receipts).entries[1];
+    line_rows(&format!("longest-receipt-width-{width}"), &Printed::of(&entry.code()))
 }
 
 fn line_rows(name: &str, printed: &Printed) -> [String; 2] {
@@ -231,7 +235,8 @@ pub fn issue_answer(side: &dyn Calls, width: u64, before: i64, (amounts, kind): 
     let mut bytes = state_bytes(&state);
     let details = Details { number: 2, date: DATE, amounts, kind };
     let prepared = side.prepare(&bytes, &details, &mut [0; LONGEST_INPUT]);
-    let number = side.issue(&mut bytes, &details, &signature(1), &mut [0; 83 + 2 + LONGEST_COMPACT]);
+    let mut journal = vec![0; settings.head_length() + 2 + LONGEST_COMPACT];
+    let number = side.issue(&mut bytes, &details, &signature(1), &mut journal);
     assert_eq!(number, prepared.number, "{details:?}");
     (number, side.counter(&bytes))
 }
@@ -244,12 +249,11 @@ fn issue_row(name: &str, width: u64, before: i64, receipt: Receipt) -> String {
 }
 
 fn issue_limits() -> Vec<String> {
-    let mut rows = Vec::new();
-    for width in 5..=8 {
-        rows.extend(counter_rows("top", width, 1, width_end(width)));
-        rows.extend(counter_rows("bottom", width, -1, !width_end(width)));
-    }
-    rows
+    let ends = |width| {
+        let end = width_end(width);
+        [counter_rows("top", width, 1, end), counter_rows("bottom", width, -1, !end)].concat()
+    };
+    (5..=8).flat_map(ends).collect()
 }
 
 /// Receipts of every kind that reach the last counter of a width, or would go beyond it, and amounts beyond their limit.

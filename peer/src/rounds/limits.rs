@@ -16,11 +16,10 @@ impl Round<'_> {
 
     /// Each amount at a limit or next to one, in each of the five places.
     pub(super) fn amounts_at_the_limits(&mut self) -> Compared<()> {
-        for amount in OLD_AMOUNTS.into_iter().chain(NEW_AMOUNTS).chain(LAST_AMOUNTS) {
-            self.amount_at_the_limit(amount, true)?;
-        }
-        for amount in NEXT_AMOUNTS.into_iter().chain(ENDS) {
-            self.amount_at_the_limit(amount, false)?;
+        let good = OLD_AMOUNTS.into_iter().chain(NEW_AMOUNTS).chain(LAST_AMOUNTS).map(|amount| (amount, true));
+        let bad = NEXT_AMOUNTS.into_iter().chain(ENDS).map(|amount| (amount, false));
+        for (amount, good) in good.chain(bad) {
+            self.amount_at_the_limit(amount, good)?;
         }
         Ok(())
     }
@@ -64,39 +63,30 @@ impl Round<'_> {
 
     // ---- the counter
 
-    /// Every width at both its ends: a receipt that just reaches the end, one that is a cent beyond it, training, and an
-    /// amount beyond its limit.
+    /// Every width at both its ends.
     pub(super) fn counters_at_the_ends(&mut self) -> Compared<()> {
         for width in 5..=8 {
             let end = sample::width_end(width);
-            for (sign, last) in [(1, end), (-1, !end)] {
-                let left = self.random.pick(&[0, 1, MOST - 1, MOST, self.random.between(0, MOST)]);
-                let state = self.started_state(width, last - sign * left);
-                self.counter_at_the_end(&state, sign * left, last)?;
-                self.counter_beyond_the_end(&state, sign * (left + 1).min(MOST), last)?;
-            }
+            self.counter_at_the_end(width, 1, end)?;
+            self.counter_at_the_end(width, -1, !end)?;
         }
         Ok(())
     }
 
-    /// So many cents are left to the last value of the counter.
-    fn counter_at_the_end(&mut self, state: &State, left: i64, last: i64) -> Compared<()> {
-        let mut amounts = sample::amounts_with_sum(&self.random, left);
+    /// The same amounts reach the last counter from one state and are a cent too much for another, but for training.
+    fn counter_at_the_end(&mut self, width: u64, sign: i64, last: i64) -> Compared<()> {
+        let sum = self.random.pick(&[1, 2, MOST - 1, MOST, self.random.between(1, MOST)]);
+        let mut amounts = sample::amounts_with_sum(&self.random, sign * sum);
         let kind = self.random.pick(&[0, 1]);
-        self.answered(state, amounts, kind, Ok(last))?;
+        let far = self.started_state(width, last - sign * sum);
+        self.answered(&far, amounts, kind, Ok(last))?;
+        let near = self.started_state(width, last - sign * (sum - 1));
+        self.answered(&near, amounts, kind, Err(11))?;
+        self.answered(&near, amounts, 2, Ok(near.counter))?;
         // 9 comes before 11
         amounts[self.random.below(5)] = sample::bad_amount(&self.random);
         let kind = self.random.pick(&[0, 1, 2]);
-        self.answered(state, amounts, kind, Err(9))
-    }
-
-    /// A sum that goes a cent beyond the last value, unless that is as far away as one receipt can reach.
-    fn counter_beyond_the_end(&mut self, state: &State, sum: i64, last: i64) -> Compared<()> {
-        let amounts = sample::amounts_with_sum(&self.random, sum);
-        let expected = if state.counter as i128 + sum as i128 == last as i128 { Ok(last) } else { Err(11) };
-        let kind = self.random.pick(&[0, 1]);
-        self.answered(state, amounts, kind, expected)?;
-        self.answered(state, amounts, 2, Ok(state.counter))
+        self.answered(&near, amounts, kind, Err(9))
     }
 
     /// Prepare and Issue of these amounts: the counter after the receipt, or the number of both.
