@@ -146,7 +146,7 @@ static void reads_back(const uint8_t *under, const struct ditgrux_details *detai
 /* Each kind, with the largest and the smallest amounts, signed and not; and what a refusal leaves. The register is one of its own. */
 static void reading(void)
 {
-    static const int64_t most = 9999999999;
+    static const int64_t most = 99999999999;
     struct ditgrux_details details = details_of(1, DITGRUX_STANDARD, 0), kept = details;
     uint8_t bytes[DITGRUX_DETAILS + 1], given[DITGRUX_SIGNATURE + 1], other_settings[DITGRUX_SETTINGS];
     size_t at, length, wrote;

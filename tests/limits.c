@@ -35,7 +35,7 @@ static void open_register(void)
 
 static int64_t cents(void)
 {
-    return number == 1 ? 0 : -9999999999;
+    return number == 1 ? 0 : -99999999999;
 }
 
 static void prepare(void)
@@ -245,7 +245,9 @@ static int line_and_back(const char *title, size_t longest)
  * what fills it up. */
 static void make_longest_line(void)
 {
-    static const uint8_t fields[] = {0, 8, 9, 10, 11, 12, 13, 14, 15, 16, 25, 26, DITGRUX_LONGEST_PAYLOAD};
+    enum { ID = DITGRUX_LONGEST_PAYLOAD - 187, COUNTER = ID + 8, SERIAL = COUNTER + 1 + 8, CHAIN = SERIAL + 1 };
+    static const uint8_t fields[] = {0, ID, ID + 1, ID + 2, ID + 3, ID + 4, ID + 5, ID + 6, ID + 7, COUNTER, SERIAL, CHAIN,
+                                     DITGRUX_LONGEST_PAYLOAD};
     size_t i;
     code_length = DITGRUX_LONGEST_CODE;
     memset(output, 'A', code_length);

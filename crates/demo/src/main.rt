@@ -4,6 +4,7 @@ use primitives::Alphabet;
 use receipt::DateTime;
 use receipt::Details;
 use receipt::Kind;
+use receipt::LONGEST_CODE;
 use receipt::Settings;
 
 // A receipt of the day.
@@ -25,7 +26,7 @@ fn details(number: u32, minute: u32, amounts: [i64; 5], kind: Kind) -> Details {
 
 // The machine-readable code of the compact form between two places of the journal.
 fn show_code(buf: &[u8], a: usize, e: usize) {
-    let mut out = [0u8; 284];
+    let mut out = [0u8; LONGEST_CODE];
     if e < a {
         return;
     }

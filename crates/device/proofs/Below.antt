@@ -18,9 +18,9 @@ use Rattle.receipt.specs.declared.details.Details.{Details}
 use Rattle.receipt.specs.declared.entry.Entry.{Entry}
 use Rattle.receipt.proofs.Dates.{days-few}
 use Rattle.journal.specs.Opening.{openNumber, opened, openBuffer}
-use Rattle.journal.specs.Issuing.{issueNumber, issued, issueBuffer}
+use Rattle.journal.specs.Issuing.{issueNumber, issued, issuedWithin, issueBuffer}
 use Rattle.journal.specs.Checking.{accepted}
-use Rattle.journal.specs.Calls.{Call, Register, journalOf, opening, numberOf, numbersOf, receiptOfCall, receiptsOf, call, calls, callOf, callsOf}
+use Rattle.journal.specs.Calls.{Call, Register, journalOf, opening, numberOf, numbersOf, receiptOfCall, receiptsOf, call, callWithin, calls, callsWithin, callOf, callsOf}
 use Rattle.journal.specs.declared.state.State.{State}
 
 -- ---- receipt
@@ -76,7 +76,7 @@ accepted-is st = refl
 
 module _ (g : Register) (c : Call) where
   pub number-is : numberOf g c ≡ issued (g .state) (c .details) (c .signature) (length (g .buf)) .number
-  unfolding numberOf issued
+  unfolding numberOf issuedWithin
   number-is = refl
 
   pub call-is : call g c
@@ -84,11 +84,11 @@ module _ (g : Register) (c : Call) where
         state = issued (g .state) (c .details) (c .signature) (length (g .buf)) .state;
         buf = issueBuffer (g .state) (c .details) (c .signature) (g .buf);
       }
-  unfolding call
+  unfolding callWithin
   call-is = refl
 
   pub calls-more : (cs : List Call) → calls g (c ∷ cs) ≡ calls (call g c) cs
-  unfolding calls
+  unfolding callsWithin
   calls-more cs = refl
 
   pub numbers-more : (cs : List Call) → numbersOf g (c ∷ cs) ≡ numberOf g c ∷ numbersOf (call g c) cs
@@ -102,7 +102,7 @@ module _ (g : Register) (c : Call) where
 
 module _ (g : Register) where
   pub calls-none : calls g [] ≡ g
-  unfolding calls
+  unfolding callsWithin
   calls-none = refl
 
   pub numbers-none : numbersOf g [] ≡ []
@@ -114,7 +114,7 @@ module _ (g : Register) where
   receipts-none = refl
 
 pub issued-number : (st : State) (d : Details) (sig : List ℕ) (room : ℕ) → issued st d sig room .number ≡ issueNumber st d sig room
-unfolding issued
+unfolding issuedWithin
 issued-number st d sig room = refl
 
 -- ---- journal: the calls of entries

@@ -10,8 +10,8 @@ use Rattle.receipt.specs.Settings.{between, cspGood, settingsGood, settingsNumb
 use Rattle.journal.specs.State.{unopened}
 use Rattle.primitives.specs.Questions.{ask}
 use Rattle.journal.specs.Opening.{openNumber}
-use Rattle.journal.specs.Step.{soundAlone, sound, numberAbove, detailsNumber}
-use Rattle.journal.specs.Issuing.{issueNumber}
+use Rattle.journal.specs.Step.{soundAlone, sound, numberAbove, detailsNumberWithin}
+use Rattle.journal.specs.Issuing.{issueNumberWithin}
 use Rattle.journal.specs.Preparing.{prepareNumber}
 use Rattle.device.specs.Layout.{settingsBytes, figuresBytes, stateBytes}
 use Rattle.device.specs.Details.{noDetails}
@@ -34,9 +34,9 @@ unfolding soundAlone settingsGood
 unopened-unsound = rw csp-bad
 
 pub unopened-gets-six : UnopenedGetsSix
-unfolding issueNumber prepareNumber sound ask
+unfolding issueNumberWithin prepareNumber sound ask
 unopened-gets-six d sig room = (rw unopened-unsound, rw unopened-unsound)
 
 pub unknown-kind-gets-seven : UnknownKindGetsSeven
-unfolding detailsNumber numberAbove noDetails ask
+unfolding detailsNumberWithin numberAbove noDetails ask
 unknown-kind-gets-seven st rest = rw (le-ltb (st .last) 0 (omega arith))

@@ -29,7 +29,7 @@ use Rattle.journal.specs.Opening.{openNumber}
 use Rattle.journal.specs.Issuing.{signatureSized, givenSignature, entryOf, textOf, issueNumber}
 use Rattle.journal.specs.Checking.{accepted, takeOver}
 use Rattle.journal.specs.Valid.{Valid, texts}
-use Rattle.journal.specs.Calls.{TypedCall, TypedCalls, none, more, Register, opening, numberOf, call, calls, numbersOf, callOf, callsOf}
+use Rattle.journal.specs.Calls.{TypedCall, TypedCalls, none, more, Register, opening, numberOf, call, calls, callsWithin, numbersOf, callOf, callsOf}
 use Rattle.journal.specs.Demands.{Again, AcceptedIsWritten}
 use Rattle.journal.specs.declared.state.State.{State}
 use Rattle.journal.specs.declared.state.TakenOver.{TakenOver}
@@ -197,7 +197,7 @@ module _ (s : Settings) (n : ℕ) (key : List ℕ) (ts : TypedSettings s) (good 
 
   again : (es : List Entry) (g : Register) (before : List Entry) → AllRight (g .state) es → Holds s n key g before
       → g .state .length + length (texts (settingsNow (g .state)) (g .state .width) es) ≤ length (g .buf) → Issued g before es
-  unfolding calls callsOf numbersOf texts
+  unfolding callsWithin callsOf numbersOf texts
   again [] g before check.none k room = record { holds = rw append-nil k; long = refl; numbers = refl }
   again (e ∷ es) g before (check.more h hs) k room =
       let c = callOf e in

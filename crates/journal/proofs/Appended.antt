@@ -26,7 +26,7 @@ use Rattle.receipt.specs.declared.entry.Signature.{Signature}
 use Rattle.journal.specs.Head.{entryText}
 use Rattle.journal.specs.State.{settingsNow, countPlaceNow, TypedRegister, TypedState}
 use Rattle.journal.specs.Step.{fieldsOf, next}
-use Rattle.journal.specs.Issuing.{givenSignature, entryOf, textOf, issueNumber, issued, withEntry, issueBuffer}
+use Rattle.journal.specs.Issuing.{givenSignature, entryOf, textOf, issueNumber, issued, issuedWithin, withEntry, issueBuffer, issueBufferWithin}
 use Rattle.journal.specs.Calls.{callOf}
 use Rattle.journal.specs.Demands.{FormIsAppended}
 use Rattle.journal.specs.declared.state.State.{State}
@@ -43,12 +43,12 @@ module _ (st : State) (d : Details) (sig buf : List ℕ) (z : issueNumber st d s
   a = issue-zero st d sig (length buf) z
 
   new-length : issued st d sig (length buf) .state .length ≡ st .length + 2 + length (textOf st d sig)
-  unfolding issued next
+  unfolding issuedWithin next
   new-length = ap (λ (x : State). x .length) (ifZero-yes (next st d (textOf st d sig)) st z) ∙ omega (arith, length-entry (textOf st d sig))
 
   -- the count is rewritten before the entry
   after-count : issueBuffer st d sig buf ≡ overwrite (overwrite buf (countPlaceNow st) (bytesOf 4 (st .issued + 1))) (st .length) (entryText (textOf st d sig))
-  unfolding issueBuffer withEntry
+  unfolding issueBufferWithin withEntry
   after-count =
       let t = entryText (textOf st d sig) in
       let n = bytesOf 4 (st .issued + 1) in
@@ -72,7 +72,7 @@ form-is-appended st d sig buf z = (new-length st d sig buf z, there st d sig buf
 -- what the code's types say of it, in a buffer whose length is a number of 64 bits
 pub state-typed : (st : State) (d : Details) (sig : List ℕ) (room : ℕ) → TypedRegister (st .settings) (st .width) (st .key) → d .number < 4294967296
     → room < 18446744073709551616 → issueNumber st d sig room ≡ 0 → TypedState (issued st d sig room .state)
-unfolding issued next
+unfolding issuedWithin next
 state-typed st d sig room t number few z =
     let a = issue-zero st d sig room z in
     let v = st .counter +ℤ counted d in

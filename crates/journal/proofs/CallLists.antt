@@ -37,8 +37,8 @@ use Rattle.receipt.proofs.Names.{good-sized}
 use Rattle.receipt.proofs.Chains.{length-chain, bytes-chain, length-encrypted, bytes-encrypted, after-encrypted, decrypt-back}
 use Rattle.journal.specs.Head.{head, entryText, front}
 use Rattle.primitives.specs.Questions.{ask, ifZero}
-use Rattle.journal.specs.Step.{soundAlone, sound, numberAbove, firstGood, newCounter, detailsNumber, fieldsOf, next}
-use Rattle.journal.specs.Issuing.{signatureSized, givenSignature, entryOf, textOf, entryFits, issueNumber, issued}
+use Rattle.journal.specs.Step.{soundAlone, sound, numberAbove, firstGood, newCounter, detailsNumber, detailsNumberWithin, fieldsOf, next}
+use Rattle.journal.specs.Issuing.{signatureSized, givenSignature, entryOf, textOf, entryFits, issueNumber, issueNumberWithin, issued}
 use Rattle.journal.specs.Receipts.{receiptsIn, sum}
 use Rattle.journal.specs.Valid.{texts}
 use Rattle.journal.specs.Calls.{Call, TypedCall, none, more}
@@ -179,7 +179,7 @@ pub record Detailed (st : State) (d : Details) : Type 0 where
   pub counter : newCounter st d .fits ≡ true
 
 pub details-zero : (st : State) (d : Details) (rest : ℕ) → detailsNumber st d rest ≡ 0 → Detailed st d × (rest ≡ 0)
-unfolding detailsNumber
+unfolding detailsNumberWithin
 details-zero st d rest z =
     let p₁ = ask-zero _ _ _ z in
     let p₂ = ask-zero _ _ _ (p₁ .1) in
@@ -189,12 +189,12 @@ details-zero st d rest z =
     (record { above = above-true st d (p₁ .0); date = p₂ .0; amounts = p₃ .0; first = p₄ .0; counter = p₅ .0 }, p₅ .1)
 
 pub details-yes : (st : State) (d : Details) (rest : ℕ) → Detailed st d → detailsNumber st d rest ≡ rest
-unfolding detailsNumber numberAbove ask
+unfolding detailsNumberWithin numberAbove ask
 details-yes st d rest a = rw (lt-ltb _ _ (a .above), a .date, a .amounts, a .first, a .counter)
 
 -- the questions 7 to 11 alone, and then the rest: as code asks them
 pub details-then : (st : State) (d : Details) (rest : ℕ) → detailsNumber st d rest ≡ ifZero (detailsNumber st d 0) rest (detailsNumber st d 0)
-unfolding detailsNumber ask ifZero
+unfolding detailsNumberWithin ask ifZero
 details-then st d rest = go (numberAbove st d) (dateGood (d .date)) (amountsGood (d .amounts)) (firstGood st d) (newCounter st d .fits)
   where
     go : (a b c e f : Bool)
@@ -215,7 +215,7 @@ pub record Answered (st : State) (d : Details) (sig : List ℕ) (room : ℕ) : T
   pub fits : st .length + length (entryText (textOf st d sig)) ≤ room
 
 pub issue-zero : (st : State) (d : Details) (sig : List ℕ) (room : ℕ) → issueNumber st d sig room ≡ 0 → Answered st d sig room
-unfolding issueNumber sound entryFits
+unfolding issueNumberWithin sound entryFits
 issue-zero st d sig room z =
     let p = ask-zero _ _ _ z in
     let q = both _ _ (p .0) in
@@ -225,7 +225,7 @@ issue-zero st d sig room z =
     record { sound = sound-true st (q .0); within = leb-true _ _ (q .1); details = r .0; signature = t .0; fits = leb-true _ _ (u .0) }
 
 pub issue-yes : (st : State) (d : Details) (sig : List ℕ) (room : ℕ) → Answered st d sig room → issueNumber st d sig room ≡ 0
-unfolding issueNumber sound entryFits ask
+unfolding issueNumberWithin sound entryFits ask
 issue-yes st d sig room a =
     rw (sound-yes st (a .sound), le-leb _ _ (a .within), details-yes st d _ (a .details), a .signature, le-leb _ _ (a .fits))
 

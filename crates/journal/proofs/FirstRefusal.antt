@@ -55,11 +55,11 @@ unfolding run chainOf next
 run-chain [] st = refl
 run-chain (e ∷ es) st = run-chain es (step st e)
 
-fresh-last : (s : Settings) (n : ℕ) (key : List ℕ) (es : List Entry) → run (fresh s n key) es .last ≡ lastOf 0 es
+pub fresh-last : (s : Settings) (n : ℕ) (key : List ℕ) (es : List Entry) → run (fresh s n key) es .last ≡ lastOf 0 es
 unfolding fresh
 fresh-last s n key es = run-last es (fresh s n key)
 
-fresh-chain : (s : Settings) (n : ℕ) (key : List ℕ) (es : List Entry) → run (fresh s n key) es .chain ≡ chainOf s n (chainValue (nameText (s .id))) es
+pub fresh-chain : (s : Settings) (n : ℕ) (key : List ℕ) (es : List Entry) → run (fresh s n key) es .chain ≡ chainOf s n (chainValue (nameText (s .id))) es
 unfolding fresh
 fresh-chain s n key es = run-chain es (fresh s n key)
 

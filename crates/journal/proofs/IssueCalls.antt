@@ -35,7 +35,7 @@ use Rattle.receipt.proofs.ExactEntry.{compact-signed}
 use Rattle.journal.specs.Head.{entryText}
 use Rattle.primitives.specs.Questions.{ask, ifZero}
 use Rattle.journal.specs.Step.{soundAlone, sound, newCounter, detailsNumber, fieldsOf, next}
-use Rattle.journal.specs.Issuing.{signatureSized, givenSignature, entryOf, textOf, entryFits, issueNumber, issued, withEntry, issueBuffer}
+use Rattle.journal.specs.Issuing.{signatureSized, givenSignature, entryOf, textOf, entryFits, issueNumber, issueNumberWithin, issued, issuedWithin, withEntry, issueBuffer, issueBufferWithin}
 use Rattle.journal.specs.Preparing.{preparedText, prepareNumber, prepareAnswer, prepareBuffer}
 use Rattle.journal.specs.declared.state.State.{State}
 use Rattle.journal.proofs.Places.{length-entry}
@@ -225,7 +225,7 @@ module _ (st : State) (d : Details) (sig b : List ℕ) (a : Asked st d sig (leng
 
   -- the part of the number that is not known yet
   number-is : issueNumber st d sig (length b) ≡ ask (leb (st .length + length (entryText (textOf st d sig))) (length b)) 13 0
-  unfolding issueNumber entryFits
+  unfolding issueNumberWithin entryFits
   number-is =
       ask-yes 6 _ (a .sound) ∙ details-past st d refl _ (a .details) ∙ ask-yes 12 _ (a .signature)
 
@@ -239,7 +239,7 @@ module _ (st : State) (d : Details) (sig b : List ℕ) (a : Asked st d sig (leng
         (w .0 ∙ ap (placeAfter b (st .length)) p, w .1 ∙ ap (placed b (st .length)) p)
 
     pub append-refused : r ≡ st .length → (record { number = 13; state = st } ≡ issued st d sig (length b)) × (b₁ ≡ issueBuffer st d sig b)
-    unfolding issued issueBuffer
+    unfolding issuedWithin issueBufferWithin
     append-refused z =
         let t = entryText (textOf st d sig) in
         let some : 0 < length t = omega (arith, length-entry (textOf st d sig)) in
@@ -272,7 +272,7 @@ module _ (st : State) (d : Details) (sig b : List ℕ) (a : Asked st d sig (leng
       pub append-done : {k : ℕ} {st₁ : State} {b₂ : List ℕ} → k ≡ countPlaceNow st → st₁ ≡ next st d (take (r - (st .length + 2)) (drop (st .length + 2) b₁))
           → b₂ ≡ overwrite b₁ k (bytesOf 4 (st .issued + 1))
           → (record { number = 0; state = st₁ } ≡ issued st d sig (length b)) × (b₂ ≡ issueBuffer st d sig b)
-      unfolding issued issueBuffer withEntry
+      unfolding issuedWithin issueBufferWithin withEntry
       append-done p f g =
           let n : issueNumber st d sig (length b) ≡ 0 = number-is ∙ ask-yes 13 0 (le-leb _ _ (appended .room)) in (
             (λ i. record { number = sym n i; state = (f ∙ ap (next st d) text-is ∙ sym (ifZero-yes (next st d (textOf st d sig)) st n)) i }),
@@ -286,7 +286,7 @@ module _ (st : State) (d : Details) (sig b : List ℕ) {k : ℕ} (e : k ≡ ask 
   asked-then rest = ap (ask (sound st (length b)) 6) (details-then st d rest)
 
   pub issue-refused : (k ≡ 0 → ⊥) → (record { number = k; state = st } ≡ issued st d sig (length b)) × (b ≡ issueBuffer st d sig b)
-  unfolding issued issueBuffer issueNumber ask ifZero
+  unfolding issuedWithin issueBufferWithin issueNumberWithin ask ifZero
   issue-refused h =
       let rest = ask (entryFits st (textOf st d sig) (length b)) 13 0 in
       let n : k ≡ issueNumber st d sig (length b) =

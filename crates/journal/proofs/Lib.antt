@@ -6,6 +6,7 @@ pub mod CallLists
 pub mod Check
 pub mod CheckCalls
 pub mod Dropping
+pub mod Earlier
 pub mod Equal
 pub mod FirstNo
 pub mod FirstRefusal

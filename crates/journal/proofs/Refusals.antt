@@ -9,7 +9,7 @@ use Rattle.journal.specs.State.{unopened}
 use Rattle.journal.specs.Step.{fresh}
 use Rattle.primitives.specs.Questions.{ifZero}
 use Rattle.journal.specs.Opening.{openNumber, opened, openBuffer}
-use Rattle.journal.specs.Issuing.{issueNumber, issued, issueBuffer}
+use Rattle.journal.specs.Issuing.{issueNumber, issued, issuedWithin, issueBuffer, issueBufferWithin}
 use Rattle.journal.specs.Preparing.{prepareNumber, prepareAnswer, prepareBuffer}
 use Rattle.journal.specs.Checking.{headNumber, refused, accepted, takeOver, lastAnswer, steps}
 use Rattle.journal.specs.Head.{headSettings}
@@ -27,7 +27,7 @@ open-refused s key n buf h = (ifZero-no (openNumber s n (length buf)) _ _ h, ifZ
 
 issue-refused : (st : State) (d : Details) (sig buf : List ℕ) → (issued st d sig (length buf) .number ≡ 0 → ⊥)
     → (issued st d sig (length buf) .state ≡ st) × (issueBuffer st d sig buf ≡ buf)
-unfolding issued issueBuffer
+unfolding issuedWithin issueBufferWithin
 issue-refused st d sig buf h = (ifZero-no (issueNumber st d sig (length buf)) _ _ h, ifZero-no (issueNumber st d sig (length buf)) _ _ h)
 
 prepare-refused : (st : State) (d : Details) (out : List ℕ) → (prepareAnswer st d (length out) .number ≡ 0 → ⊥)

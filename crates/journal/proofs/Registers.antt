@@ -15,6 +15,7 @@ use Rattle.primitives.specs.Number.{bytesOf}
 use Rattle.primitives.specs.Counter.{widthGood, counterFits, half}
 use Rattle.primitives.proofs.Over.{length-over, read-over}
 use Rattle.primitives.proofs.Twos.{width-true, half-twice, below-fits, fits-wide}
+use Rattle.receipt.specs.Amount.{amountLimit}
 use Rattle.receipt.specs.Settings.{nameText, settingsGood, TypedSettings}
 use Rattle.receipt.specs.Compact.{compact}
 use Rattle.receipt.specs.declared.settings.Settings.{Settings}
@@ -24,10 +25,10 @@ use Rattle.journal.specs.State.{unopened}
 use Rattle.journal.specs.Step.{fresh, fieldsOf, next}
 use Rattle.primitives.specs.Questions.{ifZero}
 use Rattle.journal.specs.Opening.{openNumber, opened, openBuffer}
-use Rattle.journal.specs.Issuing.{entryOf, textOf, issueNumber, issued, withEntry, issueBuffer}
+use Rattle.journal.specs.Issuing.{entryOf, textOf, issueNumberWithin, issuedWithin, withEntry, issueBufferWithin}
 use Rattle.journal.specs.Receipts.{receiptOf, receiptsIn, sum}
 use Rattle.journal.specs.Valid.{texts}
-use Rattle.journal.specs.Calls.{Call, TypedCall, TypedCalls, none, more, Register, opening, numberOf, call, calls, receiptOfCall, receiptsOf}
+use Rattle.journal.specs.Calls.{Call, TypedCall, TypedCalls, none, more, Register, opening, numberOf, call, callWithin, calls, callsWithin, receiptOfCall, receiptsOf}
 use Rattle.journal.specs.declared.state.State.{State}
 use Rattle.primitives.proofs.Rows.{ask-zero, ifZero-yes, ifZero-no}
 use Rattle.journal.proofs.Heads.{front-place, length-head}
@@ -117,15 +118,20 @@ module _ (s : Settings) (n : ℕ) (key : List ℕ) where
 
 -- ---- one call
 
--- a refused call changes nothing
-pub refused-same : (g : Register) (c : Call) → (numberOf g c ≡ 0 → ⊥) → call g c ≡ g
-unfolding call numberOf issued issueBuffer
-refused-same g c h =
+-- a refused call changes nothing, under any limit of an amount
+pub refused-within : (limit : ℕ) (g : Register) (c : Call) → (issueNumberWithin limit (g .state) (c .details) (c .signature) (length (g .buf)) ≡ 0 → ⊥)
+    → callWithin limit g c ≡ g
+unfolding callWithin issuedWithin issueBufferWithin
+refused-within limit g c h =
     let text = textOf (g .state) (c .details) (c .signature) in
-    let m = issueNumber (g .state) (c .details) (c .signature) (length (g .buf)) in
+    let m = issueNumberWithin limit (g .state) (c .details) (c .signature) (length (g .buf)) in
     let e₁ : ifZero m (next (g .state) (c .details) text) (g .state) ≡ g .state = ifZero-no m (next (g .state) (c .details) text) (g .state) h in
     let e₂ : ifZero m (withEntry (g .state) text (g .buf)) (g .buf) ≡ g .buf = ifZero-no m (withEntry (g .state) text (g .buf)) (g .buf) h in
     λ i. record { state = e₁ i; buf = e₂ i }
+
+pub refused-same : (g : Register) (c : Call) → (numberOf g c ≡ 0 → ⊥) → call g c ≡ g
+unfolding numberOf
+refused-same g c h = refused-within amountLimit g c h
 
 -- the entry of a call
 unfoldable pub entryIn : Register → Call → Entry
@@ -137,11 +143,11 @@ module _ (g : Register) (c : Call) (z : numberOf g c ≡ 0) where
   call-answered = issue-zero (g .state) (c .details) (c .signature) (length (g .buf)) z
 
   pub call-state : call g c .state ≡ step (g .state) (entryIn g c)
-  unfolding call numberOf issued entryIn textOf entryOf fieldsOf
+  unfolding callWithin numberOf issuedWithin entryIn textOf entryOf fieldsOf
   call-state = ifZero-yes _ _ z
 
   pub call-buf : call g c .buf ≡ withEntry (g .state) (textIn (g .state) (entryIn g c)) (g .buf)
-  unfolding call numberOf issueBuffer entryIn textOf
+  unfolding callWithin numberOf issueBufferWithin entryIn textOf
   call-buf = ifZero-yes _ _ z
 
 receipt-same : (g : Register) (c : Call) → receiptOf (entryIn g c) ≡ receiptOfCall c
@@ -245,7 +251,7 @@ module _ (s : Settings) (n : ℕ) (key : List ℕ) (ts : TypedSettings s) (good 
   -- ---- a list of calls
 
   pub holds-calls : (cs : List Call) (g : Register) (es : List Entry) → TypedCalls cs → Holds s n key g es → Holds s n key (calls g cs) (es ++ entriesOf g cs)
-  unfolding calls entriesOf ifZero
+  unfolding callsWithin entriesOf ifZero
   holds-calls [] g es none h = rw append-nil h
   holds-calls (c ∷ cs) g es (more tc tcs) h = go (numberOf g c) refl (holds-calls cs (call g c) es tcs) (holds-calls cs (call g c) (es ++ (entryIn g c ∷ [])) tcs)
     where

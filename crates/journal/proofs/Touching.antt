@@ -16,7 +16,7 @@ use Rattle.receipt.specs.declared.settings.Settings.{Settings}
 use Rattle.receipt.specs.declared.details.Details.{Details}
 use Rattle.journal.specs.Head.{headLength, countPlace, entryText}
 use Rattle.primitives.specs.Questions.{ifZero}
-use Rattle.journal.specs.Issuing.{textOf, issueNumber, withEntry, issueBuffer}
+use Rattle.journal.specs.Issuing.{textOf, issueNumber, withEntry, issueBuffer, issueBufferWithin}
 use Rattle.journal.specs.Demands.{TouchesNoOther}
 use Rattle.journal.specs.declared.state.State.{State}
 use Rattle.primitives.proofs.Rows.{ifZero-yes, ifZero-no}
@@ -56,7 +56,7 @@ module _ (st : State) (d : Details) (sig buf : List ℕ) (i : ℕ) (c : countPla
       outside (overwrite buf (st .length) t) (countPlaceNow st) n i (omega arith) c′ ∙ outside buf (st .length) t i (a .fits) e
 
   same-byte : getD (issueBuffer st d sig buf) i 0 ≡ getD buf i 0
-  unfolding issueBuffer
+  unfolding issueBufferWithin
   same-byte = go (issueNumber st d sig (length buf)) refl
     where
       go : (k : ℕ) → issueNumber st d sig (length buf) ≡ k → getD (ifZero (issueNumber st d sig (length buf)) (withEntry st (textOf st d sig) buf) buf) i 0 ≡ getD buf i 0

@@ -5,12 +5,13 @@ use mathlib.Core.Bool.{cond}
 use mathlib.Core.List.{List, [], _∷_}
 use lib.ListN.{length, take}
 use Rattle.primitives.specs.Bytes.{AllBytes}
+use Rattle.receipt.specs.Amount.{amountLimit}
 use Rattle.receipt.specs.declared.settings.Settings.{Settings}
 use Rattle.receipt.specs.declared.details.Details.{Details}
 use Rattle.receipt.specs.declared.entry.Entry.{Entry}
 use Rattle.primitives.specs.Questions.{ifZero}
 use Rattle.journal.specs.Opening.{opened, openBuffer}
-use Rattle.journal.specs.Issuing.{issueNumber, issued, issueBuffer, givenSignature}
+use Rattle.journal.specs.Issuing.{issueNumber, issuedWithin, issueBufferWithin, givenSignature}
 use Rattle.journal.specs.Receipts.{Receipt}
 use Rattle.journal.specs.declared.state.State.{State}
 
@@ -46,16 +47,24 @@ opening s key n buf = record { state = opened s key n (length buf) .state; buf =
 unfoldable pub numberOf : Register → Call → ℕ
 numberOf g c = issueNumber (g .state) (c .details) (c .signature) (length (g .buf))
 
-unfoldable pub call : Register → Call → Register
-call g c =
+-- the register after a call, and after calls, with the limit of an amount as a parameter
+unfoldable pub callWithin : ℕ → Register → Call → Register
+callWithin limit g c =
     record {
-      state = issued (g .state) (c .details) (c .signature) (length (g .buf)) .state;
-      buf = issueBuffer (g .state) (c .details) (c .signature) (g .buf);
+      state = issuedWithin limit (g .state) (c .details) (c .signature) (length (g .buf)) .state;
+      buf = issueBufferWithin limit (g .state) (c .details) (c .signature) (g .buf);
     }
 
-unfoldable pub calls : Register → List Call → Register
-calls g [] = g
-calls g (c ∷ cs) = calls (call g c) cs
+unfoldable pub callsWithin : ℕ → Register → List Call → Register
+callsWithin limit g [] = g
+callsWithin limit g (c ∷ cs) = callsWithin limit (callWithin limit g c) cs
+
+-- and under the limit that the calls have
+abbrev pub call : Register → Call → Register
+call g c = callWithin amountLimit g c
+
+abbrev pub calls : Register → List Call → Register
+calls g cs = callsWithin amountLimit g cs
 
 -- the numbers of all calls, in order
 unfoldable pub numbersOf : Register → List Call → List ℕ

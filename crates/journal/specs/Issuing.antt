@@ -6,6 +6,7 @@ use lib.Dec.{leb, eqb}
 use lib.ListN.{length, replicate}
 use Rattle.primitives.specs.Place.{overwrite}
 use Rattle.primitives.specs.Number.{bytesOf}
+use Rattle.receipt.specs.Amount.{amountLimit}
 use Rattle.receipt.specs.Compact.{compact}
 use Rattle.receipt.specs.declared.details.Details.{Details}
 use Rattle.receipt.specs.declared.entry.Signature.{Signature}
@@ -14,7 +15,7 @@ use Rattle.journal.specs.Head.{entryText}
 use Rattle.primitives.specs.Questions.{ask, ifZero}
 use Rattle.journal.specs.declared.state.State.{State}
 use Rattle.journal.specs.declared.state.Issued.{Issued}
-use Rattle.journal.specs.Step.{sound, detailsNumber, fieldsOf, next}
+use Rattle.journal.specs.Step.{sound, detailsNumberWithin, fieldsOf, next}
 use Rattle.journal.specs.State.{settingsNow, countPlaceNow}
 
 -- ---- the questions
@@ -40,20 +41,34 @@ textOf st d sig = compact (settingsNow st) (st .width) (entryOf st d sig)
 unfoldable pub entryFits : State → List ℕ → ℕ → Bool
 entryFits st text room = leb (st .length + length (entryText text)) room
 
--- ---- the call
+-- ---- the call, with the limit of an amount as a parameter
 
-unfoldable pub issueNumber : State → Details → List ℕ → ℕ → ℕ
-issueNumber st d sig room =
-    ask (sound st room) 6 (detailsNumber st d (ask (signatureSized sig) 12 (ask (entryFits st (textOf st d sig) room) 13 0)))
+unfoldable pub issueNumberWithin : ℕ → State → Details → List ℕ → ℕ → ℕ
+issueNumberWithin limit st d sig room =
+    ask (sound st room) 6 (detailsNumberWithin limit st d (ask (signatureSized sig) 12 (ask (entryFits st (textOf st d sig) room) 13 0)))
 
 -- a refused call returns the state that it was given
-unfoldable pub issued : State → Details → List ℕ → ℕ → Issued
-issued st d sig room =
-    record { number = issueNumber st d sig room; state = ifZero (issueNumber st d sig room) (next st d (textOf st d sig)) st }
+unfoldable pub issuedWithin : ℕ → State → Details → List ℕ → ℕ → Issued
+issuedWithin limit st d sig room =
+    record {
+      number = issueNumberWithin limit st d sig room;
+      state = ifZero (issueNumberWithin limit st d sig room) (next st d (textOf st d sig)) st;
+    }
 
 -- the entry after the journal, and the count rewritten
 unfoldable pub withEntry : State → List ℕ → List ℕ → List ℕ
 withEntry st text buf = overwrite (overwrite buf (st .length) (entryText text)) (countPlaceNow st) (bytesOf 4 (st .issued + 1))
 
-unfoldable pub issueBuffer : State → Details → List ℕ → List ℕ → List ℕ
-issueBuffer st d sig buf = ifZero (issueNumber st d sig (length buf)) (withEntry st (textOf st d sig) buf) buf
+unfoldable pub issueBufferWithin : ℕ → State → Details → List ℕ → List ℕ → List ℕ
+issueBufferWithin limit st d sig buf = ifZero (issueNumberWithin limit st d sig (length buf)) (withEntry st (textOf st d sig) buf) buf
+
+-- ---- the call, under the limit that it has
+
+abbrev pub issueNumber : State → Details → List ℕ → ℕ → ℕ
+issueNumber st d sig room = issueNumberWithin amountLimit st d sig room
+
+abbrev pub issued : State → Details → List ℕ → ℕ → Issued
+issued st d sig room = issuedWithin amountLimit st d sig room
+
+abbrev pub issueBuffer : State → Details → List ℕ → List ℕ → List ℕ
+issueBuffer st d sig buf = issueBufferWithin amountLimit st d sig buf

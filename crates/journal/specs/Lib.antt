@@ -1,6 +1,7 @@
 pub mod Calls
 pub mod Checking
 pub mod Demands
+pub mod Earlier
 pub mod FirstNo
 pub mod Head
 pub mod Issuing

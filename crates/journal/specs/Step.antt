@@ -11,7 +11,8 @@ use Rattle.primitives.specs.Counter.{widthGood, counterFits}
 use Rattle.primitives.specs.Aes.{keySchedule}
 use Rattle.receipt.specs.Settings.{nameText, settingsGood}
 use Rattle.receipt.specs.DateTime.{dateGood}
-use Rattle.receipt.specs.Details.{standard, amountsGood, startGood, counterAfter}
+use Rattle.receipt.specs.Amount.{amountLimit}
+use Rattle.receipt.specs.Details.{standard, amountsWithin, startGood, counterAfter}
 use Rattle.receipt.specs.Chain.{chainValue, encryptedCounter}
 use Rattle.receipt.specs.declared.settings.Settings.{Settings}
 use Rattle.receipt.specs.declared.details.Details.{Details}
@@ -63,11 +64,16 @@ unfoldable pub newCounter : State → Details → After
 newCounter st d = counterAfter (st .width) (st .counter) d
 
 -- 7 to 11, and then the rest. 8: "Year 2000 to 2099, date in the Gregorian calendar, hour 0 to 23, minute and second 0 to 59?" 9: "Amounts within limits?"
-unfoldable pub detailsNumber : State → Details → ℕ → ℕ
-detailsNumber st d rest =
+-- The limit of an amount is a parameter of 9. The guard in 11 has the limit of the calls; after a yes to 9 under a lower limit it says yes
+unfoldable pub detailsNumberWithin : ℕ → State → Details → ℕ → ℕ
+detailsNumberWithin limit st d rest =
     ask (numberAbove st d) 7
     (ask (dateGood (d .date)) 8
-    (ask (amountsGood (d .amounts)) 9 (ask (firstGood st d) 10 (ask (newCounter st d .fits) 11 rest))))
+    (ask (amountsWithin limit (d .amounts)) 9 (ask (firstGood st d) 10 (ask (newCounter st d .fits) 11 rest))))
+
+-- under the limit that the calls have
+abbrev pub detailsNumber : State → Details → ℕ → ℕ
+detailsNumber st d rest = detailsNumberWithin amountLimit st d rest
 
 -- ---- the fields of the receipt
 

@@ -16,7 +16,7 @@ use mir.Val.{SFits, toZ, ofZ}
 use mir.Facts.{toZ-ofZ, toZ-pos}
 use Rattle.primitives.specs.Place.{overwrite}
 use Rattle.receipt.specs.Decimal.{fixedOnto, fixed, digits, readLimit, valueFrom, valueOf}
-use Rattle.receipt.specs.Amount.{cents, amount, amountLimit, longestAmount, withinLimit, readAmount}
+use Rattle.receipt.specs.Amount.{cents, amount, amountLimit, longestAmount, withinLimit, within, readAmount}
 use Rattle.primitives.proofs.Rows.{true-is-not-false}
 use Rattle.primitives.proofs.Over.{then}
 use Rattle.receipt.proofs.Digits.{length-fixed, length-digits, width-short, from-digits, from-digit, from-mark, from-other, more-low, first-digits}
@@ -60,7 +60,7 @@ amount-from (negsuc n) t e = true-is-not-false (sym t)
 -- ---- lengths
 
 pub within-most : (z : ℤ) → withinLimit z ≡ true → natAbs z ≤ amountLimit
-unfolding withinLimit
+unfolding within
 within-most z e = leb-true (natAbs z) amountLimit e
 
 cents-short : (m : ℕ) → m ≤ amountLimit → suc (length (cents m)) ≤ longestAmount

@@ -16,10 +16,11 @@ use Rattle.primitives.proofs.Xors.{bytes-xorFirst, length-xorFirst, drop-xorFir
 use Rattle.receipt.specs.Settings.{nameText, nameOf, cspGood, idGood, serialGood, settingsGood, sized, zeros}
 use Rattle.receipt.proofs.Names.{zeros-are, zeros-good}
 use Rattle.receipt.specs.DateTime.{dateGood}
-use Rattle.receipt.specs.Details.{standard, amountsGood}
+use Rattle.receipt.specs.Amount.{amountLimit}
+use Rattle.receipt.specs.Details.{standard, amountsWithin}
 use Rattle.receipt.specs.Chain.{iv, keyStream, encryptedCounter, decryptedCounter}
-use Rattle.receipt.specs.Payload.{payload, counterGood, fieldsGood}
-use Rattle.receipt.specs.Compact.{signingInput, signatureZero, preparable, spellable, noEntry}
+use Rattle.receipt.specs.Payload.{payload, counterGood, fieldsWithin}
+use Rattle.receipt.specs.Compact.{signingInput, signatureZero, preparableWithin, spellable, spellableWithin, noEntry}
 use Rattle.receipt.specs.declared.details.Kind.{Kind}
 use Rattle.receipt.specs.declared.details.Kind.the-variants.{Standard, Cancellation, Training}
 use Rattle.receipt.specs.declared.settings.Name.{Name}
@@ -70,19 +71,20 @@ all-settings s g = rw (g .csp, g .id, g .serial)
 
 -- ---- entries that can be spelled
 
-pub record Admitted (s : Settings) (n : ℕ) (e : Entry) : Type 0 where
+-- under a limit of an amount
+pub record AdmittedWithin (limit : ℕ) (s : Settings) (n : ℕ) (e : Entry) : Type 0 where
   pub sized : sized s ≡ true
   pub width : widthGood n ≡ true
   pub number : 1 ≤ e .fields .details .number
   pub date : dateGood (e .fields .details .date) ≡ true
-  pub amounts : amountsGood (e .fields .details .amounts) ≡ true
+  pub amounts : amountsWithin limit (e .fields .details .amounts) ≡ true
   pub counter : counterGood n (e .fields .details .kind) (e .fields .counter) ≡ true
   pub signature : signatureZero (e .signature) ≡ true
 
-module _ (s : Settings) (n : ℕ) (e : Entry) where
-  pub admitted : spellable s n e ≡ true → Admitted s n e
-  unfolding spellable preparable fieldsGood
-  admitted g =
+module _ (limit : ℕ) (s : Settings) (n : ℕ) (e : Entry) where
+  pub admitted-within : spellableWithin limit s n e ≡ true → AdmittedWithin limit s n e
+  unfolding spellableWithin preparableWithin fieldsWithin
+  admitted-within g =
       let a₁ = both _ _ g in
       let a₂ = both _ _ (a₁ .0) in
       let a₃ = both _ _ (a₂ .1) in
@@ -91,9 +93,20 @@ module _ (s : Settings) (n : ℕ) (e : Entry) where
       let a₆ = both _ _ (a₅ .1) in
       record { sized = a₂ .0; width = a₃ .0; number = leb-true 1 _ (a₄ .0); date = a₅ .0; amounts = a₆ .0; counter = a₆ .1; signature = a₁ .1 }
 
+  pub within-yes : AdmittedWithin limit s n e → spellableWithin limit s n e ≡ true
+  unfolding spellableWithin preparableWithin fieldsWithin
+  within-yes a = rw (a .sized, a .width, le-leb 1 (e .fields .details .number) (a .number), a .date, a .amounts, a .counter, a .signature)
+
+-- under the limit that the calls have
+abbrev pub Admitted : Settings → ℕ → Entry → Type 0
+Admitted s n e = AdmittedWithin amountLimit s n e
+
+module _ (s : Settings) (n : ℕ) (e : Entry) where
+  pub admitted : spellable s n e ≡ true → Admitted s n e
+  admitted g = admitted-within amountLimit s n e g
+
   pub spellable-yes : Admitted s n e → spellable s n e ≡ true
-  unfolding spellable preparable fieldsGood
-  spellable-yes a = rw (a .sized, a .width, le-leb 1 (e .fields .details .number) (a .number), a .date, a .amounts, a .counter, a .signature)
+  spellable-yes a = within-yes amountLimit s n e a
 
 -- ---- zeros
 

@@ -18,7 +18,7 @@ use Rattle.receipt.specs.Payload.{payload, longestPayload, fieldsGood}
 use Rattle.receipt.specs.PayloadReading.{readFields}
 use Rattle.receipt.specs.Form.{parts, signedInput, signedForm, partsOfForm, failureText}
 use Rattle.receipt.specs.FormReading.{found}
-use Rattle.receipt.specs.Compact.{signatureText, compact, signingInput, signatureZero, preparable, spellable, prepared, spelled, signatureOf, spells, noEntry, entryOf, readEntry}
+use Rattle.receipt.specs.Compact.{signatureText, compact, signingInput, signatureZero, preparable, preparableWithin, spellable, spellableWithin, prepared, spelled, signatureOf, spells, noEntry, entryOf, readEntry}
 use Rattle.receipt.specs.declared.settings.Settings.{Settings}
 use Rattle.receipt.specs.declared.settings.Letters.the-variants.{Zero}
 use Rattle.receipt.specs.declared.form.Reading.{Reading}
@@ -39,14 +39,14 @@ pub record Preparable (s : Settings) (n : ℕ) (f : PayloadFields) : Type 0 wher
   pub fields : fieldsGood n f ≡ true
 
 pub preparable-true : (s : Settings) (n : ℕ) (f : PayloadFields) → preparable s n f ≡ true → Preparable s n f
-unfolding preparable
+unfolding preparableWithin
 preparable-true s n f e =
     let p = both (sized s) (widthGood n && fieldsGood n f) e in
     let q = both (widthGood n) (fieldsGood n f) (p .1) in
     record { sized = p .0; width = q .0; fields = q .1 }
 
 pub preparable-made : (s : Settings) (n : ℕ) (f : PayloadFields) → Preparable s n f → preparable s n f ≡ true
-unfolding preparable
+unfolding preparableWithin
 preparable-made s n f p = rw (p .sized, p .width, p .fields)
 
 -- an entry can be spelled if its fields have a payload, and its signature is good
@@ -55,7 +55,7 @@ pub record Spellable (s : Settings) (n : ℕ) (e : Entry) : Type 0 where
   pub signature : signatureZero (e .signature) ≡ true
 
 pub spellable-is : (s : Settings) (n : ℕ) (e : Entry) → spellable s n e ≡ preparable s n (e .fields) && signatureZero (e .signature)
-unfolding spellable
+unfolding spellableWithin
 spellable-is s n e = refl
 
 pub spellable-true : (s : Settings) (n : ℕ) (e : Entry) → spellable s n e ≡ true → Spellable s n e

@@ -13,7 +13,7 @@ use Rattle.primitives.specs.Place.{overwrite}
 use Rattle.primitives.proofs.Writing.{Writing, writing-left, writing-more, writing-end, writing-fits}
 use Rattle.receipt.specs.Amount.{amount, withinLimit, readAmount, amountsText}
 use Rattle.receipt.specs.Separated.{after, skip, At, readAmounts}
-use Rattle.receipt.specs.Details.{amountsGood}
+use Rattle.receipt.specs.Details.{amountsGood, amountsWithin}
 use Rattle.primitives.proofs.Over.{then}
 
 -- ---- after the next '_'
@@ -82,7 +82,7 @@ pub drop-here : (zs : List ℤ) (i : ℕ) → i < length zs → drop i zs ≡ ge
 drop-here zs i h = drop-cons zs i (pos 0) h ∙ ap (λ (k : ℕ). getD zs i (pos 0) ∷ drop k zs) (sym (add-one i))
 
 pub ok-here : (zs : List ℤ) (i : ℕ) → i < length zs → amountsGood (drop i zs) ≡ (withinLimit (getD zs i (pos 0)) && amountsGood (drop (i + 1) zs))
-unfolding amountsGood
+unfolding amountsWithin
 ok-here zs i h = ap amountsGood (drop-here zs i h)
 
 pub ok-no : (zs : List ℤ) (i : ℕ) → i < length zs → withinLimit (getD zs i (pos 0)) ≡ false → amountsGood (drop i zs) ≡ false
@@ -92,7 +92,7 @@ pub ok-yes : (zs : List ℤ) (i : ℕ) → i < length zs → withinLimit (getD z
 ok-yes zs i h e = ok-here zs i h ∙ rw e
 
 pub ok-end : (zs : List ℤ) (i : ℕ) → length zs ≤ i → amountsGood (drop i zs) ≡ true
-unfolding amountsGood
+unfolding amountsWithin
 ok-end zs i h = ap amountsGood (drop-of-length-le zs h)
 
 -- the loop that writes

@@ -15,6 +15,7 @@ pub mod FormCalls
 pub mod Forms
 pub mod IdFields
 pub mod Joined
+pub mod Limits
 pub mod LineCalls
 pub mod LineFields
 pub mod LineMarks

@@ -10,7 +10,7 @@ use Rattle.primitives.proofs.Each.{Each, none-left, one-more}
 use Rattle.receipt.specs.Decimal.{digits}
 use Rattle.receipt.specs.Amount.{amount, withinLimit, amountsText}
 use Rattle.receipt.specs.DateTime.{dateText}
-use Rattle.receipt.specs.Details.{amountsGood}
+use Rattle.receipt.specs.Details.{amountsGood, amountsWithin}
 use Rattle.receipt.specs.Separated.{after, skip, readAmounts}
 use Rattle.receipt.specs.declared.datetime.DateTime.{DateTime}
 use Rattle.primitives.proofs.Rows.{both}
@@ -59,7 +59,7 @@ skip-amounts (z ∷ zs) rest =
 
 -- amounts that were spelled are read back, whatever follows them
 pub read-amounts : (zs : List ℤ) (rest : List ℕ) → amountsGood zs ≡ true → readAmounts (length zs) (amountsText zs ++ rest) ≡ zs
-unfolding readAmounts amountsGood
+unfolding readAmounts amountsWithin
 read-amounts [] rest e = refl
 read-amounts (z ∷ zs) rest e =
     let p = both (withinLimit z) (amountsGood zs) e in

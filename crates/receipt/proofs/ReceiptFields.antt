@@ -15,7 +15,7 @@ use Rattle.primitives.proofs.Rows.{both}
 use Rattle.receipt.specs.Decimal.{digits}
 use Rattle.receipt.specs.Amount.{amount, longestAmount, withinLimit, amountsText}
 use Rattle.receipt.specs.DateTime.{dateText}
-use Rattle.receipt.specs.Details.{amountsGood}
+use Rattle.receipt.specs.Details.{amountsGood, amountsWithin}
 use Rattle.receipt.specs.Settings.{between, idLetter, nameText, every, cspGood, settingsGood, SettingsLengths, SettingsBytes}
 use Rattle.receipt.specs.Texts.{beginning, cancellationText, trainingText}
 use Rattle.receipt.specs.Payload.{base64, registerPart, moment, counterContent, counterField, closing, body, payload}
@@ -99,7 +99,7 @@ count-joined z [] = amount-none z
 count-joined z (y ∷ ys) = simp count-append (omega (arith, amount-none z, one-mark, count-joined y ys))
 
 length-joined : (z : ℤ) (zs : List ℤ) → amountsGood (z ∷ zs) ≡ true → length (joined (z ∷ zs)) ≤ longestAmount + (longestAmount + 1) * length zs
-unfolding joined amountsGood
+unfolding joined amountsWithin
 length-joined z [] e = omega (arith, amount-short z (both (withinLimit z) (amountsGood []) e .0))
 length-joined z (y ∷ ys) e =
     let p = both (withinLimit z) (amountsGood (y ∷ ys)) e in

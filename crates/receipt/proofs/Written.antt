@@ -16,11 +16,11 @@ use Rattle.primitives.proofs.Base64Lengths.{length-encoding}
 use Rattle.receipt.specs.Decimal.{digits}
 use Rattle.receipt.specs.DateTime.{dateGood, dateText}
 use Rattle.receipt.specs.Settings.{nameText, sized, SettingsLengths}
-use Rattle.receipt.specs.Details.{amountsGood}
+use Rattle.receipt.specs.Details.{amountsGood, amountsWithin}
 use Rattle.receipt.specs.Amount.{longestAmount, amountsText}
 use Rattle.receipt.specs.Texts.{beginning, cancellationText, trainingText}
 use Rattle.receipt.proofs.Texts.{beginning-long, cancellation-long, training-long}
-use Rattle.receipt.specs.Payload.{base64, registerPart, moment, counterContent, counterField, closing, body, payload, longestPayload, counterGood, fieldsGood, TypedFields}
+use Rattle.receipt.specs.Payload.{base64, registerPart, moment, counterContent, counterField, closing, body, payload, longestPayload, counterGood, fieldsGood, fieldsWithin, TypedFields}
 use Rattle.receipt.specs.declared.datetime.DateTime.{DateTime}
 use Rattle.receipt.specs.declared.details.Kind.{Kind}
 use Rattle.receipt.specs.declared.details.Kind.the-variants.{Standard, Cancellation, Training}
@@ -161,7 +161,7 @@ module _ (s : Settings) (n : ℕ) (f : PayloadFields) where
 -- ---- its greatest length
 
 amounts-short : (zs : List ℤ) → amountsGood zs ≡ true → length (amountsText zs) ≤ (longestAmount + 1) * length zs
-unfolding amountsText amountsGood
+unfolding amountsText amountsWithin
 amounts-short [] e = omega arith
 amounts-short (z ∷ zs) e =
     let p = both _ _ e in
@@ -181,7 +181,7 @@ pub record Good (n : ℕ) (f : PayloadFields) : Type 0 where
   pub counter : counterGood n (f .details .kind) (f .counter) ≡ true
 
 pub good : (n : ℕ) (f : PayloadFields) → fieldsGood n f ≡ true → Good n f
-unfolding fieldsGood
+unfolding fieldsWithin
 good n f e =
     let d = dateGood (f .details .date) in
     let a = amountsGood (f .details .amounts) in

@@ -30,8 +30,12 @@ amountLimit = 99999999999
 abbrev pub longestAmount : ℕ
 longestAmount = 13
 
-unfoldable pub withinLimit : ℤ → Bool
-withinLimit z = leb (natAbs z) amountLimit
+-- at most a limit, above or below zero
+unfoldable pub within : ℕ → ℤ → Bool
+within limit z = leb (natAbs z) limit
+
+abbrev pub withinLimit : ℤ → Bool
+withinLimit z = within amountLimit z
 
 -- ---- the loose reader: the digits are the cents; ',' and '-' are skipped
 

@@ -8,8 +8,9 @@ use lib.Dec.{eqb}
 use lib.ListN.{length, replicate}
 use Rattle.primitives.specs.Bytes.{AllBytes, same}
 use Rattle.primitives.specs.Counter.{widthGood}
+use Rattle.receipt.specs.Amount.{amountLimit}
 use Rattle.receipt.specs.Settings.{sized, zeros}
-use Rattle.receipt.specs.Payload.{payload, fieldsGood, TypedFields}
+use Rattle.receipt.specs.Payload.{payload, fieldsWithin, TypedFields}
 use Rattle.receipt.specs.PayloadReading.{blank, readFields}
 use Rattle.receipt.specs.Form.{Parts, parts, signedInput, signedForm, partsOfForm, failureText}
 use Rattle.receipt.specs.declared.settings.Settings.{Settings}
@@ -42,19 +43,25 @@ pub record TypedEntry (e : Entry) : Type 0 where
   pub signature : length (e .signature .bytes) ≡ 64
   pub signatureBytes : AllBytes (e .signature .bytes)
 
--- ---- which entries have a compact form
+-- ---- which entries have a compact form, under a limit of an amount and under the one that the calls have
 
 -- if the device has failed, all bytes are zero
 unfoldable pub signatureZero : Signature → Bool
 signatureZero g = not (g .failed) || zeros (g .bytes)
 
 -- these fields can be spelled as a payload
-unfoldable pub preparable : Settings → ℕ → PayloadFields → Bool
-preparable s n f = sized s && (widthGood n && fieldsGood n f)
+unfoldable pub preparableWithin : ℕ → Settings → ℕ → PayloadFields → Bool
+preparableWithin limit s n f = sized s && (widthGood n && fieldsWithin limit n f)
+
+abbrev pub preparable : Settings → ℕ → PayloadFields → Bool
+preparable s n f = preparableWithin amountLimit s n f
 
 -- and, with this signature, as a compact form
-unfoldable pub spellable : Settings → ℕ → Entry → Bool
-spellable s n e = preparable s n (e .fields) && signatureZero (e .signature)
+unfoldable pub spellableWithin : ℕ → Settings → ℕ → Entry → Bool
+spellableWithin limit s n e = preparableWithin limit s n (e .fields) && signatureZero (e .signature)
+
+abbrev pub spellable : Settings → ℕ → Entry → Bool
+spellable s n e = spellableWithin amountLimit s n e
 
 -- ---- what the writers write: nothing if there is nothing to spell
 

@@ -5,16 +5,20 @@ use mathlib.Core.List.{List, [], _∷_}
 use lib.Dec.{eqb}
 use lib.IntN.{ℤ, pos, natAbs, _+ℤ_}
 use Rattle.primitives.specs.Counter.{counterFits}
-use Rattle.receipt.specs.Amount.{withinLimit}
+use Rattle.receipt.specs.Amount.{amountLimit, within}
 use Rattle.receipt.specs.declared.details.Kind.{Kind}
 use Rattle.receipt.specs.declared.details.Kind.the-variants.{Standard, Cancellation, Training}
 use Rattle.receipt.specs.declared.details.Details.{Details}
 use Rattle.receipt.specs.declared.details.After.{After}
 
--- question 9: "Amounts within limits?"
-unfoldable pub amountsGood : List ℤ → Bool
-amountsGood [] = true
-amountsGood (z ∷ zs) = withinLimit z && amountsGood zs
+-- question 9: "Amounts within limits?", of a limit
+unfoldable pub amountsWithin : ℕ → List ℤ → Bool
+amountsWithin limit [] = true
+amountsWithin limit (z ∷ zs) = within limit z && amountsWithin limit zs
+
+-- and of the limit that the calls have
+abbrev pub amountsGood : List ℤ → Bool
+amountsGood zs = amountsWithin amountLimit zs
 
 -- ---- questions 10 and 18: "standard with five zeros?"
 

@@ -9,10 +9,10 @@ use Rattle.primitives.specs.Base64.{encoding}
 use Rattle.primitives.specs.Bytes.{AllBytes}
 use Rattle.primitives.specs.declared.base64.Alphabet.the-variants as alphabet
 use Rattle.receipt.specs.Decimal.{digits}
-use Rattle.receipt.specs.Amount.{amountsText}
+use Rattle.receipt.specs.Amount.{amountLimit, amountsText}
 use Rattle.receipt.specs.DateTime.{dateGood, dateText}
 use Rattle.receipt.specs.Settings.{nameText, zeros}
-use Rattle.receipt.specs.Details.{amountsGood}
+use Rattle.receipt.specs.Details.{amountsWithin}
 use Rattle.receipt.specs.Texts.{separator, beginning, cancellationText, trainingText}
 use Rattle.receipt.specs.declared.datetime.DateTime.{DateTime}
 use Rattle.receipt.specs.declared.details.Kind.{Kind}
@@ -60,7 +60,7 @@ payload s n f = registerPart s ++ body s n f
 abbrev pub longestPayload : ℕ
 longestPayload = 200
 
--- ---- which fields a payload may have
+-- ---- which fields a payload may have, under a limit of an amount and under the one that the calls have
 
 -- every byte of the counter that its field does not spell is zero
 unfoldable pub counterGood : ℕ → Kind → List ℕ → Bool
@@ -68,10 +68,13 @@ counterGood n Standard counter = zeros (drop n counter)
 counterGood n Cancellation counter = zeros counter
 counterGood n Training counter = zeros counter
 
-unfoldable pub fieldsGood : ℕ → PayloadFields → Bool
-fieldsGood n f =
+unfoldable pub fieldsWithin : ℕ → ℕ → PayloadFields → Bool
+fieldsWithin limit n f =
     leb 1 (f .details .number)
-    && (dateGood (f .details .date) && (amountsGood (f .details .amounts) && counterGood n (f .details .kind) (f .counter)))
+    && (dateGood (f .details .date) && (amountsWithin limit (f .details .amounts) && counterGood n (f .details .kind) (f .counter)))
+
+abbrev pub fieldsGood : ℕ → PayloadFields → Bool
+fieldsGood n f = fieldsWithin amountLimit n f
 
 -- what the code's types say: a number of 32 bits, five amounts and eight bytes twice
 pub record TypedFields (f : PayloadFields) : Type 0 where

@@ -20,6 +20,9 @@ ghost use Rattle.receipt.specs.FormReading.{short, partsRead, nothing};
 // The longest payload.
 pub(crate) const LONGEST_PAYLOAD: usize = 200;
 
+// The longest compact form, for a caller's buffer: 20 letters, '.', those of the longest payload, '.', 86 letters.
+pub const LONGEST_COMPACT: usize = 20 + 1 + (LONGEST_PAYLOAD * 4 + 2) / 3 + 1 + 86;
+
 // ---- fixed texts
 
 // The first bytes of every payload.

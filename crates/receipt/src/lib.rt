@@ -34,6 +34,8 @@ pub use entry::no_entry;
 pub use entry::put_compact;
 pub use entry::put_signing_input;
 pub use entry::read_entry;
+pub use form::LONGEST_COMPACT;
+pub use machine_code::LONGEST_CODE;
 pub use machine_code::Part;
 pub use machine_code::code;
 pub use machine_code::fields;

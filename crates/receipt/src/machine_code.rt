@@ -23,6 +23,9 @@ ghost use Rattle.receipt.specs.FormReading.{partsRead};
 ghost use Rattle.receipt.specs.Code.{lastAt, codeText, partsOfCode, codeAnswer, codeBuffer, uncodeAnswer, uncodeBuffer, nowhere, idPlace, idField};
 ghost use Rattle.primitives.specs.Answers.{written};
 
+// The longest code, for a caller's buffer: the longest payload, '_', 88 letters.
+pub const LONGEST_CODE: usize = LONGEST_PAYLOAD + 1 + 88;
+
 // ---- reading
 
 // The place of the last b; the slice's length if there is none.

@@ -16,6 +16,7 @@ use journal::State;
 use receipt::DateTime;
 use receipt::Details;
 use receipt::Kind;
+use receipt::LONGEST_COMPACT;
 use receipt::Name;
 use receipt::Settings;
 
@@ -153,7 +154,7 @@ fn details_of(line: &[u8]) -> Details {
 
 // The text that the device is given to sign.
 fn print_prepared(name: &[u8], st: State, d: Details) {
-    let mut out = [0u8; 368];
+    let mut out = [0u8; LONGEST_COMPACT];
     let a = journal::prepare(st, d, &mut out);
     if a.number != 0 {
         print_refused(name, a.number);

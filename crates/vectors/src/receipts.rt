@@ -12,6 +12,8 @@ use receipt::DateTime;
 use receipt::Details;
 use receipt::Entry;
 use receipt::Kind;
+use receipt::LONGEST_CODE;
+use receipt::LONGEST_COMPACT;
 use receipt::PayloadFields;
 use receipt::Settings;
 use receipt::Signature;
@@ -110,7 +112,7 @@ pub(crate) fn settings_of(csp: &[u8], id: &[u8], serial: &[u8]) -> Settings {
 
 // The compact form of an entry.
 fn print_compact(name: &[u8], s: Settings, n: usize, e: Entry) {
-    let mut out = [0u8; 368];
+    let mut out = [0u8; LONGEST_COMPACT];
     let m = receipt::put_compact(s, n, e, &mut out, 0);
     print_first(name, &out, m);
 }
@@ -168,7 +170,7 @@ fn entry_of(cents: i64) -> Entry {
 
 // The code of the first n bytes of a compact form.
 fn print_code(name: &[u8], form: &[u8], n: usize) {
-    let mut out = [0u8; 284];
+    let mut out = [0u8; LONGEST_CODE];
     if form.len() < n {
         return;
     }
@@ -178,7 +180,7 @@ fn print_code(name: &[u8], form: &[u8], n: usize) {
 
 // An amount, as the code of a receipt spells it.
 pub(crate) fn amount_row(line: &[u8]) {
-    let mut form = [0u8; 368];
+    let mut form = [0u8; LONGEST_COMPACT];
     let e = entry_of(decimal(field(line, 0)));
     let n = receipt::put_compact(settings_of(b"AT0", b"A", b"0"), 5, e, &mut form, 0);
     print_code(field(line, 0), &form, n);
