@@ -1009,12 +1009,12 @@ impl Round<'_> {
         let over = self.random.pick(&[0, 0, 1, 2]);
         let left = sample::amounts_with_sum(&self.random, last - sign * (sample::MOST - over));
         // the most that a receipt can add, then to the end or over it, then a cent more, then back
-        let sums = [[0; 5], [sign * AMOUNT_LIMIT; 5], left, [sign, 0, 0, 0, 0], [-sign * 100, 0, 0, 0, 0]];
+        let amounts = [[0; 5], [sign * AMOUNT_LIMIT; 5], left, [sign, 0, 0, 0, 0], [-sign * 100, 0, 0, 0, 0]];
         let receipts: Vec<Given> = (0..self.random.pick(&[3, 4, 5]))
             .map(|i| {
                 let kind = if i < 2 { 0 } else { self.random.pick(&[0, 1, 2]) };
                 let date = sample::date(&self.random);
-                (Details { number: i as u32 + 1, date, amounts: sums[i], kind }, sample::signature(&self.random))
+                (Details { number: i as u32 + 1, date, amounts: amounts[i], kind }, sample::signature(&self.random))
             })
             .collect();
         let bytes = Journal::with(&settings, &receipts).bytes();

@@ -110,8 +110,7 @@ impl Round<'_> {
     /// Code, Uncode and Fields of payloads around the longest.
     pub(super) fn codes_at_the_limits(&mut self) -> Compared<()> {
         for payload in sample::PAYLOAD_EDGES {
-            let lengths = sample::field_lengths(&self.random);
-            let printed = sample::printed(&self.random, lengths, payload);
+            let printed = sample::printed(&self.random, [8, 8], payload);
             self.code_at_the_limit(&printed)?;
         }
         Ok(())
