@@ -1,2 +1,2 @@
-# src/code.rs: a payload of 195 bytes refused
+# src/code.rs: the longest payload refused
 s/payload\.len\(\) <= LONGEST_PAYLOAD/payload.len() < LONGEST_PAYLOAD/

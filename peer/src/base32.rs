@@ -11,7 +11,7 @@ const VALUES: [u8; 256] = values(LETTERS);
 const LETTERS_OF_BYTES: [usize; 5] = [0, 2, 4, 5, 7];
 
 /// Letters with padding for so many bytes.
-pub fn padded_letters(length: usize) -> usize {
+pub const fn padded_letters(length: usize) -> usize {
     length.div_ceil(5) * 8
 }
 

@@ -21,12 +21,12 @@ pub(crate) const fn values<const LETTERS: usize>(letters: &[u8; LETTERS]) -> [u8
 }
 
 /// Letters without padding for so many bytes.
-pub fn letters(length: usize) -> usize {
+pub const fn letters(length: usize) -> usize {
     length / 3 * 4 + [0, 2, 3][length % 3]
 }
 
 /// Letters with padding for so many bytes.
-pub fn padded_letters(length: usize) -> usize {
+pub const fn padded_letters(length: usize) -> usize {
     length.div_ceil(3) * 4
 }
 

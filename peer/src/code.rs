@@ -6,7 +6,7 @@ use crate::base64;
 use crate::receipt::{LONGEST_PAYLOAD, compact_form, read_compact, signature_good};
 use crate::settings::Number;
 
-/// 4 to 195 bytes beginning "_R1-".
+/// 4 to LONGEST_PAYLOAD bytes beginning "_R1-".
 pub(crate) fn payload_good(payload: &[u8]) -> bool {
     payload.len() <= LONGEST_PAYLOAD && payload.starts_with(b"_R1-")
 }
@@ -57,5 +57,5 @@ pub fn fields(code: &[u8]) -> Option<Range<usize>> {
     (!id.is_empty()).then_some(id)
 }
 
-/// A payload of 195 bytes, "_", and 88 letters of a signature of 64 bytes.
-pub const LONGEST_CODE: usize = LONGEST_PAYLOAD + 1 + 88;
+/// The longest payload, "_", and the letters of a signature of 64 bytes.
+pub const LONGEST_CODE: usize = LONGEST_PAYLOAD + 1 + base64::padded_letters(64);

@@ -8,6 +8,7 @@ use crate::code::LONGEST_CODE;
 use crate::device::Library;
 use crate::line::LONGEST_ANY_LINE;
 use crate::receipt::Details;
+use crate::text::hex;
 
 /// The calls in the order of the table, with the numbers that each can return.
 pub const CALLS: [(&str, &[u32]); 18] = [
@@ -70,10 +71,6 @@ pub struct Difference {
 }
 
 pub type Compared<T> = Result<T, Difference>;
-
-pub fn hex(bytes: &[u8]) -> String {
-    bytes.iter().map(|byte| format!("{byte:02x}")).collect()
-}
 
 /// What must hold of both sides together; the bytes are printed where it does not.
 pub fn demand(holds: bool, what: &str, bytes: &[u8]) -> Compared<()> {

@@ -8,7 +8,7 @@ use crate::calls::{Calls, Peer};
 use crate::compare::{Compare, Compared, demand};
 use crate::layout::{DETAILS, SETTINGS, SIGNATURE, STATE};
 use crate::model::Journal;
-use crate::receipt::{Date, Details};
+use crate::receipt::{Date, Details, LONGEST_INPUT};
 
 const KEY: [u8; 32] = [7; 32];
 const WIDTH: usize = 5;
@@ -168,7 +168,7 @@ fn issue(compare: &mut Compare, input: &[u8]) -> Compared<()> {
     };
     let mut state = state.to_vec();
     compare.figures(&state)?;
-    compare.prepare(&state, &details, &mut [0xaa; 281])?;
+    compare.prepare(&state, &details, &mut [0xaa; LONGEST_INPUT])?;
     let mut journal = vec![0xaa; number(0, 2) as usize % 1000];
     compare.issue(&mut state, &details, signature, &mut journal)?;
     Ok(())

@@ -22,6 +22,7 @@ pub mod receipt;
 pub mod register;
 #[cfg(feature = "device")]
 pub mod rounds;
+pub mod rows;
 pub mod sample;
 pub mod settings;
 pub mod text;

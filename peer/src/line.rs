@@ -7,10 +7,10 @@ use crate::settings::Number;
 use crate::text::Text;
 use crate::{base32, base64};
 
-/// A receipt's payload of 195 bytes, whose two fields of 12 letters have 16 here, "_", and 104 letters of a signature.
-pub const LONGEST_LINE: usize = LONGEST_PAYLOAD + 2 * 4 + 1 + 104;
+/// A receipt's longest payload, whose two fields of 12 letters have 16 here, "_", and the letters of a signature.
+pub const LONGEST_LINE: usize = LONGEST_PAYLOAD + 2 * 4 + 1 + base32::padded_letters(64);
 /// The same with the fields that grow most: 8 letters have 16 here, and 168 letters have 208.
-pub const LONGEST_ANY_LINE: usize = LONGEST_PAYLOAD + 8 + 40 + 1 + 104;
+pub const LONGEST_ANY_LINE: usize = LONGEST_PAYLOAD + 8 + 40 + 1 + base32::padded_letters(64);
 
 /// Has room for any line, and so for any code, which is never longer than its line.
 type LineText = Text<LONGEST_ANY_LINE>;

@@ -1,7 +1,12 @@
 //! A journal and a code in their parts, to be changed and put together again.
 
 use crate::crypto::Aes256;
-use crate::receipt::{Kind, chain_value, counter_after, counter_iv, encrypt_counter, read_amount, read_compact};
+use crate::receipt::{
+    Details, FAILURE, HEADER, Kind, chain_value, counter_after, counter_iv, encrypt_counter, push_date, read_cents,
+    read_compact,
+};
+use crate::settings::Settings;
+use crate::text::Text;
 use crate::{base32, base64};
 
 pub fn url_text(data: &[u8]) -> Vec<u8> {
@@ -15,6 +20,16 @@ pub fn padded_text(data: &[u8]) -> Vec<u8> {
     base64::write_padded(data, &mut text);
     text
 }
+
+/// An amount as the paper spells it, within the limits or not.
+pub fn spelled(amount: i64) -> Vec<u8> {
+    let sign = if amount < 0 { "-" } else { "" };
+    let cents = amount.unsigned_abs();
+    format!("{sign}{},{:02}", cents / 100, cents % 100).into_bytes()
+}
+
+/// What Issue is given: the details, and the signature, which is empty where the device has failed.
+pub type Given = (Details, Vec<u8>);
 
 /// The places of the fields in a payload.
 pub const NUMBER: usize = 2;
@@ -37,6 +52,29 @@ pub struct Entry {
 }
 
 impl Entry {
+    /// The parts of a receipt with a good date. Its chain field is empty, and so is the counter field of a standard one.
+    pub fn with(settings: &Settings, (details, signature): &Given) -> Entry {
+        let mut date = Text::<19>::new();
+        push_date(&mut date, &details.date);
+        let mark: [&[u8]; 3] = [b"", b"U1RP", b"VFJB"];
+        let mut fields = vec![[b"R1-", &settings.csp[..]].concat(), settings.id().to_vec()];
+        fields.push(details.number.to_string().into_bytes());
+        fields.push(date.bytes().to_vec());
+        fields.extend(details.amounts.map(spelled));
+        fields.push(mark[details.kind as usize].to_vec());
+        fields.push(settings.serial().to_vec());
+        fields.push(Vec::new());
+        let signature = if signature.is_empty() { FAILURE } else { &signature[..] };
+        Entry {
+            header: HEADER.to_vec(),
+            lead: b"_".to_vec(),
+            fields,
+            signature: signature.to_vec(),
+            raw: None,
+            respelled: false,
+        }
+    }
+
     /// The parts of a well spelled compact form.
     pub fn of(form: &[u8]) -> Entry {
         let parts = read_compact(form).expect("well spelled");
@@ -76,9 +114,9 @@ impl Entry {
         }
     }
 
-    /// Five amounts, 0 where one can't be read.
+    /// Five amounts, within the limits or not; 0 where one can't be read.
     pub fn amounts(&self) -> [i64; 5] {
-        std::array::from_fn(|i| self.fields.get(FIRST_AMOUNT + i).and_then(|field| read_amount(field)).unwrap_or(0))
+        std::array::from_fn(|i| self.fields.get(FIRST_AMOUNT + i).and_then(|field| read_cents(field)).unwrap_or(0))
     }
 }
 
@@ -133,9 +171,14 @@ impl Printed {
         joined(&self.line_texts())
     }
 
-    /// The bytes of the code's payload.
-    pub fn payload_length(&self) -> usize {
-        joined(&self.code_texts()[..SIGNED]).len()
+    /// The payload of the code, and of the compact form.
+    pub fn payload(&self) -> Vec<u8> {
+        joined(&self.code_texts()[..SIGNED])
+    }
+
+    /// The compact form of the code.
+    pub fn form(&self) -> Vec<u8> {
+        [&HEADER[..], &url_text(&self.payload()), &url_text(&self.parts[SIGNED])].join(&b'.')
     }
 }
 
@@ -159,6 +202,20 @@ pub struct Journal {
 }
 
 impl Journal {
+    /// The journal of these receipts, whatever their amounts and numbers are: counters and chain are right.
+    pub fn with(settings: &Settings, receipts: &[Given]) -> Journal {
+        let mut journal = Journal {
+            csp: settings.csp.to_vec(),
+            id: settings.id().to_vec(),
+            serial: settings.serial().to_vec(),
+            count: receipts.len() as u32,
+            entries: receipts.iter().map(|given| Entry::with(settings, given)).collect(),
+        };
+        journal.counters_right(0, &settings.key, settings.width as usize);
+        journal.chain_right(0);
+        journal
+    }
+
     /// The parts of a valid journal.
     pub fn of(journal: &[u8]) -> Journal {
         let mut rest = journal;

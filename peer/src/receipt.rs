@@ -13,10 +13,14 @@ pub const FAILURE: &[u8; 34] = b"Sicherheitseinrichtung ausgefallen";
 const STO: &[u8; 4] = b"U1RP";
 const TRA: &[u8; 4] = b"VFJB";
 
-pub const LONGEST_PAYLOAD: usize = 195;
-pub const LONGEST_INPUT: usize = 281;
-pub const LONGEST_COMPACT: usize = 368;
-pub const AMOUNT_LIMIT: i64 = 9_999_999_999;
+/// The most cents of an amount, either way.
+pub const AMOUNT_LIMIT: i64 = 99_999_999_999;
+/// The most bytes of a payload.
+pub const LONGEST_PAYLOAD: usize = 200;
+/// The header element, ".", and the letters of a payload.
+pub const LONGEST_INPUT: usize = HEADER.len() + 1 + base64::letters(LONGEST_PAYLOAD);
+/// The same, ".", and the letters of a signature of 64 bytes.
+pub const LONGEST_COMPACT: usize = LONGEST_INPUT + 1 + base64::letters(64);
 
 #[derive(Clone, Copy, Debug, PartialEq, Eq)]
 pub enum Kind {
@@ -269,7 +273,7 @@ pub fn signature_good(signature: &[u8]) -> bool {
     signature.len() == 64 || signature == FAILURE
 }
 
-/// Three canonical elements, the first fixed, at most 195 bytes in the second, a signature in the third.
+/// Three canonical elements, the first fixed, at most LONGEST_PAYLOAD bytes in the second, a signature in the third.
 pub fn read_compact(form: &[u8]) -> Option<Parts> {
     let rest = form.strip_prefix(HEADER)?.strip_prefix(b".")?;
     let dot = rest.iter().position(|&byte| byte == b'.')?;
@@ -342,26 +346,30 @@ pub fn read_date(text: &[u8]) -> Option<Date> {
     date.good().then_some(date)
 }
 
-/// An amount within the limits.
-pub fn read_amount(text: &[u8]) -> Option<i64> {
+/// An amount as it is spelled, within the limits or not; None where i64 does not have it.
+pub fn read_cents(text: &[u8]) -> Option<i64> {
     let (negative, unsigned) = match text {
         [b'-', unsigned @ ..] => (true, unsigned),
         unsigned => (false, unsigned),
     };
     let [euros @ .., b',', tens, ones] = unsigned else { return None };
-    // 99999999,99 is the limit
-    if euros.is_empty() || euros.len() > 8 || (euros[0] == b'0' && euros.len() > 1) {
+    if euros.is_empty() || (euros[0] == b'0' && euros.len() > 1) {
         return None;
     }
-    let mut amount = 0;
+    let mut cents = 0i64;
     for &byte in euros.iter().chain([tens, ones]) {
-        amount = amount * 10 + digit(byte)? as i64;
+        cents = cents.checked_mul(10)?.checked_add(digit(byte)? as i64)?;
     }
-    match (negative, amount) {
+    match (negative, cents) {
         (true, 0) => None,
-        (true, _) => Some(-amount),
-        (false, _) => Some(amount),
+        (true, _) => Some(-cents),
+        (false, _) => Some(cents),
     }
+}
+
+/// An amount within the limits.
+pub fn read_amount(text: &[u8]) -> Option<i64> {
+    read_cents(text).filter(|&amount| amount_good(amount))
 }
 
 /// The receipt that a compact form spells under these settings; None where it spells none (question 16).

@@ -1,13 +1,16 @@
 //! The rounds of the differential run. A round is made from the seed and its number alone, so that it can be repeated.
 
+mod limits;
 mod lines;
 
 use crate::calls::{Calls, Peer};
 use crate::compare::{Compare, Compared, demand};
 use crate::layout::{DETAILS, SETTINGS, SIGNATURE, STATE, details_of, settings_bytes, state_bytes, state_of};
-use crate::model::{CHAIN, COUNTER, Entry, FIRST_AMOUNT, Journal, NUMBER, padded_text, url_text};
+use crate::model::{CHAIN, COUNTER, Entry, FIRST_AMOUNT, Given, Journal, NUMBER, padded_text, spelled, url_text};
 use crate::random::Random;
-use crate::receipt::{AMOUNT_LIMIT, Details, FAILURE, LONGEST_COMPACT, LONGEST_INPUT, chain_value};
+use crate::receipt::{
+    AMOUNT_LIMIT, Date, Details, FAILURE, LONGEST_COMPACT, LONGEST_INPUT, LONGEST_PAYLOAD, chain_value,
+};
 use crate::register::State;
 use crate::sample;
 use crate::settings::{Name, Settings};
@@ -39,7 +42,7 @@ pub fn round(compare: &mut Compare, seed: u64, number: u64) -> Compared<()> {
         round.cut_everywhere(&written)?;
         round.every_bit_of_the_head(&written)?;
     }
-    if round.random.once_in(256) {
+    if round.random.once_in(32) {
         round.long_journal()?;
     }
     for _ in 0..4 {
@@ -53,6 +56,9 @@ pub fn round(compare: &mut Compare, seed: u64, number: u64) -> Compared<()> {
         round.free_lines()?;
     }
     round.line_errors()?;
+    round.amounts_at_the_limits()?;
+    round.counters_at_the_ends()?;
+    round.codes_at_the_limits()?;
     round.lines_at_the_limits()?;
     round.longest_receipts()?;
     round.read_of_each_kind()?;
@@ -68,9 +74,6 @@ pub fn round(compare: &mut Compare, seed: u64, number: u64) -> Compared<()> {
     }
     Ok(())
 }
-
-/// What Issue was given: the details, and the signature, which is empty where the device had failed.
-type Given = (Details, Vec<u8>);
 
 /// A journal that a list of calls wrote, under what, and the receipts in it.
 struct Accepted {
@@ -378,7 +381,7 @@ impl Round<'_> {
         let mut state = sample::sound_state(&self.random, 300);
         let mut details = sample::details(&self.random, &state);
         let signature = sample::signature(&self.random);
-        let room = state.journal_length as usize + self.random.pick(&[0, 1, 200, 370, 400]);
+        let room = state.journal_length as usize + self.random.pick(&[0, 1, 200, 2 + LONGEST_COMPACT, 400]);
         let journal = self.garbage(room);
 
         if self.random.once_in(3) {
@@ -782,7 +785,7 @@ impl Round<'_> {
             5 => text.replace(',', ""),
             6 => format!("{text}0"),
             7 => text[..text.len().saturating_sub(1)].to_owned(),
-            8 => format!("{sign}100000000,00"),
+            8 => format!("{sign}1000000000,00"),
             9 => format!("{sign}{},00", "9".repeat(self.random.pick(&[9, 10, 18, 20, 40]))),
             10 => String::new(),
             11 => format!("{sign},00"),
@@ -840,7 +843,7 @@ impl Round<'_> {
         match self.random.below(11) {
             // longer than any payload or signature, up to what a length can say
             10 => {
-                let length = self.random.pick(&[196, 1_000, 48_000]);
+                let length = self.random.pick(&[LONGEST_PAYLOAD + 1, 1_000, 48_000]);
                 payload = url_text(&self.garbage(length));
                 if self.random.once_in(2) {
                     signature = url_text(&self.garbage(1_000));
@@ -986,38 +989,15 @@ impl Round<'_> {
 
     /// A valid journal of so many standard receipts, made of parts.
     fn built(&self, accepted: &Accepted, entries: usize) -> Journal {
-        let settings = &accepted.settings;
-        let mut journal = Journal {
-            csp: settings.csp.to_vec(),
-            id: settings.id().to_vec(),
-            serial: settings.serial().to_vec(),
-            count: entries as u32,
-            entries: Vec::new(),
-        };
-        for i in 0..entries {
-            let mut fields = vec![[b"R1-", &settings.csp[..]].concat(), settings.id().to_vec()];
-            fields.push((1000 * i + 1 + self.random.below(900)).to_string().into_bytes());
-            fields.push(b"2024-02-29T23:59:59".to_vec());
-            for _ in 0..5 {
-                let amount = if i == 0 { 0 } else { 1 + self.random.below(10_000) as i64 };
-                fields.push(spelled(amount));
-            }
-            fields.push(b"AAAAAAA=".to_vec());
-            fields.push(settings.serial().to_vec());
-            fields.push(b"AAAAAAAAAAA=".to_vec());
-            let signature = if self.random.once_in(4) { FAILURE.to_vec() } else { self.garbage(64) };
-            journal.entries.push(Entry {
-                header: b"eyJhbGciOiJFUzI1NiJ9".to_vec(),
-                lead: b"_".to_vec(),
-                fields,
-                signature,
-                raw: None,
-                respelled: false,
-            });
-        }
-        journal.counters_right(0, &settings.key, settings.width as usize);
-        journal.chain_right(0);
-        journal
+        let date = Date { year: 2024, month: 2, day: 29, hour: 23, minute: 59, second: 59 };
+        let receipts: Vec<Given> = (0..entries)
+            .map(|i| {
+                let number = (1000 * i + 1 + self.random.below(900)) as u32;
+                let amounts = std::array::from_fn(|_| if i == 0 { 0 } else { 1 + self.random.below(10_000) as i64 });
+                (Details { number, date, amounts, kind: 0 }, sample::signature(&self.random))
+            })
+            .collect();
+        Journal::with(&accepted.settings, &receipts)
     }
 
     /// Width 5 at both ends: a sum that just fits, and sums over the width that come back, in a standard receipt or a
@@ -1025,52 +1005,42 @@ impl Round<'_> {
     fn sums_at_the_end(&mut self) -> Compared<()> {
         let settings = Settings { width: 5, ..sample::settings(&self.random) };
         let accepted = Accepted { settings, journal: Vec::new(), receipts: Vec::new() };
-        let mut journal = self.built(&accepted, 14);
-        let sign = self.random.pick(&[1, -1]);
-        let end = sample::width_end(5);
-        let last = if sign > 0 { end } else { !end };
-        // ten receipts of 49,999,999,995 cents, then one to the end, then over it, then back
-        for entry in &mut journal.entries[1..11] {
-            for field in &mut entry.fields[FIRST_AMOUNT..FIRST_AMOUNT + 5] {
-                *field = spelled(sign * AMOUNT_LIMIT);
-            }
-        }
-        let left = last - sign * 50 * AMOUNT_LIMIT;
+        let (sign, last) = self.end_of(5);
         let over = self.random.pick(&[0, 0, 1, 2]);
-        let amounts = sample::amounts_with_sum(&self.random, left + sign * over);
-        let parts = [amounts, [sign, 0, 0, 0, 0], [-sign * 100, 0, 0, 0, 0]];
-        for (i, amounts) in parts.into_iter().enumerate() {
-            for (k, amount) in amounts.into_iter().enumerate() {
-                journal.entries[11 + i].fields[FIRST_AMOUNT + k] = spelled(amount);
-            }
-            let kind: [&[u8]; 3] = [b"U1RP", b"VFJB", b"AAAAAAA="];
-            journal.entries[11 + i].fields[COUNTER] = self.random.pick(&kind).to_vec();
-        }
-        let count = self.random.pick(&[12, 13, 14]);
-        journal.entries.truncate(count);
-        journal.count = count as u32;
-        journal.counters_right(0, &settings.key, 5);
-        journal.chain_right(0);
-        let bytes = journal.bytes();
+        let left = sample::amounts_with_sum(&self.random, last - sign * (sample::MOST - over));
+        // the most that a receipt can add, then to the end or over it, then a cent more, then back
+        let amounts = [[0; 5], [sign * AMOUNT_LIMIT; 5], left, [sign, 0, 0, 0, 0], [-sign * 100, 0, 0, 0, 0]];
+        let receipts: Vec<Given> = (0..self.random.pick(&[3, 4, 5]))
+            .map(|i| {
+                let kind = if i < 2 { 0 } else { self.random.pick(&[0, 1, 2]) };
+                let date = sample::date(&self.random);
+                (Details { number: i as u32 + 1, date, amounts: amounts[i], kind }, sample::signature(&self.random))
+            })
+            .collect();
+        let bytes = Journal::with(&settings, &receipts).bytes();
         self.take_over(&accepted, &bytes)
     }
 
-    /// Width 6 to its end, which takes 2,815 receipts.
+    /// A sign, and the end of this width on that side.
+    fn end_of(&self, width: u64) -> (i64, i64) {
+        let end = sample::width_end(width);
+        self.random.pick(&[(1, end), (-1, !end)])
+    }
+
+    /// Width 6 to its end, which takes 282 receipts after the first.
     fn long_journal(&mut self) -> Compared<()> {
         let settings = Settings { width: 6, id: Name::of(b"6"), ..sample::settings(&self.random) };
-        let mut journal = vec![0; settings.head_length() + 2830 * (2 + LONGEST_COMPACT)];
+        let mut journal = vec![0; settings.head_length() + 283 * (2 + LONGEST_COMPACT)];
         let mut state = vec![0; STATE];
         Peer.open(&settings_bytes(&settings), &mut journal, &mut state);
         let mut details = Details { number: 1, date: sample::date(&self.random), amounts: [0; 5], kind: 0 };
-        let sign = self.random.pick(&[1, -1]);
-        let end = sample::width_end(6);
-        let last = if sign > 0 { end } else { !end };
+        let (sign, last) = self.end_of(6);
         loop {
             Peer.issue(&mut state, &details, &[], &mut journal);
             details.number += 1;
             details.amounts = [sign * AMOUNT_LIMIT; 5];
             let left = last - state_of(&state).counter;
-            if left.abs() < 5 * AMOUNT_LIMIT {
+            if left.abs() <= sample::MOST {
                 details.amounts = sample::amounts_with_sum(&self.random, left);
                 break;
             }
@@ -1165,7 +1135,8 @@ impl Round<'_> {
     /// Payloads of any bytes and of lengths at the limits, with signatures of any length; and random texts.
     fn free_codes(&mut self) -> Compared<()> {
         if self.random.once_in(6) {
-            let length = self.random.pick(&[0, 1, 2, 3, 5, 21, 100, 368, 369, 400, 5000]);
+            let longest = LONGEST_COMPACT;
+            let length = self.random.pick(&[0, 1, 2, 3, 5, 21, 100, longest, longest + 1, 400, 5000]);
             let mut text: Vec<u8> = (0..length).map(|_| self.random.pick(b"AQgw_.-=R1\0")).collect();
             if self.random.once_in(2) {
                 let start = self.random.pick(&[&b"eyJhbGciOiJFUzI1NiJ9."[..], b"eyJhbGciOiJFUzI1NiJ9", b"_R1-"]);
@@ -1174,12 +1145,13 @@ impl Round<'_> {
             self.coded(&text)?;
             return self.uncoded(&text);
         }
-        let after = self.random.pick(&[0, 1, 2, 5, 9, 190, 191, 192, 193, 1000]);
+        let edge = self.random.pick(&sample::PAYLOAD_EDGES);
+        let length = self.random.pick(&[4, 5, 6, 9, 13, edge, edge, edge, edge, 1000]);
         let mut payload = self
             .random
             .pick(&[&b"_R1-"[..], b"_R1-", b"_R1-", b"_R1-", b"_R1_", b"_R2-", b"R1-A", b"_R1", b""])
             .to_vec();
-        for _ in 0..after {
+        while payload.len() < length {
             payload.push(if self.random.once_in(2) { self.random.pick(b"__A0.") } else { self.random.byte() });
         }
         let signature = match self.random.below(8) {
@@ -1219,15 +1191,21 @@ impl Round<'_> {
 
     /// A receipt of this width and kind, issued from a state made by hand: the settings, the form and what was given.
     fn receipt_made_by_hand(&mut self, width: u64, kind: u32) -> Compared<([u8; SETTINGS], Vec<u8>, Given)> {
-        let mut state = sample::sound_state(&self.random, 0);
-        state.settings.width = width;
-        state.counter = 0;
-        state.last_number = state.last_number.clamp(1, u32::MAX - 1);
-        state.receipts = 1;
+        let state = self.started_state(width, 0);
         let details = Details { kind, ..sample::details(&self.random, &state) };
         let signature = sample::signature(&self.random);
         let form = self.form_issued(state, &details, &signature)?;
         Ok((settings_bytes(&state.settings), form, (details, signature)))
+    }
+
+    /// A sound state of this width and counter, which has its first receipt.
+    fn started_state(&self, width: u64, counter: i64) -> State {
+        let mut state = sample::sound_state(&self.random, 0);
+        state.settings.width = width;
+        state.counter = counter;
+        state.last_number = state.last_number.clamp(1, u32::MAX - 1);
+        state.receipts = 1;
+        state
     }
 
     /// The form that Issue writes with good details to a journal of the head alone.
@@ -1398,10 +1376,4 @@ fn misspell(entry: &mut Entry, error: usize) {
             entry.raw = Some(form);
         }
     }
-}
-
-/// An amount as the paper spells it.
-fn spelled(amount: i64) -> Vec<u8> {
-    let sign = if amount < 0 { "-" } else { "" };
-    format!("{sign}{},{:02}", amount.abs() / 100, amount.abs() % 100).into_bytes()
 }

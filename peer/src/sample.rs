@@ -120,6 +120,9 @@ pub fn width_end(width: u64) -> i64 {
     i64::MAX >> (64 - 8 * width)
 }
 
+/// The most that one receipt adds to the counter.
+pub const MOST: i64 = 5 * AMOUNT_LIMIT;
+
 /// A sound state that mostly no list reaches; its journal length is at most `longest` bytes after the head.
 pub fn sound_state(random: &Random, longest: usize) -> State {
     let settings = settings(random);
@@ -128,8 +131,8 @@ pub fn sound_state(random: &Random, longest: usize) -> State {
         0 => 0,
         1 => end,
         2 => !end,
-        3 => end - random.between(0, 60_000_000_000),
-        4 => !end + random.between(0, 60_000_000_000),
+        3 => end - random.between(0, MOST + AMOUNT_LIMIT),
+        4 => !end + random.between(0, MOST + AMOUNT_LIMIT),
         5 => random.between(-1_000_000, 1_000_000),
         _ => random.between(!end, end),
     };
@@ -214,11 +217,29 @@ pub fn bad_date(random: &Random) -> Date {
     date
 }
 
+/// The limit of an amount before request E4.
+const OLD_AMOUNT_LIMIT: i64 = 9_999_999_999;
+
+/// Good amounts up to the old limit.
+pub const OLD_AMOUNTS: [i64; 3] = [0, OLD_AMOUNT_LIMIT, -OLD_AMOUNT_LIMIT];
+
+/// Good amounts one cent beyond the old limit, and one cent below the limit.
+pub const NEW_AMOUNTS: [i64; 4] = [OLD_AMOUNT_LIMIT + 1, -OLD_AMOUNT_LIMIT - 1, AMOUNT_LIMIT - 1, 1 - AMOUNT_LIMIT];
+
+/// Amounts at the limit.
+pub const LAST_AMOUNTS: [i64; 2] = [AMOUNT_LIMIT, -AMOUNT_LIMIT];
+
+/// Amounts one cent beyond the limit.
+pub const NEXT_AMOUNTS: [i64; 2] = [AMOUNT_LIMIT + 1, -AMOUNT_LIMIT - 1];
+
+/// The ends of i64, which are no amounts.
+pub const ENDS: [i64; 2] = [i64::MAX, i64::MIN];
+
 /// An amount within the limits.
 pub fn amount(random: &Random) -> i64 {
     match random.below(8) {
         0 | 1 => 0,
-        2 => random.pick(&[AMOUNT_LIMIT, -AMOUNT_LIMIT]),
+        2 => random.pick(&[&OLD_AMOUNTS[..], &NEW_AMOUNTS, &LAST_AMOUNTS].concat()),
         3 => random.between(-AMOUNT_LIMIT, AMOUNT_LIMIT),
         4 => random.pick(&[
             1,
@@ -242,14 +263,13 @@ pub fn amount(random: &Random) -> i64 {
 }
 
 pub fn bad_amount(random: &Random) -> i64 {
-    let limit = AMOUNT_LIMIT;
-    random.pick(&[limit + 1, -limit - 1, i64::MAX, i64::MIN, i64::MIN + 1, 1 << 34, 1 << 62, -(1 << 40)])
+    random.pick(&[random.pick(&NEXT_AMOUNTS), random.pick(&ENDS), i64::MIN + 1, 1 << 37, 1 << 62, -(1 << 40)])
 }
 
 /// Five amounts within the limits with this sum, which such have.
 pub fn amounts_with_sum(random: &Random, sum: i64) -> [i64; 5] {
-    let mut amounts = [sum / 5; 5];
-    amounts[random.below(5)] += sum % 5;
+    let left = sum % 5;
+    let mut amounts = std::array::from_fn(|i| sum / 5 + if (i as i64) < left.abs() { left.signum() } else { 0 });
     for _ in 0..6 {
         let (from, to) = (random.below(5), random.below(5));
         if from == to {
@@ -279,7 +299,7 @@ pub fn details(random: &Random, state: &State) -> Details {
     details.kind = random.pick(&[0, 0, 0, 1, 2]);
     details.amounts = std::array::from_fn(|_| amount(random));
     let width = state.settings.width.clamp(5, 8);
-    let most = 5 * AMOUNT_LIMIT as i128;
+    let most = MOST as i128;
     if random.once_in(3) {
         let end = width_end(width) as i128;
         let goal = random.pick(&[end, end + 1, -end - 1, -end - 2, end - 1, -end]);
@@ -333,6 +353,13 @@ pub fn bad_signature(random: &Random) -> Vec<u8> {
 
 // ---- codes
 
+/// The limit of a payload before request E4.
+const OLD_LONGEST_PAYLOAD: usize = 195;
+
+/// Lengths of a payload around the limit, and around the old one. The last is too long.
+pub const PAYLOAD_EDGES: [usize; 5] =
+    [OLD_LONGEST_PAYLOAD, OLD_LONGEST_PAYLOAD + 1, LONGEST_PAYLOAD - 1, LONGEST_PAYLOAD, LONGEST_PAYLOAD + 1];
+
 /// The bytes of a payload of twelve fields that are all empty, but for "R1-".
 const LEAST_PAYLOAD: usize = 15;
 
@@ -362,7 +389,7 @@ pub fn printed(random: &Random, [counter, chain]: [usize; 2], payload: usize) ->
     parts[CHAIN] = random.bytes(chain);
     parts[SIGNED] = if random.once_in(4) { FAILURE.to_vec() } else { random.bytes(64) };
     let mut printed = Printed { parts };
-    for _ in printed.payload_length()..payload {
+    for _ in printed.payload().len()..payload {
         let byte = random.pick(&[random.byte(), random.byte(), b'=', b'A', b'0']);
         printed.parts[random.pick(&FREE)].push(if byte == b'_' { b'-' } else { byte });
     }

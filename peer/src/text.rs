@@ -1,4 +1,4 @@
-//! A text of bytes in an array: written at its end, no heap.
+//! A text of bytes in an array: written at its end, no heap. And bytes in hexadecimal.
 
 #[derive(Clone)]
 pub struct Text<const ROOM: usize> {
@@ -36,4 +36,8 @@ impl<const ROOM: usize> Default for Text<ROOM> {
     fn default() -> Self {
         Self::new()
     }
+}
+
+pub fn hex(bytes: &[u8]) -> String {
+    bytes.iter().map(|byte| format!("{byte:02x}")).collect()
 }

@@ -35,6 +35,11 @@ fn counter_sum() {
 }
 
 #[test]
+fn issue_limits() {
+    vectors::issue_limits(&Library);
+}
+
+#[test]
 fn amount() {
     vectors::amount(&Library);
 }

@@ -4,16 +4,19 @@ mod vectors;
 
 use peer::base64;
 use peer::calls::Peer;
+use peer::code::LONGEST_CODE;
 use peer::crypto::Aes256;
 use peer::layout::{DETAILS, STATE, details_bytes, details_of, state_bytes, state_of};
+use peer::line::{LONGEST_ANY_LINE, LONGEST_LINE};
 use peer::receipt::{
-    Kind, counter_fits, counter_iv, decrypt_counter, encrypt_counter, push_amount, read_amount, read_date, read_entry,
-    read_number,
+    Kind, LONGEST_COMPACT, LONGEST_INPUT, LONGEST_PAYLOAD, counter_fits, counter_iv, decrypt_counter, encrypt_counter,
+    push_amount, read_amount, read_date, read_entry, read_number,
 };
 use peer::register::State;
+use peer::rows::TABLES;
 use peer::settings::{Name, Settings};
 use peer::text::Text;
-use vectors::{amounts_of, cancellation, date_of, kind_of, rows, unhex};
+use vectors::{amounts_of, cancellation, date_of, header, kind_of, rows, text_of, unhex};
 
 #[test]
 fn sha256() {
@@ -43,6 +46,11 @@ fn counter_bytes() {
 #[test]
 fn counter_sum() {
     vectors::counter_sum(&Peer);
+}
+
+#[test]
+fn issue_limits() {
+    vectors::issue_limits(&Peer);
 }
 
 #[test]
@@ -200,6 +208,35 @@ fn counter_parts() {
     }
 }
 
+/// The tables end with the rows that the peer computes.
+#[test]
+fn rows_of_the_peer() {
+    for (table, rows) in TABLES {
+        let (text, rows) = (text_of(table), rows());
+        let lines: Vec<&str> = text.lines().collect();
+        assert_eq!(lines[lines.len().saturating_sub(rows.len())..], rows, "{table}");
+    }
+}
+
+/// The sizes of the header are those that follow from the limits.
+#[test]
+fn sizes_of_the_header() {
+    let header = header();
+    for (name, size) in [
+        ("PAYLOAD", LONGEST_PAYLOAD),
+        ("INPUT", LONGEST_INPUT),
+        ("COMPACT", LONGEST_COMPACT),
+        ("ENTRY", 2 + LONGEST_COMPACT),
+        ("CODE", LONGEST_CODE),
+        ("LINE", LONGEST_LINE),
+        ("ANY_LINE", LONGEST_ANY_LINE),
+    ] {
+        let start = format!("DITGRUX_LONGEST_{name} = ");
+        let number = header.split_once(&start).expect("a size").1.split(|letter: char| !letter.is_ascii_digit()).next();
+        assert_eq!(number, Some(size.to_string().as_str()), "{name}");
+    }
+}
+
 /// Width 8 has no value of i64 outside; sums just outside don't fit.
 #[test]
 fn ends_of_width_8() {
@@ -209,9 +246,9 @@ fn ends_of_width_8() {
 
 #[test]
 fn amounts_written_and_read() {
-    for row in rows("tests/data/amount.tsv", 20) {
+    for row in rows("tests/data/amount.tsv", 26) {
         let cents: i64 = row[0].parse().expect("cents");
-        let mut text = Text::<12>::new();
+        let mut text = Text::<13>::new();
         push_amount(&mut text, cents);
         assert_eq!(text.bytes(), row[1].as_bytes());
         assert_eq!(read_amount(row[1].as_bytes()), Some(cents));
@@ -234,9 +271,13 @@ fn amounts_written_and_read() {
         "1.00",
         "1,0a",
         "a,00",
-        "100000000,00",
-        "-100000000,00",
-        "099999999,99",
+        "1000000000,00",
+        "-1000000000,00",
+        "0999999999,99",
+        // 2^63 cents, -2^63, and 2^64 + 5
+        "92233720368547758,08",
+        "-92233720368547758,08",
+        "184467440737095516,21",
         " 1,00",
         "1,00 ",
         "--1,00",

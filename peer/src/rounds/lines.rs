@@ -7,9 +7,7 @@ use crate::compare::{Compared, demand};
 use crate::line::{LONGEST_ANY_LINE, LONGEST_LINE};
 use crate::model::{CHAIN, COUNTER, Printed, SIGNED, SPELLED, joined};
 use crate::random::Random;
-use crate::receipt::{AMOUNT_LIMIT, Details, FAILURE, LONGEST_PAYLOAD};
-use crate::register::State;
-use crate::settings::{Name, Settings};
+use crate::receipt::{FAILURE, LONGEST_PAYLOAD};
 use crate::{base32, sample};
 
 /// A spelling of bytes: its letters, how many make a whole group, and some bytes that are none of its letters.
@@ -190,7 +188,7 @@ impl Round<'_> {
     pub(super) fn line_of_a_receipt(&mut self, form: &[u8]) -> Compared<usize> {
         let printed = self.printed_of(form)?;
         let length = self.good_line(&printed)?.len();
-        demand(length <= LONGEST_LINE, "a receipt's line is no longer than 308 bytes", form)?;
+        demand(length <= LONGEST_LINE, "a receipt's line is no longer than the longest", form)?;
         Ok(length)
     }
 
@@ -232,8 +230,9 @@ impl Round<'_> {
 
     /// Payloads around the longest, of fields that are longer in a line and of such that are not.
     pub(super) fn lines_at_the_limits(&mut self) -> Compared<()> {
-        for lengths in [[0, 0], [5, 10], [8, 8], [6, 126], [126, 6], [135, 0], [0, 135]] {
-            for payload in [194, 195, 196] {
+        const MOST: usize = sample::LONGEST_FIELD;
+        for lengths in [[0, 0], [5, 10], [8, 8], [6, 126], [126, 6], [MOST, 0], [0, MOST]] {
+            for payload in sample::PAYLOAD_EDGES {
                 let printed = sample::printed(&self.random, lengths, payload);
                 self.line_at_the_limit(&printed)?;
             }
@@ -246,29 +245,11 @@ impl Round<'_> {
     }
 
     fn line_at_the_limit(&mut self, printed: &Printed) -> Compared<()> {
-        if printed.payload_length() > LONGEST_PAYLOAD {
+        if printed.payload().len() > LONGEST_PAYLOAD {
             self.code_refused(&printed.code(), 24)?;
             return self.line_refused(&printed.line());
         }
         self.good_line(printed)?;
-        Ok(())
-    }
-
-    /// A receipt of each width with the longest fields.
-    pub(super) fn longest_receipts(&mut self) -> Compared<()> {
-        for width in 5..=8 {
-            let names = [Name::of(&[b'~'; 32]), Name::of(&[b'f'; 32])];
-            let settings = Settings { id: names[0], serial: names[1], width, ..sample::settings(&self.random) };
-            let state = State { settings, last_number: u32::MAX - 1, receipts: 1, ..State::default() };
-            let date = sample::date(&self.random);
-            let details = Details { number: u32::MAX, date, amounts: [-AMOUNT_LIMIT; 5], kind: 0 };
-            let signature = self.garbage(64);
-            let form = self.form_issued(state, &details, &signature)?;
-            let length = self.line_of_a_receipt(&form)?;
-            // five bytes have eight letters in both spellings
-            let longest = if width == 5 { LONGEST_LINE - 8 } else { LONGEST_LINE };
-            demand(length == longest, "the longest line of a receipt is reached", &form)?;
-        }
         Ok(())
     }
 
@@ -420,7 +401,8 @@ impl Round<'_> {
             return self.unlined(&text);
         }
         let lengths = sample::field_lengths(&self.random);
-        let payload = self.random.pick(&[0, 100, 194, 195, 196, self.random.below(250)]);
+        let edge = self.random.pick(&sample::PAYLOAD_EDGES);
+        let payload = self.random.pick(&[0, 100, edge, edge, edge, self.random.below(250)]);
         let printed = sample::printed(&self.random, lengths, payload);
         self.line_at_the_limit(&printed)?;
         for _ in 0..3 {
@@ -434,7 +416,8 @@ impl Round<'_> {
 
     /// Random bytes, or letters and separators.
     fn any_text(&self) -> Vec<u8> {
-        let length = self.random.pick(&[0, 1, 4, 5, 13, 120, 284, 285, 308, 348, 349, 5000]);
+        let longest = self.random.pick(&[LONGEST_CODE, LONGEST_LINE, LONGEST_ANY_LINE]);
+        let length = self.random.pick(&[0, 1, 4, 5, 13, 120, longest, longest + 1, 5000]);
         if self.random.once_in(2) {
             return self.garbage(length);
         }

@@ -1,22 +1,33 @@
 //! The published vectors, asked of either side through the interface.
 
 use peer::calls::{Calls, Written};
+use peer::code::LONGEST_CODE;
 use peer::crypto::Aes256;
 use peer::layout::{DETAILS, SETTINGS, SIGNATURE, STATE, details_bytes, settings_bytes, state_bytes, state_of};
-use peer::receipt::{Date, Details, counter_iv};
+use peer::receipt::{Date, Details, LONGEST_COMPACT, LONGEST_INPUT, LONGEST_PAYLOAD, counter_iv};
 use peer::register::State;
+use peer::rows::{KINDS, issue_answer, takeover_line, text_answer};
 use peer::settings::{Name, Settings};
+
+/// A file by its place as seen from the peer's folder.
+pub fn text_of(file: &str) -> String {
+    let path = format!("{}/{file}", env!("CARGO_MANIFEST_DIR"));
+    std::fs::read_to_string(&path).unwrap_or_else(|error| panic!("{path}: {error}"))
+}
+
+pub fn header() -> String {
+    text_of("../include/ditgrux.h")
+}
 
 /// A table of tests/data, or ../tests: one header line that begins with "#", columns parted by a tab. The number of rows
 /// is asked, so that a table that was cut fails.
 pub fn rows(file: &str, count: usize) -> Vec<Vec<String>> {
-    let path = format!("{}/{file}", env!("CARGO_MANIFEST_DIR"));
-    let text = std::fs::read_to_string(&path).unwrap_or_else(|error| panic!("{path}: {error}"));
+    let text = text_of(file);
     let mut lines = text.lines();
     let columns = lines.next().expect("a header line").strip_prefix('#').expect("begins with #").split('\t').count();
     let rows: Vec<Vec<String>> = lines.map(|line| line.split('\t').map(str::to_owned).collect()).collect();
-    assert!(rows.iter().all(|row| row.len() == columns), "{path}: a row with other columns");
-    assert_eq!(rows.len(), count, "{path}: rows");
+    assert!(rows.iter().all(|row| row.len() == columns), "{file}: a row with other columns");
+    assert_eq!(rows.len(), count, "{file}: rows");
     rows
 }
 
@@ -31,7 +42,7 @@ pub fn amounts_of(text: &str) -> [i64; 5] {
 }
 
 pub fn kind_of(text: &str) -> u32 {
-    ["standard", "cancellation", "training"].iter().position(|kind| *kind == text).expect("a kind") as u32
+    KINDS.iter().position(|kind| *kind == text).expect("a kind") as u32
 }
 
 pub fn date_of(text: &str) -> Date {
@@ -57,13 +68,13 @@ fn state(id: &str, key: [u8; 32], width: u64, counter: i64, last_number: u32, re
 
 /// The twelve fields of what Prepare writes.
 fn prepared_fields(side: &dyn Calls, state: &State, details: &Details) -> Result<Vec<String>, u32> {
-    let mut output = [0; 281];
+    let mut output = [0; LONGEST_INPUT];
     let written = side.prepare(&state_bytes(state), details, &mut output);
     if written.number != 0 {
         return Err(written.number);
     }
     let payload = output[..written.length].strip_prefix(b"eyJhbGciOiJFUzI1NiJ9.").expect("the header element");
-    let mut text = [0; 195];
+    let mut text = [0; LONGEST_PAYLOAD];
     let read = side.unbase64(1, payload, &mut text);
     assert_eq!(read.number, 0);
     let text = std::str::from_utf8(&text[..read.length]).expect("a payload of ASCII");
@@ -216,8 +227,18 @@ pub fn counter_sum(side: &dyn Calls) {
     }
 }
 
+/// States made by hand near both ends of every width.
+pub fn issue_limits(side: &dyn Calls) {
+    for row in rows("tests/data/issue-limits.tsv", 160) {
+        let [before, after] = [&row[3], &row[6]].map(|cents| cents.parse().expect("cents"));
+        let receipt = (amounts_of(&row[4]), kind_of(&row[2]));
+        let answer = issue_answer(side, row[1].parse().expect("a width"), before, receipt);
+        assert_eq!(answer, (row[5].parse().expect("a number"), after), "{}", row[0]);
+    }
+}
+
 pub fn amount(side: &dyn Calls) {
-    for row in rows("tests/data/amount.tsv", 20) {
+    for row in rows("tests/data/amount.tsv", 26) {
         let cents: i64 = row[0].parse().expect("cents");
         let state = state("K-1", [9; 32], 5, 0, 1, 1);
         for place in 0..5 {
@@ -246,25 +267,9 @@ pub fn compact(side: &dyn Calls) {
 }
 
 pub fn code(side: &dyn Calls) {
-    for row in rows("tests/data/code.tsv", 130) {
-        let (input, number, expected) = (unhex(&row[2]), row[3].parse::<u32>().expect("a number"), unhex(&row[4]));
-        let mut output = vec![0; 400];
-        let (answer, bytes) = match row[1].as_str() {
-            "code" => {
-                let written = side.code(&input, &mut output);
-                (written.number, &output[..written.length])
-            }
-            "uncode" => {
-                let written = side.uncode(&input, &mut output);
-                (written.number, &output[..written.length])
-            }
-            "fields" => {
-                let part = side.fields(&input);
-                (part.number, &input[part.start..part.start + part.length])
-            }
-            other => panic!("{other}"),
-        };
-        assert_eq!((answer, bytes), (number, &expected[..]), "{} {}", row[0], row[1]);
+    for row in rows("tests/data/code.tsv", 142) {
+        let expected = (row[3].parse().expect("a number"), unhex(&row[4]));
+        assert_eq!(text_answer(side, &row[1], &unhex(&row[2])), expected, "{} {}", row[0], row[1]);
     }
 }
 
@@ -290,7 +295,7 @@ pub fn journals(side: &dyn Calls) {
             };
             let compact = &receipt[8];
             assert_eq!(state_of(&held).chain.to_vec(), unhex(&receipt[9]), "{name}");
-            let mut input = [0; 281];
+            let mut input = [0; LONGEST_INPUT];
             let written = side.prepare(&held, &details, &mut input);
             let second_dot = compact.rfind('.').expect("two dots");
             assert_eq!(
@@ -319,24 +324,8 @@ pub fn journals(side: &dyn Calls) {
     assert_eq!(seen, 13);
 }
 
-/// What the program takeover prints for its standard input.
-fn takeover_line(side: &dyn Calls, input: &[u8]) -> String {
-    if !(33..=65_536).contains(&input.len()) {
-        return "refused 25 0".to_owned();
-    }
-    let mut held = [0; STATE];
-    let answer = side.take_over(&input[33..], &input[1..33], input[0] as usize, &mut held);
-    match answer.number {
-        0 => format!("accepted {} {}", side.receipts(&held), side.counter(&held)),
-        number => {
-            assert_eq!(held, [0; STATE], "the unopened state");
-            format!("refused {number} {}", answer.index)
-        }
-    }
-}
-
 pub fn takeover(side: &dyn Calls) {
-    for row in rows("../tests/takeover.tsv", 273) {
+    for row in rows("../tests/takeover.tsv", 325) {
         let mut input = unhex(&row[1]);
         input.resize(input.len() + row[2].parse::<usize>().expect("a number of zeros"), 0);
         assert_eq!(takeover_line(side, &input), row[3], "{}", row[0]);
@@ -357,9 +346,17 @@ pub fn paper(side: &dyn Calls) {
     assert_eq!(issue(&register(end, 1), &details([1, 0, 0, 0, 0], 1), &[1; 64]), 11);
     assert_eq!(issue(&register(end, 1), &details([1, 0, 0, 0, 0], 2), &[1; 64]), 0);
     assert_eq!(issue(&register(-end - 1, 1), &details([-1, 0, 0, 0, 0], 0), &[1; 64]), 11);
-    assert_eq!(issue(&register(0, 1), &details([0, 0, 9_999_999_999, 0, 0], 0), &[1; 64]), 0);
-    assert_eq!(issue(&register(0, 1), &details([0, 0, 10_000_000_000, 0, 0], 0), &[1; 64]), 9);
-    assert_eq!(issue(&register(0, 1), &details([0, 0, i64::MIN, 0, 0], 2), &[1; 64]), 9);
+    for (amount, number) in [
+        (99_999_999_999, 0),
+        (-99_999_999_999, 0),
+        (100_000_000_000, 9),
+        (-100_000_000_000, 9),
+        (i64::MAX, 9),
+        (i64::MIN, 9),
+    ] {
+        assert_eq!(issue(&register(0, 1), &details([0, 0, amount, 0, 0], 0), &[1; 64]), number, "{amount}");
+        assert_eq!(issue(&register(0, 1), &details([0, 0, amount, 0, 0], 2), &[1; 64]), number, "{amount}");
+    }
     assert_eq!(issue(&register(0, 0), &details([1, -1, 0, 0, 0], 0), &[1; 64]), 10);
     assert_eq!(issue(&register(0, 1), &details([0; 5], 0), &[1; 63]), 12);
     assert_eq!(issue(&register(0, 1), &details([0; 5], 0), b"Sicherheitseinrichtung ausgefallen"), 12);
@@ -383,8 +380,7 @@ pub fn paper(side: &dyn Calls) {
 
 /// The version that the header has.
 pub fn version(side: &dyn Calls) {
-    let path = format!("{}/../include/ditgrux.h", env!("CARGO_MANIFEST_DIR"));
-    let header = std::fs::read_to_string(&path).unwrap_or_else(|error| panic!("{path}: {error}"));
+    let header = header();
     let number = header.lines().find_map(|line| line.strip_prefix("#define DITGRUX_VERSION ")).expect("a version");
     assert_eq!(side.version().to_string(), number);
 }
@@ -398,10 +394,10 @@ fn by_hand() -> Settings {
 
 /// A cancellation, and its details as bytes: number, year, month, day, hour, minute, second, kind, and the five amounts.
 const CANCELLATION: &str =
-    "_R1-AT0_K-1_12_2016-02-29T08:05:00_-10,50_0,00_-0,05_99999999,99_-99999999,99_U1RP_2a_AAAAAAAAAAA=";
+    "_R1-AT0_K-1_12_2016-02-29T08:05:00_-10,50_0,00_-0,05_999999999,99_-999999999,99_U1RP_2a_AAAAAAAAAAA=";
 const CANCELLATION_BYTES: &str = concat!(
     "0000000c 000007e0 00000002 0000001d 00000008 00000005 00000000 00000001 ",
-    "fffffffffffffbe6 0000000000000000 fffffffffffffffb 00000002540be3ff fffffffdabf41c01",
+    "fffffffffffffbe6 0000000000000000 fffffffffffffffb 000000174876e7ff ffffffe8b7891801",
 );
 
 /// A sale with a counter field of five bytes.
@@ -409,7 +405,7 @@ const SALE: &str = "_R1-AT0_K-1_7_2016-02-29T08:05:00_10,50_0,00_0,00_0,78_-0,05
 
 /// The details of the cancellation, by name and as the 72 bytes of the header.
 pub fn cancellation() -> (Details, Vec<u8>) {
-    let amounts = [-1050, 0, -5, 9_999_999_999, -9_999_999_999];
+    let amounts = [-1050, 0, -5, 99_999_999_999, -99_999_999_999];
     (Details { number: 12, date: GOOD_DATE, amounts, kind: 1 }, unhex(&CANCELLATION_BYTES.replace(' ', "")))
 }
 
@@ -538,7 +534,8 @@ pub fn read_fields_refused(side: &dyn Calls) {
         ("_10,50", "_010,50"),
         ("_10,50", "_10.50"),
         ("_10,50", "_-0,00"),
-        ("_10,50", "_100000000,00"),
+        ("_10,50", "_1000000000,00"),
+        ("_10,50", "_-1000000000,00"),
         ("_-0,05", "_--0,05"),
         // six bytes, five with stray bits, five without padding, "STN"
         ("_AAAAAAA=", "_AAAAAAAA"),
@@ -648,7 +645,7 @@ fn assert_no_code(side: &dyn Calls, line: &[u8], name: &str) {
 }
 
 pub fn ocr_line(side: &dyn Calls) {
-    for row in rows("tests/data/ocr-line.tsv", 60) {
+    for row in rows("tests/data/ocr-line.tsv", 86) {
         let (input, output) = (unhex(&row[2]), unhex(&row[4]));
         match (row[1].as_str(), row[3].as_str()) {
             ("to-line", "0") => assert_line(side, &input, &output, &row[0]),
@@ -819,9 +816,9 @@ fn line_and_back(side: &dyn Calls, code: &[u8]) -> Vec<u8> {
     line
 }
 
-/// The receipt with the longest fields, of each width and kind: no line is longer than 308 bytes, and some are as long.
+/// The receipt with the longest fields, of each width and kind: no line is longer than 313 bytes, and some are as long.
 pub fn longest_line_of_a_receipt(side: &dyn Calls) {
-    for (width, kind, length) in [(5, 0, 300), (6, 0, 308), (7, 0, 308), (8, 0, 308), (8, 1, 300), (8, 2, 300)] {
+    for (width, kind, length) in [(5, 0, 305), (6, 0, 313), (7, 0, 313), (8, 0, 313), (8, 1, 305), (8, 2, 305)] {
         let names = [Name::of(&[b'~'; 32]), Name::of(&[b'f'; 32])];
         let settings = Settings { csp: *b"ZZ9", id: names[0], serial: names[1], width, key: [9; 32] };
         let head = settings.head_length();
@@ -832,8 +829,8 @@ pub fn longest_line_of_a_receipt(side: &dyn Calls) {
             journal_length: head as u64,
             ..State::default()
         };
-        let details = Details { number: 4_294_967_295, date: GOOD_DATE, amounts: [-9_999_999_999; 5], kind };
-        let (mut held, mut journal, mut code) = (state_bytes(&held), [0; 83 + 370], [0; 284]);
+        let details = Details { number: 4_294_967_295, date: GOOD_DATE, amounts: [-99_999_999_999; 5], kind };
+        let (mut held, mut journal, mut code) = (state_bytes(&held), [0; 83 + 2 + LONGEST_COMPACT], [0; LONGEST_CODE]);
         assert_eq!(side.issue(&mut held, &details, &[0xa5; 64], &mut journal), 0);
         let written = side.code(&journal[head + 2..side.journal_length(&held)], &mut code);
         assert_eq!(written.number, 0);
@@ -850,27 +847,27 @@ fn code_of_lengths(side: &dyn Calls, [counter, chain]: [usize; 2], payload: usiz
     [&fields[..], b"_", &encoded(side, 0, &[0x5a; 64])].concat()
 }
 
-/// Codes with the longest payload, 195 bytes, whose fields are of all lengths: no line is longer than 348 bytes, and some
+/// Codes with the longest payload, 200 bytes, whose fields are of all lengths: no line is longer than 353 bytes, and some
 /// are as long. With one byte more there is no code, and so no line.
 pub fn longest_line_of_a_code(side: &dyn Calls) {
     let mut longest = 0;
-    for counter in 0..=135 {
-        let left = 180 - encoded(side, 0, &vec![0; counter]).len();
+    for counter in 0..=138 {
+        let left = 185 - encoded(side, 0, &vec![0; counter]).len();
         for chain in [0, 1, 6, left / 4 * 3].into_iter().filter(|chain| chain.div_ceil(3) * 4 <= left) {
-            let line = line_and_back(side, &code_of_lengths(side, [counter, chain], 195));
+            let line = line_and_back(side, &code_of_lengths(side, [counter, chain], 200));
             longest = longest.max(line.len());
         }
     }
-    assert_eq!(longest, 348);
+    assert_eq!(longest, 353);
     for lengths in [[126, 6], [6, 126]] {
-        assert_eq!(line_and_back(side, &code_of_lengths(side, lengths, 195)).len(), 348);
+        assert_eq!(line_and_back(side, &code_of_lengths(side, lengths, 200)).len(), 353);
     }
-    for lengths in [[126, 6], [6, 126], [0, 0], [8, 8], [135, 0], [0, 135]] {
-        let good = line_and_back(side, &code_of_lengths(side, lengths, 195));
-        assert_no_line(side, &code_of_lengths(side, lengths, 196), 24, "196 bytes of payload");
+    for lengths in [[126, 6], [6, 126], [0, 0], [8, 8], [138, 0], [0, 138]] {
+        let good = line_and_back(side, &code_of_lengths(side, lengths, 200));
+        assert_no_line(side, &code_of_lengths(side, lengths, 201), 24, "201 bytes of payload");
         // the same byte more in the line, in a field that is copied
         let mut line = good.clone();
         line.insert(5, b'x');
-        assert_no_code(side, &line, "196 bytes of payload");
+        assert_no_code(side, &line, "201 bytes of payload");
     }
 }
