@@ -97,6 +97,8 @@ fn run_journals() {
     run(b't', b"takeover-4.tsv");
     run(b't', b"takeover-5.tsv");
     run(b't', b"takeover-6.tsv");
+    run(b't', b"takeover-7.tsv");
+    run(b't', b"takeover-8.tsv");
 }
 
 fn main() {
