@@ -245,6 +245,7 @@ static int line_and_back(const char *title, size_t longest)
  * what fills it up. */
 static void make_longest_line(void)
 {
+    /* places of the "_" before these fields; from the ID's on there are eleven "_", 8 letters of counter and 168 of chain */
     enum { ID = DITGRUX_LONGEST_PAYLOAD - 187, COUNTER = ID + 8, SERIAL = COUNTER + 1 + 8, CHAIN = SERIAL + 1 };
     static const uint8_t fields[] = {0, ID, ID + 1, ID + 2, ID + 3, ID + 4, ID + 5, ID + 6, ID + 7, COUNTER, SERIAL, CHAIN,
                                      DITGRUX_LONGEST_PAYLOAD};

@@ -12,6 +12,7 @@ pub mod FirstNo
 pub mod FirstRefusal
 pub mod Heads
 pub mod IssueCalls
+pub mod JournalStates
 pub mod OpenCalls
 pub mod Places
 pub mod PreparedTexts

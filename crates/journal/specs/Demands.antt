@@ -21,7 +21,7 @@ use Rattle.journal.specs.Issuing.{textOf, issueNumber, issued, issueBuff
 use Rattle.journal.specs.Preparing.{preparedText, prepareNumber, prepareAnswer, prepareBuffer}
 use Rattle.journal.specs.Checking.{refused, accepted, takeOver, full, stepChecked, entryChecked, readBySteps}
 use Rattle.journal.specs.Receipts.{receiptsIn, sum}
-use Rattle.journal.specs.Valid.{Valid, texts, stateOf}
+use Rattle.journal.specs.Valid.{Valid, texts, stateAfter}
 use Rattle.journal.specs.FirstNo.{NoAt}
 use Rattle.journal.specs.Calls.{Call, TypedCalls, Register, journalOf, opening, calls, numbersOf, receiptsOf, callsOf}
 use Rattle.journal.specs.declared.state.State.{State}
@@ -36,7 +36,7 @@ AcceptedIsValid =
 
 -- the state that it returns is the one of the journal's head and entries
 abbrev pub StateOfJournal : Type 0
-StateOfJournal = (j key : List ℕ) (n : ℕ) (v : Valid j key n) → takeOver j key n ≡ accepted (stateOf (v .settings) key n (v .entries))
+StateOfJournal = (j key : List ℕ) (n : ℕ) (v : Valid j key n) → takeOver j key n ≡ accepted (stateAfter (v .settings) key n (v .entries))
 
 -- a journal is valid with only one head and one list of entries
 abbrev pub OneReading : Type 0

@@ -64,7 +64,7 @@ unfoldable pub newCounter : State → Details → After
 newCounter st d = counterAfter (st .width) (st .counter) d
 
 -- 7 to 11, and then the rest. 8: "Year 2000 to 2099, date in the Gregorian calendar, hour 0 to 23, minute and second 0 to 59?" 9: "Amounts within limits?"
--- The limit of an amount is a parameter of 9. The guard in 11 has the limit of the calls; after a yes to 9 under a lower limit it says yes
+-- The limit of an amount is a parameter of 9. The guard in 11 has the limit of the calls: after a yes to 9 under a limit that is not higher, the guard holds
 unfoldable pub detailsNumberWithin : ℕ → State → Details → ℕ → ℕ
 detailsNumberWithin limit st d rest =
     ask (numberAbove st d) 7

@@ -36,8 +36,8 @@ chainOf s n chain [] = chain
 chainOf s n chain (e ∷ es) = chainOf s n (chainValue (compact s n e)) es
 
 -- the state of a register whose journal has this head and these entries
-unfoldable pub stateOf : Settings → List ℕ → ℕ → List Entry → State
-stateOf s key n es =
+unfoldable pub stateAfter : Settings → List ℕ → ℕ → List Entry → State
+stateAfter s key n es =
     record {
       settings = s;
       width = n;

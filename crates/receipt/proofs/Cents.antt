@@ -16,6 +16,7 @@ use mir.Val.{SFits, toZ, ofZ}
 use mir.Facts.{toZ-ofZ, toZ-pos}
 use Rattle.primitives.specs.Place.{overwrite}
 use Rattle.receipt.specs.Decimal.{fixedOnto, fixed, digits, readLimit, valueFrom, valueOf}
+use Rattle.receipt.specs.Exact.{AmountIsShort}
 use Rattle.receipt.specs.Amount.{cents, amount, amountLimit, longestAmount, withinLimit, within, readAmount}
 use Rattle.primitives.proofs.Rows.{true-is-not-false}
 use Rattle.primitives.proofs.Over.{then}
@@ -66,7 +67,7 @@ within-most z e = leb-true (natAbs z) amountLimit e
 cents-short : (m : ℕ) → m ≤ amountLimit → suc (length (cents m)) ≤ longestAmount
 cents-short m h = omega (arith, length-cents m, length-digits (m / 100), width-short 8 (m / 100) (omega arith))
 
-pub amount-short : (z : ℤ) → withinLimit z ≡ true → length (amount z) ≤ longestAmount
+pub amount-short : AmountIsShort
 unfolding amount
 amount-short (pos n) e = omega (arith, cents-short n (within-most (pos n) e))
 amount-short (negsuc n) e = omega (arith, cents-short (suc n) (within-most (negsuc n) e))

@@ -572,10 +572,10 @@ module _ {m : Marks} (text : List ℕ) (e : Ends) (bytes : List ℕ) (there : Al
         short : m .counter ≤ longestPayload
         short = omega (arith, start-long, payload-most (f .start) (yes asked started))
 
-        small₁ : x ≤ 348
+        small₁ : x ≤ 2 * longestFields
         small₁ = omega (arith, long₁, part-most bytes 0 (e .counter) most)
 
-        small₂ : y ≤ 348
+        small₂ : y ≤ 2 * longestFields
         small₂ = omega (arith, long₂, part-most bytes (e .counter) (e .chain) most)
 
         pub fits₁ : Fits w64 (m .counter + x)

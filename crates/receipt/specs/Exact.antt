@@ -1,13 +1,15 @@
--- Laws of entries and their compact forms, as statements; the proofs are in proofs/ExactEntry.antt.
+-- Laws of entries and their compact forms, as statements; the proofs are in proofs/ExactEntry.antt and Cents.antt.
 use Prim.Native.Nat.{ℕ, _≤_, _<_}
 use mathlib.Core.Path.{_≡_}
 use mathlib.Core.Bool.{true, false}
 use mathlib.Core.List.{List, [], _∷_, _++_}
+use lib.IntN.{ℤ}
 use lib.ListN.{length, take}
 use Rattle.primitives.specs.Bytes.{AllBytes}
 use Rattle.primitives.specs.Base64.{encoding}
 use Rattle.primitives.specs.declared.base64.Alphabet.the-variants.{UrlSafe}
 use Rattle.receipt.specs.Settings.{SettingsLengths, SettingsBytes}
+use Rattle.receipt.specs.Amount.{amount, longestAmount, withinLimit}
 use Rattle.receipt.specs.Payload.{TypedFields, payload, longestPayload}
 use Rattle.receipt.specs.Form.{secondDot}
 use Rattle.receipt.specs.Texts.{dot}
@@ -40,6 +42,10 @@ abbrev pub OneSpelling : Type 0
 OneSpelling =
     (s : Settings) (n : ℕ) (e f : Entry) → SettingsLengths s → SettingsBytes s → TypedEntry e → TypedEntry f → spellable s n e ≡ true → spellable s n f ≡ true
     → compact s n e ≡ compact s n f → e ≡ f
+
+-- an amount within the limit is no longer than the longest
+abbrev pub AmountIsShort : Type 0
+AmountIsShort = (z : ℤ) → withinLimit z ≡ true → length (amount z) ≤ longestAmount
 
 -- "A payload is at most 200 bytes"
 abbrev pub PayloadIsShort : Type 0
