@@ -1007,7 +1007,7 @@ impl Round<'_> {
         let accepted = Accepted { settings, journal: Vec::new(), receipts: Vec::new() };
         let (sign, last) = self.end_of(5);
         let over = self.random.pick(&[0, 0, 1, 2]);
-        let left = sample::amounts_with_sum(&self.random, last - sign * (sample::MOST - over));
+        let left = sample::amounts_with_sum(&self.random, last - sign * (sample::FIVE_LARGEST - over));
         // the most that a receipt can add, then to the end or over it, then a cent more, then back
         let amounts = [[0; 5], [sign * AMOUNT_LIMIT; 5], left, [sign, 0, 0, 0, 0], [-sign * 100, 0, 0, 0, 0]];
         let receipts: Vec<Given> = (0..self.random.pick(&[3, 4, 5]))
@@ -1040,7 +1040,7 @@ impl Round<'_> {
             details.number += 1;
             details.amounts = [sign * AMOUNT_LIMIT; 5];
             let left = last - state_of(&state).counter;
-            if left.abs() <= sample::MOST {
+            if left.abs() <= sample::FIVE_LARGEST {
                 details.amounts = sample::amounts_with_sum(&self.random, left);
                 break;
             }
