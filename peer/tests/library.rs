@@ -1,4 +1,4 @@
-//! The static library against the published vectors, where its interface reaches them.
+//! The static library against the vectors, where its interface reaches them.
 
 mod vectors;
 
