@@ -1,2 +1,2 @@
-# src/receipt.rs: the old limit kept for amounts below zero
+# src/receipt.rs: the former limit kept for amounts below zero
 s/\(-AMOUNT_LIMIT\.\.=AMOUNT_LIMIT\)/(-9_999_999_999..=AMOUNT_LIMIT)/

@@ -1,2 +1,2 @@
-# src/receipt.rs: the old limit kept for amounts above zero
+# src/receipt.rs: the former limit kept for amounts above zero
 s/\(-AMOUNT_LIMIT\.\.=AMOUNT_LIMIT\)/(-AMOUNT_LIMIT..=9_999_999_999)/

@@ -1,2 +1,2 @@
-# src/receipt.rs: the old amount limit kept for 16
+# src/receipt.rs: the former amount limit kept for 16
 s/filter\(\|&amount\| amount_good\(amount\)\)/filter(|amount| amount.unsigned_abs() <= 9_999_999_999)/

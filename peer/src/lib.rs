@@ -13,6 +13,8 @@ pub mod crypto;
 #[cfg(feature = "device")]
 pub mod device;
 #[cfg(feature = "device")]
+pub mod filling;
+#[cfg(feature = "device")]
 pub mod fuzz;
 pub mod layout;
 pub mod line;

@@ -16,7 +16,7 @@ pub const LONGEST_ANY_LINE: usize = LONGEST_PAYLOAD + 8 + 40 + 1 + base32::padde
 type LineText = Text<LONGEST_ANY_LINE>;
 
 /// More bytes are in no field of a payload.
-const LONGEST_FIELD: usize = LONGEST_PAYLOAD / 4 * 3;
+const FIELD_ROOM: usize = LONGEST_PAYLOAD / 4 * 3;
 
 /// A payload of twelve fields, in four parts: up to the counter field, that field, up to the chain field, that field.
 /// None where there are more fields, or less.
@@ -42,7 +42,7 @@ fn push_base64(text: &mut LineText, data: &[u8]) {
 
 /// Adds a field of BASE64 in BASE32; None where it is not canonical.
 fn push_in_base32(text: &mut LineText, field: &[u8]) -> Option<()> {
-    let mut data = [0; LONGEST_FIELD];
+    let mut data = [0; FIELD_ROOM];
     let length = base64::read_padded(field, &mut data)?;
     push_base32(text, &data[..length]);
     Some(())
@@ -50,7 +50,7 @@ fn push_in_base32(text: &mut LineText, field: &[u8]) -> Option<()> {
 
 /// Adds a field of BASE32 in BASE64; None where it is not canonical, or longer than a field can be.
 fn push_in_base64(text: &mut LineText, field: &[u8]) -> Option<()> {
-    let mut data = [0; LONGEST_FIELD];
+    let mut data = [0; FIELD_ROOM];
     let length = base32::read_padded(field, &mut data)?;
     push_base64(text, &data[..length]);
     Some(())

@@ -346,7 +346,7 @@ pub fn read_date(text: &[u8]) -> Option<Date> {
     date.good().then_some(date)
 }
 
-/// An amount as it is spelled, within the limits or not; None where i64 does not have it.
+/// An amount as it is spelled, within the limits or not; None where the cents without their sign are beyond i64.
 pub fn read_cents(text: &[u8]) -> Option<i64> {
     let (negative, unsigned) = match text {
         [b'-', unsigned @ ..] => (true, unsigned),

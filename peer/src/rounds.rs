@@ -5,6 +5,7 @@ mod lines;
 
 use crate::calls::{Calls, Peer};
 use crate::compare::{Compare, Compared, demand};
+use crate::filling::fill_width;
 use crate::layout::{DETAILS, SETTINGS, SIGNATURE, STATE, details_of, settings_bytes, state_bytes, state_of};
 use crate::model::{CHAIN, COUNTER, Entry, FIRST_AMOUNT, Given, Journal, NUMBER, padded_text, spelled, url_text};
 use crate::random::Random;
@@ -1007,7 +1008,7 @@ impl Round<'_> {
         let accepted = Accepted { settings, journal: Vec::new(), receipts: Vec::new() };
         let (sign, last) = self.end_of(5);
         let over = self.random.pick(&[0, 0, 1, 2]);
-        let left = sample::amounts_with_sum(&self.random, last - sign * (sample::MOST - over));
+        let left = sample::amounts_with_sum(&self.random, last - sign * (sample::FIVE_LARGEST - over));
         // the most that a receipt can add, then to the end or over it, then a cent more, then back
         let amounts = [[0; 5], [sign * AMOUNT_LIMIT; 5], left, [sign, 0, 0, 0, 0], [-sign * 100, 0, 0, 0, 0]];
         let receipts: Vec<Given> = (0..self.random.pick(&[3, 4, 5]))
@@ -1027,45 +1028,12 @@ impl Round<'_> {
         self.random.pick(&[(1, end), (-1, !end)])
     }
 
-    /// Width 6 to its end, which takes 282 receipts after the first.
+    /// Width 6 to one of its ends.
     fn long_journal(&mut self) -> Compared<()> {
         let settings = Settings { width: 6, id: Name::of(b"6"), ..sample::settings(&self.random) };
-        let mut journal = vec![0; settings.head_length() + 283 * (2 + LONGEST_COMPACT)];
-        let mut state = vec![0; STATE];
-        Peer.open(&settings_bytes(&settings), &mut journal, &mut state);
-        let mut details = Details { number: 1, date: sample::date(&self.random), amounts: [0; 5], kind: 0 };
-        let (sign, last) = self.end_of(6);
-        loop {
-            Peer.issue(&mut state, &details, &[], &mut journal);
-            details.number += 1;
-            details.amounts = [sign * AMOUNT_LIMIT; 5];
-            let left = last - state_of(&state).counter;
-            if left.abs() <= sample::MOST {
-                details.amounts = sample::amounts_with_sum(&self.random, left);
-                break;
-            }
-        }
-        self.compare.issue(&mut state, &details, &[], &mut journal)?;
-        let held: State = state_of(&state);
-        journal.truncate(held.journal_length as usize);
-        let accepted = Accepted { settings, journal, receipts: Vec::new() };
-        let mut taken = vec![0; STATE];
-        let answer = self.compare.take_over(&accepted.journal, &settings.key, 6, &mut taken)?;
-        demand(answer.number == 0 && taken == state, "a long journal is accepted", &accepted.journal)?;
-
-        let mut longer = Journal::of(&accepted.journal);
-        let mut over = longer.entries.last().expect("entries").clone();
-        over.fields[NUMBER] = (held.last_number + 1).to_string().into_bytes();
-        over.fields[FIRST_AMOUNT..FIRST_AMOUNT + 5].fill(b"0,00".to_vec());
-        over.fields[FIRST_AMOUNT] = spelled(sign);
-        over.fields[COUNTER] = self.random.pick(&[&b"U1RP"[..], b"AAAAAAAA"]).to_vec();
-        longer.entries.push(over);
-        longer.count += 1;
-        let place = longer.entries.len() - 1;
-        longer.counters_right(place, &settings.key, 6);
-        longer.chain_right(place);
-        let bytes = longer.bytes();
-        self.take_over(&accepted, &bytes)
+        let end = self.end_of(6);
+        let receipts = fill_width(self.compare, &Peer, &self.random, &settings, end)?;
+        demand(receipts == 283, "width 6 takes 283 receipts", &settings_bytes(&settings))
     }
 
     // ---- codes

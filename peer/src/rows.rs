@@ -6,7 +6,7 @@ use crate::layout::{STATE, state_bytes};
 use crate::model::{CHAIN, COUNTER, Given, Journal, Printed, SIGNED, spelled};
 use crate::receipt::{AMOUNT_LIMIT, Date, Details, LONGEST_COMPACT, LONGEST_INPUT, LONGEST_PAYLOAD};
 use crate::register::State;
-use crate::sample::{ENDS, LAST_AMOUNTS, MOST, NEW_AMOUNTS, NEXT_AMOUNTS, PAYLOAD_EDGES, width_end};
+use crate::sample::{ENDS, FIVE_LARGEST, LAST_AMOUNTS, NEW_AMOUNTS, NEXT_AMOUNTS, PAYLOAD_EDGES, width_end};
 use crate::settings::{Name, Settings};
 use crate::text::hex;
 
@@ -127,7 +127,7 @@ fn width_rows(width: u64) -> [String; 5] {
 
 /// Width 5 to one of its ends by the largest receipt and one more; then a cent beyond, in each kind.
 fn end_rows(name: &str, sign: i64, last: i64) -> [String; 4] {
-    let left = last - sign * MOST;
+    let left = last - sign * FIVE_LARGEST;
     let to_the_end = [([sign * AMOUNT_LIMIT; 5], 0), ([0, 0, left, 0, 0], 0)];
     let row = |end: &str, more: &[Receipt]| {
         journal_row(&format!("width-5-{name}-largest{end}"), 5, &[&to_the_end[..], more].concat())
@@ -259,7 +259,7 @@ fn issue_limits() -> Vec<String> {
 /// Receipts of every kind that reach the last counter of a width, or would go beyond it, and amounts beyond their limit.
 fn counter_rows(end: &str, width: u64, sign: i64, last: i64) -> Vec<String> {
     let largest = sign * AMOUNT_LIMIT;
-    let far = last - sign * MOST;
+    let far = last - sign * FIVE_LARGEST;
     let (all, one) = ([largest; 5], [0, largest, 0, 0, 0]);
     let and_back = [largest, -largest, sign, -sign, 0];
     let beyond = [0, 0, 0, 0, largest + sign];

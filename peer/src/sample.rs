@@ -121,7 +121,7 @@ pub fn width_end(width: u64) -> i64 {
 }
 
 /// The most that one receipt adds to the counter.
-pub const MOST: i64 = 5 * AMOUNT_LIMIT;
+pub const FIVE_LARGEST: i64 = 5 * AMOUNT_LIMIT;
 
 /// A sound state that mostly no list reaches; its journal length is at most `longest` bytes after the head.
 pub fn sound_state(random: &Random, longest: usize) -> State {
@@ -131,8 +131,8 @@ pub fn sound_state(random: &Random, longest: usize) -> State {
         0 => 0,
         1 => end,
         2 => !end,
-        3 => end - random.between(0, MOST + AMOUNT_LIMIT),
-        4 => !end + random.between(0, MOST + AMOUNT_LIMIT),
+        3 => end - random.between(0, FIVE_LARGEST + AMOUNT_LIMIT),
+        4 => !end + random.between(0, FIVE_LARGEST + AMOUNT_LIMIT),
         5 => random.between(-1_000_000, 1_000_000),
         _ => random.between(!end, end),
     };
@@ -218,13 +218,14 @@ pub fn bad_date(random: &Random) -> Date {
 }
 
 /// The limit of an amount before request E4.
-const OLD_AMOUNT_LIMIT: i64 = 9_999_999_999;
+const FORMER_AMOUNT_LIMIT: i64 = 9_999_999_999;
 
-/// Good amounts up to the old limit.
-pub const OLD_AMOUNTS: [i64; 3] = [0, OLD_AMOUNT_LIMIT, -OLD_AMOUNT_LIMIT];
+/// Good amounts up to the former limit.
+pub const FORMER_AMOUNTS: [i64; 3] = [0, FORMER_AMOUNT_LIMIT, -FORMER_AMOUNT_LIMIT];
 
-/// Good amounts one cent beyond the old limit, and one cent below the limit.
-pub const NEW_AMOUNTS: [i64; 4] = [OLD_AMOUNT_LIMIT + 1, -OLD_AMOUNT_LIMIT - 1, AMOUNT_LIMIT - 1, 1 - AMOUNT_LIMIT];
+/// Good amounts one cent beyond the former limit, and one cent below the limit.
+pub const NEW_AMOUNTS: [i64; 4] =
+    [FORMER_AMOUNT_LIMIT + 1, -FORMER_AMOUNT_LIMIT - 1, AMOUNT_LIMIT - 1, 1 - AMOUNT_LIMIT];
 
 /// Amounts at the limit.
 pub const LAST_AMOUNTS: [i64; 2] = [AMOUNT_LIMIT, -AMOUNT_LIMIT];
@@ -239,7 +240,7 @@ pub const ENDS: [i64; 2] = [i64::MAX, i64::MIN];
 pub fn amount(random: &Random) -> i64 {
     match random.below(8) {
         0 | 1 => 0,
-        2 => random.pick(&[&OLD_AMOUNTS[..], &NEW_AMOUNTS, &LAST_AMOUNTS].concat()),
+        2 => random.pick(&[&FORMER_AMOUNTS[..], &NEW_AMOUNTS, &LAST_AMOUNTS].concat()),
         3 => random.between(-AMOUNT_LIMIT, AMOUNT_LIMIT),
         4 => random.pick(&[
             1,
@@ -299,7 +300,7 @@ pub fn details(random: &Random, state: &State) -> Details {
     details.kind = random.pick(&[0, 0, 0, 1, 2]);
     details.amounts = std::array::from_fn(|_| amount(random));
     let width = state.settings.width.clamp(5, 8);
-    let most = MOST as i128;
+    let most = FIVE_LARGEST as i128;
     if random.once_in(3) {
         let end = width_end(width) as i128;
         let goal = random.pick(&[end, end + 1, -end - 1, -end - 2, end - 1, -end]);
@@ -354,11 +355,11 @@ pub fn bad_signature(random: &Random) -> Vec<u8> {
 // ---- codes
 
 /// The limit of a payload before request E4.
-const OLD_LONGEST_PAYLOAD: usize = 195;
+const FORMER_LONGEST_PAYLOAD: usize = 195;
 
-/// Lengths of a payload around the limit, and around the old one. The last is too long.
+/// Lengths of a payload around the limit, and around the former one. The last is too long.
 pub const PAYLOAD_EDGES: [usize; 5] =
-    [OLD_LONGEST_PAYLOAD, OLD_LONGEST_PAYLOAD + 1, LONGEST_PAYLOAD - 1, LONGEST_PAYLOAD, LONGEST_PAYLOAD + 1];
+    [FORMER_LONGEST_PAYLOAD, FORMER_LONGEST_PAYLOAD + 1, LONGEST_PAYLOAD - 1, LONGEST_PAYLOAD, LONGEST_PAYLOAD + 1];
 
 /// The bytes of a payload of twelve fields that are all empty, but for "R1-".
 const LEAST_PAYLOAD: usize = 15;

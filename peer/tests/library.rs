@@ -1,8 +1,13 @@
-//! The static library against the published vectors, where its interface reaches them.
+//! The static library against the vectors, where its interface reaches them.
 
 mod vectors;
 
+use peer::compare::Compare;
 use peer::device::Library;
+use peer::filling::fill_width;
+use peer::random::Random;
+use peer::sample;
+use peer::settings::{Name, Settings};
 
 #[test]
 fn sha256() {
@@ -147,4 +152,14 @@ fn longest_line_of_a_receipt() {
 #[test]
 fn longest_line_of_a_code() {
     vectors::longest_line_of_a_code(&Library);
+}
+
+/// The library writes the journal of width 7 up to its upper end, and both sides take it over.
+#[test]
+fn width_7_to_its_end() {
+    let random = Random::of(7, 0);
+    let settings = Settings { width: 7, id: Name::of(b"7"), ..sample::settings(&random) };
+    let end = (1, sample::width_end(7));
+    let receipts = fill_width(&mut Compare::default(), &Library, &random, &settings, end);
+    assert_eq!(receipts.unwrap_or_else(|difference| panic!("{:.1000}", difference.text)), 72_059);
 }

@@ -1,4 +1,4 @@
-//! The peer against the published vectors, through the interface and part by part.
+//! The peer against the vectors, through the interface and part by part.
 
 mod vectors;
 

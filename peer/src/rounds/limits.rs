@@ -8,7 +8,7 @@ use crate::line::LONGEST_LINE;
 use crate::model::{Given, Journal, Printed};
 use crate::receipt::{AMOUNT_LIMIT, Details, HEADER, LONGEST_COMPACT, LONGEST_INPUT, LONGEST_PAYLOAD};
 use crate::register::State;
-use crate::sample::{self, ENDS, LAST_AMOUNTS, MOST, NEW_AMOUNTS, NEXT_AMOUNTS, OLD_AMOUNTS};
+use crate::sample::{self, ENDS, FIVE_LARGEST, FORMER_AMOUNTS, LAST_AMOUNTS, NEW_AMOUNTS, NEXT_AMOUNTS};
 use crate::settings::{Name, Settings};
 
 impl Round<'_> {
@@ -16,7 +16,7 @@ impl Round<'_> {
 
     /// Each amount at a limit or next to one, in each of the five places.
     pub(super) fn amounts_at_the_limits(&mut self) -> Compared<()> {
-        let good = OLD_AMOUNTS.into_iter().chain(NEW_AMOUNTS).chain(LAST_AMOUNTS).map(|amount| (amount, true));
+        let good = FORMER_AMOUNTS.into_iter().chain(NEW_AMOUNTS).chain(LAST_AMOUNTS).map(|amount| (amount, true));
         let bad = NEXT_AMOUNTS.into_iter().chain(ENDS).map(|amount| (amount, false));
         for (amount, good) in good.chain(bad) {
             self.amount_at_the_limit(amount, good)?;
@@ -75,7 +75,7 @@ impl Round<'_> {
 
     /// The same amounts reach the last counter from one state and are a cent too much for another, but for training.
     fn counter_at_the_end(&mut self, width: u64, sign: i64, last: i64) -> Compared<()> {
-        let sum = self.random.pick(&[1, 2, MOST - 1, MOST, self.random.between(1, MOST)]);
+        let sum = self.random.pick(&[1, 2, FIVE_LARGEST - 1, FIVE_LARGEST, self.random.between(1, FIVE_LARGEST)]);
         let mut amounts = sample::amounts_with_sum(&self.random, sign * sum);
         let kind = self.random.pick(&[0, 1]);
         let far = self.started_state(width, last - sign * sum);

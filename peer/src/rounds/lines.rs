@@ -230,8 +230,8 @@ impl Round<'_> {
 
     /// Payloads around the longest, of fields that are longer in a line and of such that are not.
     pub(super) fn lines_at_the_limits(&mut self) -> Compared<()> {
-        const MOST: usize = sample::LONGEST_FIELD;
-        for lengths in [[0, 0], [5, 10], [8, 8], [6, 126], [126, 6], [MOST, 0], [0, MOST]] {
+        let longest_field = sample::LONGEST_FIELD;
+        for lengths in [[0, 0], [5, 10], [8, 8], [6, 126], [126, 6], [longest_field, 0], [0, longest_field]] {
             for payload in sample::PAYLOAD_EDGES {
                 let printed = sample::printed(&self.random, lengths, payload);
                 self.line_at_the_limit(&printed)?;

@@ -1,4 +1,4 @@
-//! The published vectors, asked of either side through the interface.
+//! The vectors, published ones and those of the peer, asked of either side through the interface.
 
 use peer::calls::{Calls, Written};
 use peer::code::LONGEST_CODE;
