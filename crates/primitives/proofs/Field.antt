@@ -1,15 +1,15 @@
 -- Laws of the field and of its substitution: b times its inverse is 1, doubling is the product by 2. Each is one test, computed at every byte.
-use mathlib.Core.Path.{_≡_, refl, ap}
+use mathlib.Core.Path.{_≡_, ap, _∙_}
 use mathlib.Core.Bool.{Bool, true, false, cond, _||_}
 use mathlib.Core.List.{List}
-use Prim.Native.Nat.{ℕ, _*_, _/_, _%_, _<_}
+use Prim.Native.Nat.{ℕ, _-_, _*_, _%_, _≤_, _<_}
 use native.Mathlib.Omega.{arith}
-use borrow.Author.Tests.{ltb-true, ltb-false}
+use borrow.Author.Tests.{lt-ltb, le-ltb}
 use lib.Dec.{T, ltb, eqb, eqb→eq}
 use lib.Bits.{bitXor}
 use lib.ListN.{length, replicate}
 use Rattle.primitives.specs.Field.{xtime, times, inverse}
-use Rattle.primitives.specs.Aes.{sub, SBox}
+use Rattle.primitives.specs.Aes.{TableOf}
 use Rattle.primitives.proofs.Table.{at, every, by-rule}
 
 -- a test that computes to true at each byte
@@ -58,15 +58,15 @@ pub times-three : (k : ℕ) → k < 256 → times k 3 ≡ bitXor (xtime k) k
 unfolding tripled
 times-three k h = eqb→eq _ _ (each-byte tripled all-tripled k h)
 
--- doubling as it is computed: the highest bit, 0 or 1, times 1b
-pub xtime-is : (b : ℕ) → b < 256 → bitXor (b / 128 * 0x1b) (b * 2 % 256) ≡ xtime b
+-- doubling is a shift below 0x80, and a shift and the reduction from there on
+pub xtime-shifts : (k : ℕ) → k < 0x80 → xtime k ≡ k * 2
 unfolding xtime
-xtime-is b h = ap (λ (m : ℕ). bitXor m (b * 2 % 256)) (go (ltb b 128) refl)
-  where
-    go : (t : Bool) → ltb b 128 ≡ t → b / 128 * 0x1b ≡ cond t 0 0x1b
-    go true e = omega (arith, ltb-true b 128 e)
-    go false e = omega (arith, ltb-false b 128 e)
+xtime-shifts k h = ap (λ (b : Bool). bitXor (cond b 0 0x1b) (k * 2 % 256)) (lt-ltb k 0x80 h) ∙ omega (arith, h)
 
--- a table whose entries pass the test is one of the substitution
-pub sbox-is : {table : List ℕ} → length table ≡ 256 → T (every (λ k x. eqb x (sub k)) 0 table) → SBox table
-sbox-is {table} e t = record { at = λ k h. by-rule sub table t k (rw e h) }
+pub xtime-reduces : (k : ℕ) → 0x80 ≤ k → k < 256 → xtime k ≡ bitXor 0x1b (k * 2 - 256)
+unfolding xtime
+xtime-reduces k h l = ap (λ (b : Bool). bitXor (cond b 0 0x1b) (k * 2 % 256)) (le-ltb k 0x80 h) ∙ ap (bitXor 0x1b) (omega (arith, h, l))
+
+-- a table whose entries pass the test is one of f
+pub table-is : (f : ℕ → ℕ) {table : List ℕ} → length table ≡ 256 → T (every (λ k x. eqb x (f k)) 0 table) → TableOf f table
+table-is f {table} e t = record { at = λ k h. by-rule f table t k (rw e h) }

@@ -13,7 +13,7 @@ use Rattle.primitives.specs.BaseRule.{readText}
 use Rattle.primitives.specs.Base64.{decoding}
 use Rattle.primitives.specs.Base32.{decoding32}
 use Rattle.primitives.specs.Aes.{sub}
-use Rattle.primitives.specs.Laws.{DecodingUndoesEncoding, DecodingIsExact, OneEncoding, EncodedLengthIs, RuleReadsBack, RuleIsExact, BasesAreGood, Base64FollowsRule, DecodingUndoesEncoding32, DecodingIsExact32, OneEncoding32, EncodedLengthIs32, NumberIsReadBack, NumberBytesAreKept, ComplementIsReadBack, ComplementIsKept, CounterIsReadBack, CounterBytesAreKept, ExclusiveOrTwice, InverseIsInverse, DoublingIsTimesTwo, TriplingIsTimesThree, SubstitutionFollowsRule, WritingTouchesNoOther, WritingKeepsLength, WrittenIsThere}
+use Rattle.primitives.specs.Laws.{DecodingUndoesEncoding, DecodingIsExact, OneEncoding, EncodedLengthIs, RuleReadsBack, RuleIsExact, BasesAreGood, Base64FollowsRule, DecodingUndoesEncoding32, DecodingIsExact32, OneEncoding32, EncodedLengthIs32, NumberIsReadBack, NumberBytesAreKept, ComplementIsReadBack, ComplementIsKept, CounterIsReadBack, CounterBytesAreKept, ExclusiveOrTwice, InverseIsInverse, DoublingIsTimesTwo, TriplingIsTimesThree, SubstitutionFollowsRule, DoublingFollowsRule, WritingTouchesNoOther, WritingKeepsLength, WrittenIsThere}
 use Rattle.primitives.proofs.Base64Laws.{decode-encode, encode-decode, encoding-injective, decoded-bytes}
 use Rattle.primitives.proofs.Base64Lengths.{length-encoding}
 use Rattle.primitives.proofs.Base64Rule.{base64-good, encoding-rule, decoding-rule}
@@ -22,7 +22,7 @@ use Rattle.primitives.proofs.Base32Laws.{base32-good, decode-encode32, 
 use Rattle.primitives.proofs.Numbers.{value-bytesOf, bytesOf-value}
 use Rattle.primitives.proofs.Twos.{of-twos, fits-of, twos-of, counter-back, fits-value, counter-again}
 use Rattle.primitives.proofs.Xors.{xorFirst-back}
-use Rattle.primitives.proofs.Field.{inverse-is, times-two, times-three}
+use Rattle.primitives.proofs.Field.{inverse-is, times-two, times-three, xtime-shifts, xtime-reduces}
 use Rattle.primitives.proofs.Over.{read-over, placed-room, length-placed}
 use Rattle.primitives.proofs.Rewrites.{getD-before, getD-after}
 
@@ -110,6 +110,9 @@ tripling-is-times-three = times-three
 pub substitution-follows-rule : SubstitutionFollowsRule
 unfolding sub
 substitution-follows-rule table t = t .at
+
+pub doubling-follows-rule : DoublingFollowsRule
+doubling-follows-rule table t k = (λ h. t .at k (omega (arith, h)) ∙ xtime-shifts k h, λ h b. t .at k b ∙ xtime-reduces k h b)
 
 -- ---- writing
 

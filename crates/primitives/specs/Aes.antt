@@ -53,9 +53,13 @@ unfoldable pub sub : ℕ → ℕ
 unfolding inverse affine
 sub b = affine (inverse b)
 
+-- a table of f: at each byte k, f k
+pub record TableOf (f : ℕ → ℕ) (table : List ℕ) : Type 0 where
+  pub at : (k : ℕ) → k < 256 → getD table k 0 ≡ f k
+
 -- a table of the substitution
-pub record SBox (table : List ℕ) : Type 0 where
-  pub at : (k : ℕ) → k < 256 → getD table k 0 ≡ sub k
+abbrev pub SBox : List ℕ → Type 0
+SBox = TableOf sub
 
 abbrev pub subColumn : List ℕ → List ℕ
 subColumn a = column (λ r. sub (getD a r 0))
@@ -69,6 +73,10 @@ abbrev pub shiftRows : List (List ℕ) → List (List ℕ)
 shiftRows s = grid (λ r c. cell s r ((c + r) % 4))
 
 -- ---- 5.1.3: MixColumns
+
+-- a table of doubling
+abbrev pub DoublingTable : List ℕ → Type 0
+DoublingTable = TableOf xtime
 
 -- a times 2, b times 3, c and d added
 unfoldable pub mixByte : ℕ → ℕ → ℕ → ℕ → ℕ
@@ -135,6 +143,11 @@ abbrev pub roundKey : List (List ℕ) → ℕ → List (List ℕ)
 roundKey w n = getD w (n * 4) [] ∷ getD w (n * 4 + 1) [] ∷ getD w (n * 4 + 2) [] ∷ getD w (n * 4 + 3) [] ∷ []
 
 -- ---- 5.1: Cipher, of 14 rounds
+
+-- the tables that a round reads: the substitution, then doubling
+pub record RoundTables (tables : List (List ℕ)) : Type 0 where
+  pub substitution : SBox (getD tables 0 [])
+  pub doubling : DoublingTable (getD tables 1 [])
 
 unfoldable pub round : List (List ℕ) → List (List ℕ) → List (List ℕ)
 round s k = addRoundKey (mixColumns (shiftRows (subBytes s))) k

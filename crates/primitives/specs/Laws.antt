@@ -1,5 +1,5 @@
 -- Laws of the primitives, which the crates above them build on. Proved in proofs/Laws.antt.
-use Prim.Native.Nat.{ℕ, _+_, _≤_, _<_, _^_}
+use Prim.Native.Nat.{ℕ, _+_, _-_, _*_, _≤_, _<_, _^_}
 use mathlib.Core.Path.{_≡_}
 use mathlib.Core.Bool.{true}
 use mathlib.Core.List.{List}
@@ -15,7 +15,7 @@ use Rattle.primitives.specs.BaseRule.{Base, GoodBase, textOf, readText}
 use Rattle.primitives.specs.Base64.{base64, encoding, encodedLength, decoding}
 use Rattle.primitives.specs.Base32.{base32, encoding32, decoding32, encodedLength32}
 use Rattle.primitives.specs.Field.{xtime, times, inverse}
-use Rattle.primitives.specs.Aes.{affine, SBox}
+use Rattle.primitives.specs.Aes.{affine, SBox, DoublingTable}
 use Rattle.primitives.specs.declared.base64.Alphabet.{Alphabet}
 
 -- ---- BASE64, over both alphabets
@@ -131,6 +131,12 @@ TriplingIsTimesThree = (k : ℕ) → k < 256 → times k 3 ≡ bitXor (xtime k) 
 -- a table of the substitution has at every byte the affine map of its inverse
 abbrev pub SubstitutionFollowsRule : Type 0
 SubstitutionFollowsRule = (table : List ℕ) → SBox table → (k : ℕ) → k < 256 → getD table k 0 ≡ affine (inverse k)
+
+-- a table of doubling has at every byte below 0x80 twice the byte, and at every other byte twice the byte without its ninth bit, exclusive or 0x1b
+abbrev pub DoublingFollowsRule : Type 0
+DoublingFollowsRule =
+    (table : List ℕ) → DoublingTable table → (k : ℕ)
+    → (k < 0x80 → getD table k 0 ≡ k * 2) × (0x80 ≤ k → k < 256 → getD table k 0 ≡ bitXor 0x1b (k * 2 - 256))
 
 -- ---- writing at a place
 

@@ -2,7 +2,7 @@
 ghost use mathlib.Core.Path.{_≡_};
 ghost use Prim.Native.Nat.{_<_};
 ghost use Rattle.primitives.specs.Field.{xtime};
-ghost use Rattle.primitives.specs.Aes.{load, store, sub, SBox, subColumn, subBytes, shiftRows, mixByte, mixColumn, mixColumns, addColumn, addRoundKey, rotWord, rcon, nextWord, keyWord, keySchedule, roundKey, round, lastRound, roundsOf, cipher, aes256};
+ghost use Rattle.primitives.specs.Aes.{load, store, sub, SBox, DoublingTable, RoundTables, subColumn, subBytes, shiftRows, mixByte, mixColumn, mixColumns, addColumn, addRoundKey, rotWord, rcon, nextWord, keyWord, keySchedule, roundKey, round, lastRound, roundsOf, cipher, aes256};
 
 // The substitution of each byte: its inverse in the field, then the affine map.
 const SBOX: [u8; 256] = *b"\
@@ -24,11 +24,44 @@ const SBOX: [u8; 256] = *b"\
     \x8c\xa1\x89\x0d\xbf\xe6\x42\x68\x41\x99\x2d\x0f\xb0\x54\xbb\x16\
 ";
 
-// The table, built once per call and then lent: an indexed constant is rebuilt on the stack at each evaluation.
+// The double of each byte in the field: a shift, and from 0x80 on, where the highest bit is set, the reduction by 0x1b.
+const DOUBLE: [u8; 256] = *b"\
+    \x00\x02\x04\x06\x08\x0a\x0c\x0e\x10\x12\x14\x16\x18\x1a\x1c\x1e\
+    \x20\x22\x24\x26\x28\x2a\x2c\x2e\x30\x32\x34\x36\x38\x3a\x3c\x3e\
+    \x40\x42\x44\x46\x48\x4a\x4c\x4e\x50\x52\x54\x56\x58\x5a\x5c\x5e\
+    \x60\x62\x64\x66\x68\x6a\x6c\x6e\x70\x72\x74\x76\x78\x7a\x7c\x7e\
+    \x80\x82\x84\x86\x88\x8a\x8c\x8e\x90\x92\x94\x96\x98\x9a\x9c\x9e\
+    \xa0\xa2\xa4\xa6\xa8\xaa\xac\xae\xb0\xb2\xb4\xb6\xb8\xba\xbc\xbe\
+    \xc0\xc2\xc4\xc6\xc8\xca\xcc\xce\xd0\xd2\xd4\xd6\xd8\xda\xdc\xde\
+    \xe0\xe2\xe4\xe6\xe8\xea\xec\xee\xf0\xf2\xf4\xf6\xf8\xfa\xfc\xfe\
+    \x1b\x19\x1f\x1d\x13\x11\x17\x15\x0b\x09\x0f\x0d\x03\x01\x07\x05\
+    \x3b\x39\x3f\x3d\x33\x31\x37\x35\x2b\x29\x2f\x2d\x23\x21\x27\x25\
+    \x5b\x59\x5f\x5d\x53\x51\x57\x55\x4b\x49\x4f\x4d\x43\x41\x47\x45\
+    \x7b\x79\x7f\x7d\x73\x71\x77\x75\x6b\x69\x6f\x6d\x63\x61\x67\x65\
+    \x9b\x99\x9f\x9d\x93\x91\x97\x95\x8b\x89\x8f\x8d\x83\x81\x87\x85\
+    \xbb\xb9\xbf\xbd\xb3\xb1\xb7\xb5\xab\xa9\xaf\xad\xa3\xa1\xa7\xa5\
+    \xdb\xd9\xdf\xdd\xd3\xd1\xd7\xd5\xcb\xc9\xcf\xcd\xc3\xc1\xc7\xc5\
+    \xfb\xf9\xff\xfd\xf3\xf1\xf7\xf5\xeb\xe9\xef\xed\xe3\xe1\xe7\xe5\
+";
+
+// A table is built once per call and then lent: an indexed constant is rebuilt on the stack at each evaluation.
 fn sbox() -> [u8; 256]
     ensures { λ r. ⌜ SBox r ⌝ }
 {
     SBOX
+}
+
+fn doubling_table() -> [u8; 256]
+    ensures { λ r. ⌜ DoublingTable r ⌝ }
+{
+    DOUBLE
+}
+
+// The two tables that a round reads, lent as one value: the substitution, then doubling.
+fn round_tables() -> [[u8; 256]; 2]
+    ensures { λ r. ⌜ RoundTables r ⌝ }
+{
+    [sbox(), doubling_table()]
 }
 
 fn sub_byte(t: &[u8; 256], x: u8) -> u8
@@ -77,21 +110,24 @@ fn shift_rows(s: [[u8; 4]; 4]) -> [[u8; 4]; 4]
     ]
 }
 
-// Doubling in the field: a shift, and the reduction where the highest bit was set.
-fn double(x: u8) -> u8
+// The double of a byte in the field.
+fn double(t: &[u8; 256], x: u8) -> u8
+    requires { ⌜ DoublingTable (now t) ⌝ }
     ensures { λ r. ⌜ r ≡ xtime x ⌝ }
 {
-    ((x >> 7) * 0x1b) ^ (x << 1)
+    t[x as usize]
 }
 
 // One byte of a mixed column, from the bytes of the column, its own row first.
-fn mix_byte(a: u8, b: u8, c: u8, d: u8) -> u8
+fn mix_byte(t: &[u8; 256], a: u8, b: u8, c: u8, d: u8) -> u8
+    requires { ⌜ DoublingTable (now t) ⌝ }
     ensures { λ r. ⌜ r ≡ mixByte a b c d ⌝ }
 {
-    double(a) ^ (double(b) ^ b) ^ c ^ d
+    double(t, a) ^ (double(t, b) ^ b) ^ c ^ d
 }
 
-fn mix_column(a: [u8; 4]) -> [u8; 4]
+fn mix_column(t: &[u8; 256], a: [u8; 4]) -> [u8; 4]
+    requires { ⌜ DoublingTable (now t) ⌝ }
     ensures { λ r. ⌜ r ≡ mixColumn a ⌝ }
 {
     let a0 = a[0];
@@ -99,21 +135,22 @@ fn mix_column(a: [u8; 4]) -> [u8; 4]
     let a2 = a[2];
     let a3 = a[3];
     [
-        mix_byte(a0, a1, a2, a3),
-        mix_byte(a1, a2, a3, a0),
-        mix_byte(a2, a3, a0, a1),
-        mix_byte(a3, a0, a1, a2),
+        mix_byte(t, a0, a1, a2, a3),
+        mix_byte(t, a1, a2, a3, a0),
+        mix_byte(t, a2, a3, a0, a1),
+        mix_byte(t, a3, a0, a1, a2),
     ]
 }
 
-fn mix_columns(s: [[u8; 4]; 4]) -> [[u8; 4]; 4]
+fn mix_columns(t: &[u8; 256], s: [[u8; 4]; 4]) -> [[u8; 4]; 4]
+    requires { ⌜ DoublingTable (now t) ⌝ }
     ensures { λ r. ⌜ r ≡ mixColumns s ⌝ }
 {
     [
-        mix_column(s[0]),
-        mix_column(s[1]),
-        mix_column(s[2]),
-        mix_column(s[3]),
+        mix_column(t, s[0]),
+        mix_column(t, s[1]),
+        mix_column(t, s[2]),
+        mix_column(t, s[3]),
     ]
 }
 
@@ -240,11 +277,11 @@ fn store_block(s: [[u8; 4]; 4]) -> [u8; 16]
     ]
 }
 
-fn full_round(t: &[u8; 256], s: [[u8; 4]; 4], k: [[u8; 4]; 4]) -> [[u8; 4]; 4]
-    requires { ⌜ SBox (now t) ⌝ }
+fn full_round(t: &[[u8; 256]; 2], s: [[u8; 4]; 4], k: [[u8; 4]; 4]) -> [[u8; 4]; 4]
+    requires { ⌜ RoundTables (now t) ⌝ }
     ensures { λ r. ⌜ r ≡ round s k ⌝ }
 {
-    add_round_key(mix_columns(shift_rows(sub_bytes(t, s))), k)
+    add_round_key(mix_columns(&t[1], shift_rows(sub_bytes(&t[0], s))), k)
 }
 
 // Round 14, which mixes no columns.
@@ -263,8 +300,8 @@ fn start(w: &[[u8; 4]; 60], block: [u8; 16]) -> [[u8; 4]; 4]
 }
 
 // Rounds 1 to 13.
-fn rounds(t: &[u8; 256], w: &[[u8; 4]; 60], first: [[u8; 4]; 4]) -> [[u8; 4]; 4]
-    requires { ⌜ SBox (now t) ⌝ }
+fn rounds(t: &[[u8; 256]; 2], w: &[[u8; 4]; 60], first: [[u8; 4]; 4]) -> [[u8; 4]; 4]
+    requires { ⌜ RoundTables (now t) ⌝ }
     ensures { λ r. ⌜ r ≡ roundsOf (now (w .entry)) first 13 ⌝ }
 {
     let mut s = first;
@@ -282,9 +319,9 @@ fn rounds(t: &[u8; 256], w: &[[u8; 4]; 60], first: [[u8; 4]; 4]) -> [[u8; 4]; 4]
 pub fn encrypt_block(schedule: &[[u8; 4]; 60], block: [u8; 16]) -> [u8; 16]
     ensures { λ r. ⌜ r ≡ cipher (now (schedule .entry)) block ⌝ }
 {
-    let t = sbox();
+    let t = round_tables();
     let s = rounds(&t, schedule, start(schedule, block));
-    store_block(last_round(&t, schedule, s))
+    store_block(last_round(&t[0], schedule, s))
 }
 
 // Encrypts one block under a key.

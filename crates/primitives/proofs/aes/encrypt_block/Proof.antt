@@ -4,14 +4,17 @@ use Rattle.primitives.proofs.Schedule.{ciphered}
 use Rattle.primitives.proofs.aes.encrypt_block.Statement.{statement}
 use Rattle.primitives.proofs.aes.encrypt_block.Tie as tie
 
-sbox-requires : tie.Need-sbox-requires
-sbox-requires c κs = search needs
+round-tables-requires : tie.Need-round-tables-requires
+round-tables-requires c κs = search needs
 
 start-requires : tie.Need-start-requires
 start-requires c κs = search needs
 
 rounds-requires : tie.Need-rounds-requires
 rounds-requires c κs = search needs
+
+index-1-last-round : tie.Need-index-1-last-round
+index-1-last-round c = search needs
 
 last-round-requires : tie.Need-last-round-requires
 last-round-requires c κs = search needs
@@ -26,9 +29,10 @@ pub encrypt-block-spec : {M : Type 1} → statement M
 encrypt-block-spec =
     tie.close
     (tie.spec
-    sbox-requires
+    round-tables-requires
     start-requires
     rounds-requires
+    index-1-last-round
     last-round-requires
     store-block-requires
     returns)

@@ -4,6 +4,12 @@ use Rattle.primitives.proofs.Schedule.{rounded}
 use Rattle.primitives.proofs.aes.full_round.Statement.{statement}
 use Rattle.primitives.proofs.aes.full_round.Tie as tie
 
+index-1-mix-columns : tie.Need-index-1-mix-columns
+index-1-mix-columns c = search needs
+
+index-1-sub-bytes : tie.Need-index-1-sub-bytes
+index-1-sub-bytes c = search needs
+
 sub-bytes-requires : tie.Need-sub-bytes-requires
 sub-bytes-requires c κs = search needs
 
@@ -23,6 +29,8 @@ pub full-round-spec : {M : Type 1} → statement M
 full-round-spec =
     tie.close
     (tie.spec
+    index-1-mix-columns
+    index-1-sub-bytes
     sub-bytes-requires
     shift-rows-requires
     mix-columns-requires
