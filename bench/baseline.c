@@ -77,9 +77,9 @@ static void plain_sha256(const uint8_t *m, size_t n, uint8_t out[32])
             out[4 * i + j] = (uint8_t)(s[i] >> (24 - 8 * j));
 }
 
-/* ---- AES-256, FIPS 197, byte by byte; the substitution table is computed before the clock starts */
+/* ---- AES-256, FIPS 197, byte by byte; tables are computed before the turns. A round doubles by shift and reduction, with -DTABLE by a table */
 
-static uint8_t sbox[256];
+static uint8_t sbox[256], doubles[256];
 
 static uint8_t xtime(uint8_t x) { return (uint8_t)(x << 1 ^ (x >> 7) * 0x1b); }
 
@@ -92,9 +92,16 @@ static uint8_t times(uint8_t a, uint8_t b)
     return r;
 }
 
-static void make_sbox(void)
+#ifdef TABLE
+static uint8_t twice(uint8_t x) { return doubles[x]; }
+#else
+static uint8_t twice(uint8_t x) { return xtime(x); }
+#endif
+
+static void make_tables(void)
 {
     for (int x = 0; x < 256; x++) {
+        doubles[x] = xtime((uint8_t)x);
         uint8_t inverse = 0;
         for (int y = 1; y < 256 && x; y++)
             if (times((uint8_t)x, (uint8_t)y) == 1)
@@ -143,10 +150,10 @@ static void plain_encrypt(const uint8_t w[240], uint8_t s[16])
         sub_shift(s);
         for (int c = 0; c < 4; c++) {
             uint8_t *p = s + 4 * c, a = p[0], b = p[1], d = p[2], e = p[3], all = a ^ b ^ d ^ e;
-            p[0] ^= all ^ xtime(a ^ b);
-            p[1] ^= all ^ xtime(b ^ d);
-            p[2] ^= all ^ xtime(d ^ e);
-            p[3] ^= all ^ xtime(e ^ a);
+            p[0] ^= all ^ twice(a ^ b);
+            p[1] ^= all ^ twice(b ^ d);
+            p[2] ^= all ^ twice(d ^ e);
+            p[3] ^= all ^ twice(e ^ a);
         }
         for (int i = 0; i < 16; i++)
             s[i] ^= w[16 * n + i];
@@ -199,7 +206,7 @@ int main(int argc, char **argv)
         return 2;
     int plain = argv[1][0] == 'p';
     unsigned long turns = strtoul(argv[3], NULL, 10);
-    make_sbox();
+    make_tables();
     if (argv[2][0] == 'l' || argv[2][0] == 's') {
         memset(m, 7, sizeof m);
         hash(plain, m, argv[2][0] == 'l' ? 65536 : 300, turns);
