@@ -77,7 +77,7 @@ static void plain_sha256(const uint8_t *m, size_t n, uint8_t out[32])
             out[4 * i + j] = (uint8_t)(s[i] >> (24 - 8 * j));
 }
 
-/* ---- AES-256, FIPS 197, byte by byte; tables are computed before the turns. A round doubles by shift and reduction, with -DTABLE by a table */
+/* ---- AES-256, FIPS 197, byte by byte. The tables are computed before the turns. A round doubles by shift and reduction, or by a table if compiled with -DTABLE */
 
 static uint8_t sbox[256], doubles[256];
 

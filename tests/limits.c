@@ -9,7 +9,7 @@
 #include <string.h>
 #include <ucontext.h>
 
-enum { STACK = 1 << 18, LIMIT = 3900, PATTERN = 0xA5, RECEIPTS = 20 };
+enum { STACK = 1 << 18, LIMIT = 4000, PATTERN = 0xA5, RECEIPTS = 20 };
 
 static uint8_t stack[STACK], journal[1 << 16], state[DITGRUX_STATE], again[DITGRUX_STATE], settings[DITGRUX_SETTINGS], output[512];
 static uint8_t optical[DITGRUX_LONGEST_ANY_LINE];

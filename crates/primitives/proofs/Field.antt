@@ -1,11 +1,11 @@
--- Laws of the field and of its substitution: b times its inverse is 1, doubling is the product by 2. Each is one test, computed at every byte.
+-- Laws of the field: b times its inverse is 1, doubling is the product by 2, each by one test that is computed at every byte. The last law makes a table of such a test.
 use mathlib.Core.Path.{_≡_, ap, _∙_}
 use mathlib.Core.Bool.{Bool, true, false, cond, _||_}
 use mathlib.Core.List.{List}
 use Prim.Native.Nat.{ℕ, _-_, _*_, _%_, _≤_, _<_}
 use native.Mathlib.Omega.{arith}
 use borrow.Author.Tests.{lt-ltb, le-ltb}
-use lib.Dec.{T, ltb, eqb, eqb→eq}
+use lib.Dec.{T, eqb, eqb→eq}
 use lib.Bits.{bitXor}
 use lib.ListN.{length, replicate}
 use Rattle.primitives.specs.Field.{xtime, times, inverse}

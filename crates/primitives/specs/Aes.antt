@@ -30,6 +30,12 @@ load b = grid (λ r c. getD b (r + 4 * c) 0)
 abbrev pub store : List (List ℕ) → List ℕ
 store s = column (λ r. cell s r 0) ++ column (λ r. cell s r 1) ++ column (λ r. cell s r 2) ++ column (λ r. cell s r 3)
 
+-- ---- tables of 256 bytes, as the code has them
+
+-- a table of f has f k at each byte k
+pub record TableOf (f : ℕ → ℕ) (table : List ℕ) : Type 0 where
+  pub at : (k : ℕ) → k < 256 → getD table k 0 ≡ f k
+
 -- ---- 5.1.1: SubBytes
 
 -- bit i of a byte, with i taken modulo 8
@@ -53,11 +59,7 @@ unfoldable pub sub : ℕ → ℕ
 unfolding inverse affine
 sub b = affine (inverse b)
 
--- a table of f: at each byte k, f k
-pub record TableOf (f : ℕ → ℕ) (table : List ℕ) : Type 0 where
-  pub at : (k : ℕ) → k < 256 → getD table k 0 ≡ f k
-
--- a table of the substitution
+-- a substitution table
 abbrev pub SBox : List ℕ → Type 0
 SBox = TableOf sub
 
@@ -74,7 +76,7 @@ shiftRows s = grid (λ r c. cell s r ((c + r) % 4))
 
 -- ---- 5.1.3: MixColumns
 
--- a table of doubling
+-- a doubling table
 abbrev pub DoublingTable : List ℕ → Type 0
 DoublingTable = TableOf xtime
 

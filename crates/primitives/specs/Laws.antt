@@ -132,7 +132,7 @@ TriplingIsTimesThree = (k : ℕ) → k < 256 → times k 3 ≡ bitXor (xtime k) 
 abbrev pub SubstitutionFollowsRule : Type 0
 SubstitutionFollowsRule = (table : List ℕ) → SBox table → (k : ℕ) → k < 256 → getD table k 0 ≡ affine (inverse k)
 
--- a table of doubling has at every byte below 0x80 twice the byte, and at every other byte twice the byte without its ninth bit, exclusive or 0x1b
+-- in a doubling table the entry at k is 2k for k below 0x80, and 2k - 256, exclusive or 0x1b, for k from 0x80 to 0xff
 abbrev pub DoublingFollowsRule : Type 0
 DoublingFollowsRule =
     (table : List ℕ) → DoublingTable table → (k : ℕ)

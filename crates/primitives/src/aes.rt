@@ -24,7 +24,7 @@ const SBOX: [u8; 256] = *b"\
     \x8c\xa1\x89\x0d\xbf\xe6\x42\x68\x41\x99\x2d\x0f\xb0\x54\xbb\x16\
 ";
 
-// The double of each byte in the field: a shift, and from 0x80 on, where the highest bit is set, the reduction by 0x1b.
+// The double of each byte in the field: a shift to the left, and for bytes from 0x80 on an exclusive or with 0x1b.
 const DOUBLE: [u8; 256] = *b"\
     \x00\x02\x04\x06\x08\x0a\x0c\x0e\x10\x12\x14\x16\x18\x1a\x1c\x1e\
     \x20\x22\x24\x26\x28\x2a\x2c\x2e\x30\x32\x34\x36\x38\x3a\x3c\x3e\
@@ -277,11 +277,14 @@ fn store_block(s: [[u8; 4]; 4]) -> [u8; 16]
     ]
 }
 
-fn full_round(t: &[[u8; 256]; 2], s: [[u8; 4]; 4], k: [[u8; 4]; 4]) -> [[u8; 4]; 4]
-    requires { ⌜ RoundTables (now t) ⌝ }
+fn full_round(tables: &[[u8; 256]; 2], s: [[u8; 4]; 4], k: [[u8; 4]; 4]) -> [[u8; 4]; 4]
+    requires { ⌜ RoundTables (now tables) ⌝ }
     ensures { λ r. ⌜ r ≡ round s k ⌝ }
 {
-    add_round_key(mix_columns(&t[1], shift_rows(sub_bytes(&t[0], s))), k)
+    add_round_key(
+        mix_columns(&tables[1], shift_rows(sub_bytes(&tables[0], s))),
+        k,
+    )
 }
 
 // Round 14, which mixes no columns.
@@ -300,15 +303,15 @@ fn start(w: &[[u8; 4]; 60], block: [u8; 16]) -> [[u8; 4]; 4]
 }
 
 // Rounds 1 to 13.
-fn rounds(t: &[[u8; 256]; 2], w: &[[u8; 4]; 60], first: [[u8; 4]; 4]) -> [[u8; 4]; 4]
-    requires { ⌜ RoundTables (now t) ⌝ }
+fn rounds(tables: &[[u8; 256]; 2], w: &[[u8; 4]; 60], first: [[u8; 4]; 4]) -> [[u8; 4]; 4]
+    requires { ⌜ RoundTables (now tables) ⌝ }
     ensures { λ r. ⌜ r ≡ roundsOf (now (w .entry)) first 13 ⌝ }
 {
     let mut s = first;
     let mut n = 0;
     while n < 13 {
         let k = round_key(w, n + 1);
-        let next = full_round(t, s, k);
+        let next = full_round(tables, s, k);
         s = next;
         n += 1;
     }
@@ -319,9 +322,9 @@ fn rounds(t: &[[u8; 256]; 2], w: &[[u8; 4]; 60], first: [[u8; 4]; 4]) -> [[u8; 4
 pub fn encrypt_block(schedule: &[[u8; 4]; 60], block: [u8; 16]) -> [u8; 16]
     ensures { λ r. ⌜ r ≡ cipher (now (schedule .entry)) block ⌝ }
 {
-    let t = round_tables();
-    let s = rounds(&t, schedule, start(schedule, block));
-    store_block(last_round(&t[0], schedule, s))
+    let tables = round_tables();
+    let s = rounds(&tables, schedule, start(schedule, block));
+    store_block(last_round(&tables[0], schedule, s))
 }
 
 // Encrypts one block under a key.
