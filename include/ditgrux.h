@@ -8,7 +8,7 @@
  * How a register works:
  *
  *     ditgrux_settings, once: checks CSP, register ID, serial, width and key, and packs them into 123 bytes
- *     ditgrux_open, once: starts the journal and the state
+ *     ditgrux_open, once: starts the journal and the state; ditgrux_open_shared if other registers have the same key
  *     for each receipt, the first of them a standard receipt with five zeros:
  *         ditgrux_prepare_details: writes the text to be signed
  *         the signature device signs that text with ES256 (64 bytes: r, then s)
@@ -109,7 +109,8 @@ enum ditgrux_number {
     DITGRUX_OUTPUT_SHORT = 23,    /* the output is too short; ALSO: the output of settings or read is longer than it must be */
     DITGRUX_BAD_CODE = 24,        /* not a machine-readable code; fields: or one without a register ID */
     DITGRUX_BAD_FIELDS = 26,      /* a code without twelve fields, or whose counter or chain field is not canonical BASE64 */
-    DITGRUX_BAD_LINE = 27         /* not the optical line of a machine-readable code */
+    DITGRUX_BAD_LINE = 27,        /* not the optical line of a machine-readable code */
+    DITGRUX_ID_ENDS_IN_DIGIT = 32 /* open_shared: the register ID ends in a digit; asked between DITGRUX_BAD_ID and DITGRUX_BAD_SERIAL */
 };
 
 /* ---- the journal, as bytes
@@ -181,8 +182,8 @@ enum ditgrux_number {
  *
  * After DITGRUX_BAD_STATE the state's bytes are as they were before the call, in every function.
  *
- * The unopened state is 155 zeros. A refused ditgrux_open or ditgrux_take_over writes it, so do not pass the live state to these
- * two: pass a second array, and copy it when the call has returned DITGRUX_DONE.
+ * The unopened state is 155 zeros. A refused ditgrux_open, ditgrux_open_shared or ditgrux_take_over writes it, so do not pass the
+ * live state to these three: pass a second array, and copy it when the call has returned DITGRUX_DONE.
  *
  * A lost state comes back by ditgrux_take_over, byte for byte, from the journal, the key and the width. It needs exactly the bytes
  * of the journal, and not its whole buffer. The length of the journal is a number of the state alone, so store it beside the
@@ -256,6 +257,28 @@ size_t ditgrux_journal_length(const uint8_t *state, size_t state_length);
  * Refused: `journal` is unchanged. With DITGRUX_BAD_STATE `state` is unchanged, too; with any other number it is 155 zeros. */
 uint32_t ditgrux_open(const uint8_t *settings, size_t settings_length, uint8_t *journal, size_t journal_size, uint8_t *state,
                       size_t state_length);
+
+/* Opens a register whose key other registers have, too. It is ditgrux_open with one check more: the register ID must not end in a
+ * digit. Open every register that shares a key by this function.
+ *
+ * Why: the initialization vector (IV) that encrypts the turnover counter is a hash of the register ID and the receipt number, written
+ * one after the other. Register "A1" at number 2 and register "A" at number 12 both hash "A12", and one IV must not come twice under
+ * a key. If no ID ends in a digit, no two registers with different IDs ever hash the same text. "A1" could be called "1A" or "A1-".
+ * Two registers must not have the same ID; the function cannot see that.
+ *
+ * The state and the journal do not show which function opened the register: they are the same bytes. All other functions work alike
+ * for both, and ditgrux_take_over accepts a journal whatever its ID ends in.
+ *
+ *     settings, settings_length   from ditgrux_settings, 123 bytes
+ *     journal, journal_size       the buffer of the journal, and its whole size
+ *     state, state_length         output: exactly 155 bytes
+ *
+ * Returns DITGRUX_DONE, DITGRUX_BAD_STATE (state_length is not 155), DITGRUX_BAD_CSP (also if settings_length is not 123),
+ * DITGRUX_BAD_ID, DITGRUX_ID_ENDS_IN_DIGIT, DITGRUX_BAD_SERIAL, DITGRUX_BAD_WIDTH, or DITGRUX_HEAD_TOO_LONG (journal_size is below
+ * 19 + ID + serial).
+ * Refused: `journal` is unchanged. With DITGRUX_BAD_STATE `state` is unchanged, too; with any other number it is 155 zeros. */
+uint32_t ditgrux_open_shared(const uint8_t *settings, size_t settings_length, uint8_t *journal, size_t journal_size, uint8_t *state,
+                             size_t state_length);
 
 /* Writes the text that the device signs: the compact form of the receipt up to its second '.', without it. You will want
  * ditgrux_prepare_details below, which takes the thirteen details by name.
