@@ -13,6 +13,7 @@ pub mod ExactEntry
 pub mod Finding
 pub mod FormCalls
 pub mod Forms
+pub mod HashInputs
 pub mod IdFields
 pub mod Joined
 pub mod Limits

@@ -39,7 +39,7 @@ no-mark =
 -- ---- what follows each
 
 pub after-digits : (n : ℕ) (rest : List ℕ) → after (digits n ++ (95 ∷ rest)) ≡ rest
-after-digits n rest = after-plain rest (each-digits no-mark n)
+after-digits n rest = after-plain rest (each-digits (no-mark .digit) n)
 
 pub after-date : (t : DateTime) (rest : List ℕ) → after (dateText t ++ (95 ∷ rest)) ≡ rest
 after-date t rest = after-plain rest (each-date no-mark t)

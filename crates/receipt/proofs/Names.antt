@@ -6,7 +6,7 @@ use mathlib.Core.List.{List, [], _∷_, _++_}
 use native.Mathlib.Nat.{sub-zero}
 use native.Mathlib.Numerals.{add-one}
 use native.Mathlib.Omega.{arith}
-use borrow.Author.Tests.{le-leb, lt-leb, leb-true, leb-false, eqb-true, eqb-false, not-true}
+use borrow.Author.Tests.{le-leb, lt-leb, leb-true, leb-false, eqb-true, eqb-false, not-true, not-false}
 use lib.Dec.{leb, eqb}
 use lib.ListN.{length, getD, take, drop, replicate, drop-of-length-le, length-take, length-drop, length-replicate, take-append-drop, replicate-append-replicate}
 use lib.Seq.{drop-cons, take-all, take-at, drop-at, length-take-le}
@@ -21,7 +21,7 @@ use Rattle.receipt.specs.declared.settings.Name.{Name}
 use Rattle.receipt.specs.declared.settings.Settings.{Settings}
 use Rattle.receipt.specs.declared.settings.Letters.{Letters}
 use Rattle.receipt.specs.declared.settings.Letters.the-variants.{Id, Serial, Zero}
-use Rattle.receipt.specs.Settings.{between, idLetter, serialLetter, letterGood, every, nameText, nameGood, nameOf, cspGood, idGood, serialGood, settingsGood, settingsNumber, sized}
+use Rattle.receipt.specs.Settings.{between, idLetter, serialLetter, letterGood, every, nameText, nameGood, nameOf, cspGood, idGood, serialGood, settingsGood, endsInDigit, keyAllowed, settingsNumberFor, sized}
 use Rattle.primitives.proofs.Questions.{yes, no}
 use Rattle.primitives.proofs.Rows.{both, ask-zero, ask-yes, ask-no}
 
@@ -254,27 +254,50 @@ good-sized s e =
 csp-byte : (low high b : ℕ) → high < 256 → between low high b ≡ true → b < 256
 csp-byte low high b h e = omega (arith, between-true low high b e .1)
 
--- ---- questions 1 to 4 in a row
+-- ---- a key of one's own, and a shared one
 
--- the questions after these decide where all four answers are yes
-pub settings-yes : (s : Settings) (n rest : ℕ) → settingsGood s ≡ true → widthGood n ≡ true → settingsNumber s n rest ≡ rest
-unfolding settingsGood settingsNumber
-settings-yes s n rest g w =
+-- a key of one's own goes with every ID
+pub key-own : (id : Name) → keyAllowed false id ≡ true
+unfolding keyAllowed
+key-own id = refl
+
+-- a shared one with an ID that does not end in a digit
+pub key-shared : (id : Name) → keyAllowed true id ≡ not (endsInDigit id)
+unfolding keyAllowed
+key-shared id = refl
+
+pub key-not-shared : (shared : Bool) (id : Name) → not shared ≡ true → true ≡ keyAllowed shared id
+key-not-shared shared id e = sym (ap (λ (b : Bool). keyAllowed b id) (not-true shared e) ∙ key-own id)
+
+pub key-by-last : (shared : Bool) (id : Name) {r : Bool} → not shared ≡ false → r ≡ between 48 57 (getD (id .bytes) (id .len - 1) 0)
+    → not r ≡ keyAllowed shared id
+unfolding endsInDigit
+key-by-last shared id e q = ap not q ∙ sym (ap (λ (b : Bool). keyAllowed b id) (not-false shared e) ∙ key-shared id)
+
+-- ---- questions 1, 2, 32, 3 and 4 in a row
+
+-- the questions after these decide where all answers are yes
+pub settings-yes : (s : Settings) (shared : Bool) (n rest : ℕ) → settingsGood s ≡ true → keyAllowed shared (s .id) ≡ true → widthGood n ≡ true
+    → settingsNumberFor s shared n rest ≡ rest
+unfolding settingsGood settingsNumberFor
+settings-yes s shared n rest g k w =
     let a = both (cspGood (s .csp)) (idGood (s .id) && serialGood (s .serial)) g in
     let b = both (idGood (s .id)) (serialGood (s .serial)) (a .1) in
-    ask-yes 1 _ (a .0) ∙ ask-yes 2 _ (b .0) ∙ ask-yes 3 _ (b .1) ∙ ask-yes 4 rest w
+    ask-yes 1 _ (a .0) ∙ ask-yes 2 _ (b .0) ∙ ask-yes 32 _ k ∙ ask-yes 3 _ (b .1) ∙ ask-yes 4 rest w
 
-pub settings-zero : (s : Settings) (n rest : ℕ) → settingsNumber s n rest ≡ 0 → (settingsGood s ≡ true) × (widthGood n ≡ true) × (rest ≡ 0)
-unfolding settingsGood settingsNumber
-settings-zero s n rest e =
-    let a = ask-zero (cspGood (s .csp)) 0 (ask (idGood (s .id)) 2 (ask (serialGood (s .serial)) 3 (ask (widthGood n) 4 rest))) e in
-    let b = ask-zero (idGood (s .id)) 1 (ask (serialGood (s .serial)) 3 (ask (widthGood n) 4 rest)) (a .1) in
-    let d = ask-zero (serialGood (s .serial)) 2 (ask (widthGood n) 4 rest) (b .1) in
+pub settings-zero : (s : Settings) (shared : Bool) (n rest : ℕ) → settingsNumberFor s shared n rest ≡ 0
+    → (settingsGood s ≡ true) × (widthGood n ≡ true) × (rest ≡ 0) × (keyAllowed shared (s .id) ≡ true)
+unfolding settingsGood settingsNumberFor
+settings-zero s shared n rest e =
+    let a = ask-zero (cspGood (s .csp)) 0 _ e in
+    let b = ask-zero (idGood (s .id)) 1 _ (a .1) in
+    let k = ask-zero (keyAllowed shared (s .id)) 31 _ (b .1) in
+    let d = ask-zero (serialGood (s .serial)) 2 _ (k .1) in
     let w = ask-zero (widthGood n) 3 rest (d .1) in
-    (rw (a .0, b .0, d .0), w .0, w .1)
+    (rw (a .0, b .0, d .0), w .0, w .1, k .0)
 
-pub settings-pass : (s : Settings) (n rest : ℕ) → settingsNumber s n 0 ≡ 0 → settingsNumber s n rest ≡ rest
-settings-pass s n rest e = let z = settings-zero s n 0 e in settings-yes s n rest (z .0) (z .1)
+pub settings-pass : (s : Settings) (shared : Bool) (n rest : ℕ) → settingsNumberFor s shared n 0 ≡ 0 → settingsNumberFor s shared n rest ≡ rest
+settings-pass s shared n rest e = let z = settings-zero s shared n 0 e in settings-yes s shared n rest (z .0) (z .3) (z .1)
 
 -- a question whose rest counts only where its answer is yes
 rest-of : (b : Bool) (n rest other : ℕ) → (b ≡ true → rest ≡ other) → ask b n rest ≡ ask b n other
@@ -282,11 +305,13 @@ rest-of true n rest other h = ap (ask true n) (h refl)
 rest-of false n rest other h = ask-no n rest refl ∙ sym (ask-no n other refl)
 
 -- a row that says no before its end says the same before every rest
-pub settings-stop : (s : Settings) (n rest : ℕ) → (settingsNumber s n 0 ≡ 0 → ⊥) → settingsNumber s n rest ≡ settingsNumber s n 0
-unfolding settingsNumber
-settings-stop s n rest h =
+pub settings-stop : (s : Settings) (shared : Bool) (n rest : ℕ) → (settingsNumberFor s shared n 0 ≡ 0 → ⊥)
+    → settingsNumberFor s shared n rest ≡ settingsNumberFor s shared n 0
+unfolding settingsNumberFor
+settings-stop s shared n rest h =
     rest-of (cspGood (s .csp)) 1 _ _
     (λ a. rest-of (idGood (s .id)) 2 _ _
-    (λ b. rest-of (serialGood (s .serial)) 3 _ _
+    (λ b. rest-of (keyAllowed shared (s .id)) 32 _ _
+    (λ k. rest-of (serialGood (s .serial)) 3 _ _
     (λ d. rest-of (widthGood n) 4 rest 0
-    (λ w. absurd (h (ask-yes 1 _ a ∙ ask-yes 2 _ b ∙ ask-yes 3 _ d ∙ ask-yes 4 0 w))))))
+    (λ w. absurd (h (ask-yes 1 _ a ∙ ask-yes 2 _ b ∙ ask-yes 32 _ k ∙ ask-yes 3 _ d ∙ ask-yes 4 0 w)))))))

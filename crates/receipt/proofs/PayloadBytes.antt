@@ -48,7 +48,7 @@ register-bytes s p =
 
 moment-bytes : (n : ℕ) (t : DateTime) → AllBytes (moment n t)
 unfolding moment
-moment-bytes n t = field-bytes (bytes-append (field-bytes (each-bytes (each-digits a-byte n))) (each-bytes (each-date a-byte t)))
+moment-bytes n t = field-bytes (bytes-append (field-bytes (each-bytes (each-digits (a-byte .digit) n))) (each-bytes (each-date a-byte t)))
 
 amounts-bytes : (zs : List ℤ) → AllBytes (amountsText zs)
 unfolding amountsText

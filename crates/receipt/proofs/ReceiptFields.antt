@@ -48,7 +48,7 @@ use Rattle.receipt.proofs.LineFields.{code-of}
 -- ---- texts without "_"
 
 digits-none : (n : ℕ) → countOf 95 (digits n) ≡ 0
-digits-none n = count-none 95 (digits n) (without-each (each-digits no-mark n))
+digits-none n = count-none 95 (digits n) (without-each (each-digits (no-mark .digit) n))
 
 date-none : (t : DateTime) → countOf 95 (dateText t) ≡ 0
 date-none t = count-none 95 (dateText t) (without-each (each-date no-mark t))

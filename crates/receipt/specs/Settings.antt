@@ -1,7 +1,7 @@
 -- The settings of a register: CSP, register ID and serial, and which of them are good.
 use Prim.Native.Nat.{ℕ, _-_}
 use Prim.Native.Char.{code}
-use mathlib.Core.Bool.{Bool, true, not, _&&_, _||_}
+use mathlib.Core.Bool.{Bool, true, false, not, _&&_, _||_}
 use mathlib.Core.List.{List, [], _∷_, _++_}
 use mathlib.Core.Path.{_≡_}
 use lib.Dec.{leb, eqb}
@@ -79,10 +79,23 @@ serialGood serial = nameGood Serial serial
 unfoldable pub settingsGood : Settings → Bool
 settingsGood s = cspGood (s .csp) && (idGood (s .id) && serialGood (s .serial))
 
--- "CSP good? 1. ID good? 2. Serial good? 3. N from 5 to 8? 4.", and then the rest
-unfoldable pub settingsNumber : Settings → ℕ → ℕ → ℕ
-settingsNumber s n rest =
-    ask (cspGood (s .csp)) 1 (ask (idGood (s .id)) 2 (ask (serialGood (s .serial)) 3 (ask (widthGood n) 4 rest)))
+-- the last byte of a good name is a digit
+unfoldable pub endsInDigit : Name → Bool
+endsInDigit name = digit (getD (name .bytes) (name .len - 1) 0)
+
+-- whether a register with this good ID may have its key: it may if the key is not shared, or if the ID does not end in a digit
+unfoldable pub keyAllowed : Bool → Name → Bool
+keyAllowed shared id = not (shared && endsInDigit id)
+
+-- "CSP good? 1. ID good? 2. Serial good? 3. N from 5 to 8? 4.", with "32 for a marked ID ending in a digit, between 2 and 3", and then the rest
+unfoldable pub settingsNumberFor : Settings → Bool → ℕ → ℕ → ℕ
+settingsNumberFor s shared n rest =
+    ask (cspGood (s .csp)) 1
+    (ask (idGood (s .id)) 2 (ask (keyAllowed shared (s .id)) 32 (ask (serialGood (s .serial)) 3 (ask (widthGood n) 4 rest))))
+
+-- and where nothing is said of a shared key
+abbrev pub settingsNumber : Settings → ℕ → ℕ → ℕ
+settingsNumber s n rest = settingsNumberFor s false n rest
 
 -- both names end within their arrays
 unfoldable pub sized : Settings → Bool

@@ -53,6 +53,7 @@ pub use settings::name_of;
 pub use settings::serial_good;
 pub use settings::settings_good;
 pub use settings::settings_number;
+pub use settings::settings_number_for;
 
 // What the journal needs of the primitives: answers, bytes and numbers at a place in a buffer, and the widths of a counter.
 pub use primitives::Answer;

@@ -1,8 +1,9 @@
 // The settings of a register: CSP, register ID and serial.
 use primitives::width_good;
 ghost use mathlib.Core.Path.{_≡_};
+ghost use mathlib.Core.Bool.{true};
 ghost use Prim.Native.Nat.{min};
-ghost use Rattle.receipt.specs.Settings.{between, idLetter, serialLetter, letterGood, every, nameGood, cspGood, idGood, serialGood, settingsGood, settingsNumber, nameOf};
+ghost use Rattle.receipt.specs.Settings.{between, idLetter, serialLetter, letterGood, every, nameGood, cspGood, idGood, serialGood, settingsGood, keyAllowed, settingsNumberFor, settingsNumber, nameOf};
 
 // A register ID or a serial: its bytes up to its length, then zeros.
 pub struct Name {
@@ -136,9 +137,22 @@ pub fn settings_good(s: Settings) -> bool
     serial_good(serial)
 }
 
-// Questions 1 to 4, asked of settings and a counter's width; 0 if every answer is yes.
-pub fn settings_number(s: Settings, n: usize) -> u32
-    ensures { λ r. ⌜ r ≡ settingsNumber s n 0 ⌝ }
+// A shared key goes only with an ID that does not end in a digit.
+fn key_allowed(shared: bool, id: Name) -> bool
+    requires { ⌜ idGood id ≡ true ⌝ }
+    ensures { λ r. ⌜ r ≡ keyAllowed shared id ⌝ }
+{
+    if !shared {
+        return true;
+    }
+    let b = id.bytes;
+    let last = b[id.len - 1];
+    !between(b'0', b'9', last)
+}
+
+// Questions 1, 2, 32, 3 and 4, asked of settings, whether the key is shared, and a counter's width; 0 if every answer is yes.
+pub fn settings_number_for(s: Settings, shared: bool, n: usize) -> u32
+    ensures { λ r. ⌜ r ≡ settingsNumberFor s shared n 0 ⌝ }
 {
     let csp = s.csp;
     if !csp_good(csp) {
@@ -148,6 +162,9 @@ pub fn settings_number(s: Settings, n: usize) -> u32
     if !id_good(id) {
         return 2;
     }
+    if !key_allowed(shared, id) {
+        return 32;
+    }
     let serial = s.serial;
     if !serial_good(serial) {
         return 3;
@@ -156,6 +173,13 @@ pub fn settings_number(s: Settings, n: usize) -> u32
         return 4;
     }
     0
+}
+
+// Questions 1 to 4, where nothing is said of a shared key.
+pub fn settings_number(s: Settings, n: usize) -> u32
+    ensures { λ r. ⌜ r ≡ settingsNumber s n 0 ⌝ }
+{
+    settings_number_for(s, false, n)
 }
 
 // The smaller of two numbers.
