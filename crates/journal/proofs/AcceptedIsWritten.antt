@@ -41,7 +41,7 @@ use Rattle.journal.proofs.Accepting.{valid-right, valid-taken}
 use Rattle.journal.proofs.CallLists.{Bounds, Sound, Detailed, issue-yes}
 use Rattle.journal.proofs.Registers.{run-bounds, counter-sum, entryIn, Holds, holds-after, call-state, accepted-call, accepted-length, opening-holds, opening-length}
 use Rattle.journal.specs.State.{settingsNow}
-use Rattle.receipt.proofs.Names.{settings-yes}
+use Rattle.receipt.proofs.Names.{settings-yes, key-own}
 use Rattle.primitives.proofs.Rows.{ask-yes}
 
 -- ---- the signature of an entry, as a slice
@@ -218,9 +218,9 @@ module _ (s : Settings) (n : ℕ) (key : List ℕ) (ts : TypedSettings s) (good 
 
 -- ---- the journal
 
-open-yes : (s : Settings) (n room : ℕ) → settingsGood s ≡ true → widthGood n ≡ true → headLength s ≤ room → openNumber s n room ≡ 0
+open-yes : (s : Settings) (n room : ℕ) → settingsGood s ≡ true → widthGood n ≡ true → headLength s ≤ room → openNumber s false n room ≡ 0
 unfolding openNumber
-open-yes s n room g w h = settings-yes s n _ g w ∙ ask-yes 5 0 (le-leb (headLength s) room h)
+open-yes s n room g w h = settings-yes s false n _ g (key-own (s .id)) w ∙ ask-yes 5 0 (le-leb (headLength s) room h)
 
 accepted-state : (st : State) → accepted st .state ≡ st
 unfolding accepted
@@ -232,15 +232,15 @@ module _ {j key : List ℕ} {n : ℕ} (kb : AllBytes key) (v : Valid j key n) (b
       ap length (v .bytes) ∙ length-append (head (v .settings) (length (v .entries))) (texts (v .settings) n (v .entries))
       ∙ ap (λ (k : ℕ). k + length (texts (v .settings) n (v .entries))) (length-head (v .settings) (v .typed .lengths) (v .good) (length (v .entries)))
 
-  open-again : openNumber (v .settings) n (length buf) ≡ 0
+  open-again : openNumber (v .settings) false n (length buf) ≡ 0
   open-again = open-yes (v .settings) n (length buf) (v .good) (v .width) (omega (arith, j-long))
 
   start : Register
-  start = opening (v .settings) key n buf
+  start = opening (v .settings) key false n buf
 
   start-holds : Holds (v .settings) n key start []
   unfolding start
-  start-holds = opening-holds (v .settings) n key (v .typed) (v .good) (v .width) kb buf open-again
+  start-holds = opening-holds (v .settings) n key (v .typed) (v .good) (v .width) kb buf false open-again
 
   start-state : start .state ≡ fresh (v .settings) n key
   unfolding run
@@ -248,7 +248,7 @@ module _ {j key : List ℕ} {n : ℕ} (kb : AllBytes key) (v : Valid j key n) (b
 
   start-length : length (start .buf) ≡ length j
   unfolding start
-  start-length = opening-length (v .settings) n key (v .typed) (v .good) (v .width) kb buf open-again ∙ size
+  start-length = opening-length (v .settings) n key (v .typed) (v .good) (v .width) kb buf false open-again ∙ size
 
   fresh-room : fresh (v .settings) n key .length + length (texts (fresh (v .settings) n key .settings) (fresh (v .settings) n key .width) (v .entries)) ≤ length (start .buf)
   unfolding fresh

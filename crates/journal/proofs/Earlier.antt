@@ -156,9 +156,9 @@ old-journals-stay-accepted =
     record {
       former = omega arith;
       valid = stays;
-      written = λ limit lower s key n buf ts kb z cs tcs.
+      written = λ limit lower s key shared n buf ts kb z cs tcs.
           let k = keep limit lower cs _ tcs in
           ap (λ (r : Register). takeOver (journalOf r) key n) (k .kept)
-          ∙ written-is-accepted s key n buf ts kb z (k .those) (k .typed) .taken
+          ∙ written-is-accepted s key shared n buf ts kb z (k .those) (k .typed) .taken
           ∙ ap (λ (r : Register). accepted (r .state)) (sym (k .kept));
     }

@@ -23,5 +23,6 @@ pub mod Refusals
 pub mod Registers
 pub mod Remaining
 pub mod Sections
+pub mod SharedKey
 pub mod Touching
 pub mod WrittenIsAccepted

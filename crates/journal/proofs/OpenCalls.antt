@@ -1,7 +1,7 @@
 -- What the functions of an Open show at their returns, over plain variables.
 use Prim.Native.Nat.{ℕ, _+_, _-_, _≤_, _<_}
 use mathlib.Core.Path.{_≡_, sym, ap, _∙_}
-use mathlib.Core.Bool.{true}
+use mathlib.Core.Bool.{Bool, true}
 use mathlib.Core.List.{List, _++_}
 use native.Mathlib.Omega.{arith}
 use lib.ListN.{length, take, length-append}
@@ -9,7 +9,7 @@ use Rattle.primitives.specs.Place.{overwrite, placed}
 use Rattle.primitives.specs.Number.{bytesOf}
 use Rattle.primitives.proofs.Numbers.{length-bytesOf}
 use Rattle.primitives.proofs.Over.{length-over, placed-room, then}
-use Rattle.receipt.specs.Settings.{nameText, settingsGood, SettingsLengths, settingsNumber}
+use Rattle.receipt.specs.Settings.{nameText, settingsGood, SettingsLengths, settingsNumberFor}
 use Rattle.receipt.specs.declared.settings.Settings.{Settings}
 use Rattle.receipt.proofs.Names.{good-settings, length-text, settings-zero, settings-pass, settings-stop}
 use Rattle.receipt.proofs.Entries.{lent-name}
@@ -103,39 +103,39 @@ put-count place count b h q =
 
 -- ---- the answers
 
-module _ (s : Settings) (key : List ℕ) (n : ℕ) (b : List ℕ) (k : ℕ) (e : k ≡ openNumber s n (length b)) where
-  pub open-refused : {u : State} → (k ≡ 0 → ⊥) → u ≡ unopened → (record { number = k; state = u } ≡ opened s key n (length b)) × (b ≡ openBuffer s n b)
+module _ (s : Settings) (key : List ℕ) (shared : Bool) (n : ℕ) (b : List ℕ) (k : ℕ) (e : k ≡ openNumber s shared n (length b)) where
+  pub open-refused : {u : State} → (k ≡ 0 → ⊥) → u ≡ unopened → (record { number = k; state = u } ≡ opened s key shared n (length b)) × (b ≡ openBuffer s shared n b)
   unfolding opened openBuffer
   open-refused h q =
-      let m : openNumber s n (length b) ≡ 0 → ⊥ = λ z. h (e ∙ z) in (
-        (λ i. record { number = e i; state = (q ∙ sym (ifZero-no (openNumber s n (length b)) (fresh s n key) unopened m)) i }),
-        sym (ifZero-no (openNumber s n (length b)) (overwrite b 0 (head s 0)) b m),
+      let m : openNumber s shared n (length b) ≡ 0 → ⊥ = λ z. h (e ∙ z) in (
+        (λ i. record { number = e i; state = (q ∙ sym (ifZero-no (openNumber s shared n (length b)) (fresh s n key) unopened m)) i }),
+        sym (ifZero-no (openNumber s shared n (length b)) (overwrite b 0 (head s 0)) b m),
       )
 
   pub open-done : {f : State} {b₁ : List ℕ} → k ≡ 0 → b₁ ≡ overwrite b 0 (head s 0) → f ≡ fresh s n key
-      → (record { number = 0; state = f } ≡ opened s key n (length b)) × (b₁ ≡ openBuffer s n b)
+      → (record { number = 0; state = f } ≡ opened s key shared n (length b)) × (b₁ ≡ openBuffer s shared n b)
   unfolding opened openBuffer
   open-done z w q =
-      let m : openNumber s n (length b) ≡ 0 = sym e ∙ z in
+      let m : openNumber s shared n (length b) ≡ 0 = sym e ∙ z in
       ((λ i. record { number = sym m i; state = (q ∙ sym (ifZero-yes (fresh s n key) unopened m)) i }), w ∙ sym (ifZero-yes (overwrite b 0 (head s 0)) b m))
 
--- ---- questions 1 to 5
+-- ---- questions 1, 2, 32, 3, 4 and 5
 
-module _ (s : Settings) (n room : ℕ) {k : ℕ} (e : k ≡ settingsNumber s n 0) where
-  pub number-stops : (k ≡ 0 → ⊥) → k ≡ openNumber s n room
+module _ (s : Settings) (shared : Bool) (n room : ℕ) {k : ℕ} (e : k ≡ settingsNumberFor s shared n 0) where
+  pub number-stops : (k ≡ 0 → ⊥) → k ≡ openNumber s shared n room
   unfolding openNumber
-  number-stops h = e ∙ sym (settings-stop s n (ask (leb (headLength s) room) 5 0) (λ z. h (e ∙ z)))
+  number-stops h = e ∙ sym (settings-stop s shared n (ask (leb (headLength s) room) 5 0) (λ z. h (e ∙ z)))
 
   module _ (z : k ≡ 0) where
     pub number-good : settingsGood s ≡ true
-    number-good = settings-zero s n 0 (sym e ∙ z) .0
+    number-good = settings-zero s shared n 0 (sym e ∙ z) .0
 
-    number-five : openNumber s n room ≡ ask (leb (headLength s) room) 5 0
+    number-five : openNumber s shared n room ≡ ask (leb (headLength s) room) 5 0
     unfolding openNumber
-    number-five = settings-pass s n (ask (leb (headLength s) room) 5 0) (sym e ∙ z)
+    number-five = settings-pass s shared n (ask (leb (headLength s) room) 5 0) (sym e ∙ z)
 
-    pub number-short : {m : ℕ} → m ≡ headLength s → room < m → 5 ≡ openNumber s n room
+    pub number-short : {m : ℕ} → m ≡ headLength s → room < m → 5 ≡ openNumber s shared n room
     number-short q h = sym (number-five ∙ ask-no 5 0 (lt-leb (headLength s) room (omega (arith, q))))
 
-    pub number-zero : {m : ℕ} → m ≡ headLength s → m ≤ room → 0 ≡ openNumber s n room
+    pub number-zero : {m : ℕ} → m ≡ headLength s → m ≤ room → 0 ≡ openNumber s shared n room
     number-zero q h = sym (number-five ∙ ask-yes 5 0 (le-leb (headLength s) room (omega (arith, q))))

@@ -1,5 +1,6 @@
 -- What a refused call leaves.
 use Prim.Native.Nat.{ℕ, zero, suc}
+use mathlib.Core.Bool.{Bool}
 use mathlib.Core.Path.{_≡_, refl}
 use mathlib.Core.List.{List}
 use lib.ListN.{length}
@@ -20,10 +21,10 @@ use Rattle.primitives.proofs.Rows.{ifZero-no}
 use Rattle.journal.specs.declared.checking.Step.{Step}
 use Rattle.primitives.specs.Aes.{keySchedule}
 
-open-refused : (s : Settings) (key : List ℕ) (n : ℕ) (buf : List ℕ) → (opened s key n (length buf) .number ≡ 0 → ⊥)
-    → (opened s key n (length buf) .state ≡ unopened) × (openBuffer s n buf ≡ buf)
+open-refused : (s : Settings) (key : List ℕ) (shared : Bool) (n : ℕ) (buf : List ℕ) → (opened s key shared n (length buf) .number ≡ 0 → ⊥)
+    → (opened s key shared n (length buf) .state ≡ unopened) × (openBuffer s shared n buf ≡ buf)
 unfolding opened openBuffer
-open-refused s key n buf h = (ifZero-no (openNumber s n (length buf)) _ _ h, ifZero-no (openNumber s n (length buf)) _ _ h)
+open-refused s key shared n buf h = (ifZero-no (openNumber s shared n (length buf)) _ _ h, ifZero-no (openNumber s shared n (length buf)) _ _ h)
 
 issue-refused : (st : State) (d : Details) (sig buf : List ℕ) → (issued st d sig (length buf) .number ≡ 0 → ⊥)
     → (issued st d sig (length buf) .state ≡ st) × (issueBuffer st d sig buf ≡ buf)

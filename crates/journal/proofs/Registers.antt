@@ -1,7 +1,7 @@
 -- A register after calls: its state, its journal and its buffer.
 use Prim.Native.Nat.{ℕ, zero, suc, _+_, _^_, _≤_, _<_}
 use mathlib.Core.Path.{_≡_, refl, sym, ap, _∙_, subst}
-use mathlib.Core.Bool.{true}
+use mathlib.Core.Bool.{Bool, true}
 use mathlib.Core.List.{List, [], _∷_, _++_, append-assoc, append-nil}
 use native.Mathlib.Omega.{arith}
 use native.Mathlib.Nat.{zero-add, pow-le-pow-right}
@@ -16,7 +16,7 @@ use Rattle.primitives.specs.Counter.{widthGood, counterFits, half}
 use Rattle.primitives.proofs.Over.{length-over, read-over}
 use Rattle.primitives.proofs.Twos.{width-true, half-twice, below-fits, fits-wide}
 use Rattle.receipt.specs.Amount.{amountLimit}
-use Rattle.receipt.specs.Settings.{nameText, settingsGood, TypedSettings}
+use Rattle.receipt.specs.Settings.{nameText, settingsGood, TypedSettings, keyAllowed}
 use Rattle.receipt.specs.Compact.{compact}
 use Rattle.receipt.specs.declared.settings.Settings.{Settings}
 use Rattle.receipt.specs.declared.entry.Entry.{Entry}
@@ -176,11 +176,12 @@ receipts-same (c ∷ cs) g = go (numberOf g c) (receipts-same cs (call g c))
 -- ---- the register after calls
 
 -- what an Open that was not refused says
-pub open-zero : (s : Settings) (n room : ℕ) → openNumber s n room ≡ 0 → (settingsGood s ≡ true) × (widthGood n ≡ true) × (headLength s ≤ room)
+pub open-zero : (s : Settings) (shared : Bool) (n room : ℕ) → openNumber s shared n room ≡ 0
+    → (settingsGood s ≡ true) × (widthGood n ≡ true) × (headLength s ≤ room) × (keyAllowed shared (s .id) ≡ true)
 unfolding openNumber
-open-zero s n room z =
-    let p = settings-zero s n _ z in
-    (p .0, p .1, leb-true (headLength s) room (ask-zero _ _ _ (p .2) .0))
+open-zero s shared n room z =
+    let p = settings-zero s shared n _ z in
+    (p .0, p .1, leb-true (headLength s) room (ask-zero _ _ _ (p .2) .0), p .3)
 
 -- since it was opened, the register has taken up these entries
 pub record Holds (s : Settings) (n : ℕ) (key : List ℕ) (g : Register) (es : List Entry) : Type 0 where
@@ -263,15 +264,15 @@ module _ (s : Settings) (n : ℕ) (key : List ℕ) (ts : TypedSettings s) (good 
 
   -- ---- the register that was just opened
 
-  module _ (buf : List ℕ) (z : openNumber s n (length buf) ≡ 0) where
-    pub opening-is : opening s key n buf ≡ record { state = fresh s n key; buf = overwrite buf 0 (head s 0) }
+  module _ (buf : List ℕ) (shared : Bool) (z : openNumber s shared n (length buf) ≡ 0) where
+    pub opening-is : opening s key shared n buf ≡ record { state = fresh s n key; buf = overwrite buf 0 (head s 0) }
     unfolding opening opened openBuffer
     opening-is = λ i. record { state = ifZero-yes (fresh s n key) unopened z i; buf = ifZero-yes (overwrite buf 0 (head s 0)) buf z i }
 
     fits-buffer : 0 + length (head s 0) ≤ length buf
-    fits-buffer = let o = open-zero s n (length buf) z in omega (arith, length-head s (ts .lengths) good 0, o .2)
+    fits-buffer = let o = open-zero s shared n (length buf) z in omega (arith, length-head s (ts .lengths) good 0, o .2)
 
-    pub opening-length : length (opening s key n buf .buf) ≡ length buf
+    pub opening-length : length (opening s key shared n buf .buf) ≡ length buf
     opening-length = ap (λ (g : Register). length (g .buf)) opening-is ∙ length-over buf 0 (head s 0) fits-buffer
 
     fresh-place : fresh s n key .length ≡ length (head s 0)
@@ -288,5 +289,5 @@ module _ (s : Settings) (n : ℕ) (key : List ℕ) (ts : TypedSettings s) (good 
           room = omega (arith, fresh-place, fits-buffer, length-over buf 0 (head s 0) fits-buffer);
         }
 
-    pub opening-holds : Holds s n key (opening s key n buf) []
+    pub opening-holds : Holds s n key (opening s key shared n buf) []
     opening-holds = subst (λ (g : Register). Holds s n key g []) (sym opening-is) holds-fresh

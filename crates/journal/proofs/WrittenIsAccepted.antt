@@ -118,13 +118,13 @@ holds-taken s key n g es ts good width h =
 
 pub written-is-accepted : WrittenIsAccepted
 unfolding holds-valid
-written-is-accepted s key n buf ts kb z cs tcs =
-    let o = open-zero s n (length buf) z in
+written-is-accepted s key shared n buf ts kb z cs tcs =
+    let o = open-zero s shared n (length buf) z in
     let good = o .0 in
     let width = o .1 in
-    let g = opening s key n buf in
+    let g = opening s key shared n buf in
     let es = entriesOf g cs in
-    let h : Holds s n key (calls g cs) es = holds-calls s n key ts good width kb cs g [] tcs (opening-holds s n key ts good width kb buf z) in
+    let h : Holds s n key (calls g cs) es = holds-calls s n key ts good width kb cs g [] tcs (opening-holds s n key ts good width kb buf shared z) in
     let v : Valid (journalOf (calls g cs)) key n = holds-valid s key n (calls g cs) es ts good width h in
     record {
       taken = holds-taken s key n (calls g cs) es ts good width h;

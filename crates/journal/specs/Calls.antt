@@ -1,7 +1,7 @@
 -- Lists of Issue calls: "Each Issue gets the state that the call before it returned and the buffer as that call left it".
 use Prim.Native.Nat.{ℕ, _<_}
 use mathlib.Core.Path.{_≡_}
-use mathlib.Core.Bool.{cond}
+use mathlib.Core.Bool.{Bool, cond}
 use mathlib.Core.List.{List, [], _∷_}
 use lib.ListN.{length, take}
 use Rattle.primitives.specs.Bytes.{AllBytes}
@@ -39,9 +39,9 @@ pub record Register : Type 0 where
 unfoldable pub journalOf : Register → List ℕ
 journalOf g = take (g .state .length) (g .buf)
 
--- what Open leaves
-unfoldable pub opening : Settings → List ℕ → ℕ → List ℕ → Register
-opening s key n buf = record { state = opened s key n (length buf) .state; buf = openBuffer s n buf }
+-- what Open leaves; the key is shared with other registers, or it is not
+unfoldable pub opening : Settings → List ℕ → Bool → ℕ → List ℕ → Register
+opening s key shared n buf = record { state = opened s key shared n (length buf) .state; buf = openBuffer s shared n buf }
 
 -- the number of a call: 0 if it was not refused
 unfoldable pub numberOf : Register → Call → ℕ

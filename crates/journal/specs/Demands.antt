@@ -27,7 +27,7 @@ use Rattle.journal.specs.Calls.{Call, TypedCalls, Register, journalOf, o
 use Rattle.journal.specs.declared.state.State.{State}
 use Rattle.journal.specs.Step.{fresh, sound}
 use Rattle.primitives.specs.Aes.{keySchedule}
-use mathlib.Core.Bool.{true, false}
+use mathlib.Core.Bool.{Bool, true, false}
 
 -- "Accepted means that Take over returns no number, which is so exactly for a valid journal"
 abbrev pub AcceptedIsValid : Type 0
@@ -54,23 +54,23 @@ pub record Written (key : List ℕ) (n : ℕ) (g : Register) (cs : List Call) : 
   -- the counter is the sum of their amounts
   pub counter : calls g cs .state .counter ≡ sum (receiptsOf g cs)
 
--- from an Open that was not refused, after every list of calls
+-- from an Open that was not refused, marked for a shared key or not, after every list of calls
 abbrev pub WrittenIsAccepted : Type 0
 WrittenIsAccepted =
-    (s : Settings) (key : List ℕ) (n : ℕ) (buf : List ℕ) → TypedSettings s → AllBytes key → openNumber s n (length buf) ≡ 0
-    → (cs : List Call) → TypedCalls cs → Written key n (opening s key n buf) cs
+    (s : Settings) (key : List ℕ) (shared : Bool) (n : ℕ) (buf : List ℕ) → TypedSettings s → AllBytes key → openNumber s shared n (length buf) ≡ 0
+    → (cs : List Call) → TypedCalls cs → Written key n (opening s key shared n buf) cs
 
 -- what holds if a valid journal is written again, into a buffer
 pub record Again (j key : List ℕ) (n : ℕ) (v : Valid j key n) (buf : List ℕ) : Type 0 where
-  -- "Open with the CSP, ID and serial of its head, the key and N under which it was accepted": not refused
-  pub opened : openNumber (v .settings) n (length buf) ≡ 0
+  -- "Open with the CSP, ID and serial of its head, the key and N under which it was accepted", "an unmarked Open": not refused
+  pub opened : openNumber (v .settings) false n (length buf) ≡ 0
   -- one call for each entry, within the code's types: none is refused
   pub typed : TypedCalls (callsOf (v .entries))
-  pub none : numbersOf (opening (v .settings) key n buf) (callsOf (v .entries)) ≡ replicate (length (v .entries)) 0
+  pub none : numbersOf (opening (v .settings) key false n buf) (callsOf (v .entries)) ≡ replicate (length (v .entries)) 0
   -- the buffer is the journal, byte by byte
-  pub journal : calls (opening (v .settings) key n buf) (callsOf (v .entries)) .buf ≡ j
+  pub journal : calls (opening (v .settings) key false n buf) (callsOf (v .entries)) .buf ≡ j
   -- the state is the one that Take over gave
-  pub state : calls (opening (v .settings) key n buf) (callsOf (v .entries)) .state ≡ takeOver j key n .state
+  pub state : calls (opening (v .settings) key false n buf) (callsOf (v .entries)) .state ≡ takeOver j key n .state
   pub counter : takeOver j key n .state .counter ≡ sum (receiptsIn (v .entries))
 
 -- for every accepted journal, "and any buffer of its length"
@@ -129,8 +129,8 @@ FormIsAppended =
 
 -- a refused call leaves buffer and state unchanged; a refused Open or Take over returns the unopened state
 pub record RefusedChangesNothing : Type 0 where
-  pub opens : (s : Settings) (key : List ℕ) (n : ℕ) (buf : List ℕ) → (opened s key n (length buf) .number ≡ 0 → ⊥)
-      → (opened s key n (length buf) .state ≡ unopened) × (openBuffer s n buf ≡ buf)
+  pub opens : (s : Settings) (key : List ℕ) (shared : Bool) (n : ℕ) (buf : List ℕ) → (opened s key shared n (length buf) .number ≡ 0 → ⊥)
+      → (opened s key shared n (length buf) .state ≡ unopened) × (openBuffer s shared n buf ≡ buf)
   pub issues : (st : State) (d : Details) (sig buf : List ℕ) → (issued st d sig (length buf) .number ≡ 0 → ⊥)
       → (issued st d sig (length buf) .state ≡ st) × (issueBuffer st d sig buf ≡ buf)
   pub prepares : (st : State) (d : Details) (out : List ℕ) → (prepareAnswer st d (length out) .number ≡ 0 → ⊥)

@@ -2,7 +2,7 @@
 -- What is said here holds for every limit that is not above the one of the calls.
 use Prim.Native.Nat.{ℕ, _≤_}
 use mathlib.Core.Path.{_≡_}
-use mathlib.Core.Bool.{true, false}
+use mathlib.Core.Bool.{Bool, true, false}
 use mathlib.Core.List.{List, _∷_, _++_}
 use lib.ListN.{length}
 use Rattle.primitives.specs.Bytes.{AllBytes}
@@ -33,9 +33,9 @@ pub record OldJournalsStayAccepted : Type 0 where
   -- a journal that was valid, with number and index 0 and the state that its head and entries give
   pub valid : (limit : ℕ) → limit ≤ amountLimit → (j key : List ℕ) (n : ℕ) (v : ValidWithin limit j key n) → StaysAccepted limit j key n v
   -- a journal that a register wrote by any list of calls, refused ones among them, with the state that this register has
-  pub written : (limit : ℕ) → limit ≤ amountLimit → (s : Settings) (key : List ℕ) (n : ℕ) (buf : List ℕ) → TypedSettings s → AllBytes key
-      → openNumber s n (length buf) ≡ 0 → (cs : List Call) → TypedCalls cs
-      → takeOver (journalOf (callsWithin limit (opening s key n buf) cs)) key n ≡ accepted (callsWithin limit (opening s key n buf) cs .state)
+  pub written : (limit : ℕ) → limit ≤ amountLimit → (s : Settings) (key : List ℕ) (shared : Bool) (n : ℕ) (buf : List ℕ) → TypedSettings s → AllBytes key
+      → openNumber s shared n (length buf) ≡ 0 → (cs : List Call) → TypedCalls cs
+      → takeOver (journalOf (callsWithin limit (opening s key shared n buf) cs)) key n ≡ accepted (callsWithin limit (opening s key shared n buf) cs .state)
 
 -- every old call of Issue is answered as before
 pub record OldCallsStay : Type 0 where

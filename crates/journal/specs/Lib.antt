@@ -8,6 +8,7 @@ pub mod Issuing
 pub mod Opening
 pub mod Preparing
 pub mod Receipts
+pub mod SharedKey
 pub mod State
 pub mod Step
 pub mod Valid

@@ -9,11 +9,11 @@ ghost use mathlib.Core.Path.{_≡_};
 ghost use lib.ListN.{length};
 ghost use Rattle.journal.specs.Opening.{openNumber, opened, openBuffer};
 
-// Questions 1 to 5.
-fn open_number(s: Settings, n: usize, room: usize) -> u32
-    ensures { λ r. ⌜ r ≡ openNumber s n room ⌝ }
+// Questions 1, 2, 32, 3, 4 and 5.
+fn open_number(s: Settings, shared: bool, n: usize, room: usize) -> u32
+    ensures { λ r. ⌜ r ≡ openNumber s shared n room ⌝ }
 {
-    let number = receipt::settings_number(s, n);
+    let number = receipt::settings_number_for(s, shared, n);
     if number != 0 {
         return number;
     }
@@ -23,11 +23,12 @@ fn open_number(s: Settings, n: usize, room: usize) -> u32
     0
 }
 
-// Writes a head to the buffer if questions 1 to 5 are answered yes.
-pub fn open(s: Settings, key: [u8; 32], n: usize, buf: &mut [u8]) -> Opened
-    ensures { λ r. ⌜ (r ≡ opened s key n (length (now (buf .entry)))) × (now (buf .exit) ≡ openBuffer s n (now (buf .entry))) ⌝ }
+// Writes a head to the buffer if every question is answered yes. `shared` says that other registers have the same key; it is not stored.
+pub fn open(s: Settings, key: [u8; 32], shared: bool, n: usize, buf: &mut [u8]) -> Opened
+    ensures { λ r.
+        ⌜ (r ≡ opened s key shared n (length (now (buf .entry)))) × (now (buf .exit) ≡ openBuffer s shared n (now (buf .entry))) ⌝ }
 {
-    let number = open_number(s, n, buf.len());
+    let number = open_number(s, shared, n, buf.len());
     if number != 0 {
         let state = unopened();
         return Opened { number, state };

@@ -1,0 +1,99 @@
+-- What the mark of an Open for a shared key asks and promises.
+use Prim.Native.Nat.{ℕ}
+use mathlib.Core.Path.{_≡_, refl, sym, ap, _∙_}
+use mathlib.Core.Bool.{Bool, true, false, not, _&&_}
+use native.Mathlib.Omega.{arith}
+use borrow.Author.Tests.{not-true, not-false}
+use lib.Dec.{leb}
+use lib.ListN.{length}
+use Rattle.primitives.specs.Place.{overwrite}
+use Rattle.primitives.specs.Questions.{ask, ifZero}
+use Rattle.primitives.specs.Counter.{widthGood}
+use Rattle.primitives.proofs.Rows.{true-is-not-false, both, ask-yes, ask-no}
+use Rattle.receipt.specs.Settings.{cspGood, idGood, serialGood, settingsGood, endsInDigit, keyAllowed, settingsNumberFor}
+use Rattle.receipt.specs.declared.settings.Name.{Name}
+use Rattle.receipt.specs.declared.settings.Settings.{Settings}
+use Rattle.receipt.proofs.HashInputs.{one-id-one-hash-input}
+use Rattle.receipt.proofs.Names.{key-own, key-shared}
+use Rattle.journal.specs.Head.{head, headLength}
+use Rattle.journal.specs.State.{unopened}
+use Rattle.journal.specs.Step.{fresh}
+use Rattle.journal.specs.Opening.{openNumber, opened, openBuffer}
+use Rattle.journal.specs.SharedKey.{SharedKeyNeverRepeats, MarkedDigit, MarkedDigitGets32, MarkIsNotStored, UnmarkedAsBefore}
+use Rattle.journal.proofs.Registers.{open-zero}
+
+-- ---- the IDs that a marked Open takes
+
+good-id : (s : Settings) → settingsGood s ≡ true → idGood (s .id) ≡ true
+unfolding settingsGood
+good-id s e = both (idGood (s .id)) (serialGood (s .serial)) (both (cspGood (s .csp)) (idGood (s .id) && serialGood (s .serial)) e .1) .0
+
+no-digit : (s : Settings) (n room : ℕ) → openNumber s true n room ≡ 0 → endsInDigit (s .id) ≡ false
+no-digit s n room z = not-true (endsInDigit (s .id)) (sym (key-shared (s .id)) ∙ open-zero s true n room z .3)
+
+pub shared-key-never-repeats : SharedKeyNeverRepeats
+shared-key-never-repeats s t n m room space ts us z y a b h k e =
+    one-id-one-hash-input (s .id) (t .id) (ts .lengths .id) (us .lengths .id) (good-id s (open-zero s true n room z .0)) (good-id t (open-zero t true m space y .0))
+    (no-digit s n room z) (no-digit t m space y) a b h k e
+
+-- ---- 32 in the row of questions
+
+-- the row gives 32 only at its own question
+at-32 : (csp id key serial width room : Bool) → ask csp 1 (ask id 2 (ask key 32 (ask serial 3 (ask width 4 (ask room 5 0))))) ≡ 32
+    → (csp ≡ true) × (id ≡ true) × (key ≡ false)
+unfolding ask
+at-32 false id key serial width room e = absurd (omega (arith, e))
+at-32 true false key serial width room e = absurd (omega (arith, e))
+at-32 true true false serial width room e = (refl, refl, refl)
+at-32 true true true false width room e = absurd (omega (arith, e))
+at-32 true true true true false room e = absurd (omega (arith, e))
+at-32 true true true true true false e = absurd (omega (arith, e))
+at-32 true true true true true true e = absurd (omega (arith, e))
+
+-- a row that does not give 32 is the row without its question
+not-32 : (csp id key : Bool) (rest : ℕ) → (ask csp 1 (ask id 2 (ask key 32 rest)) ≡ 32 → ⊥)
+    → ask csp 1 (ask id 2 (ask key 32 rest)) ≡ ask csp 1 (ask id 2 (ask true 32 rest))
+unfolding ask
+not-32 false id key rest h = refl
+not-32 true false key rest h = refl
+not-32 true true false rest h = absurd (h refl)
+not-32 true true true rest h = refl
+
+refused-key : (shared : Bool) (id : Name) → keyAllowed shared id ≡ false → (shared ≡ true) × (endsInDigit id ≡ true)
+refused-key true id e = (refl, not-false (endsInDigit id) (sym (key-shared id) ∙ e))
+refused-key false id e = true-is-not-false (sym e ∙ key-own id)
+
+digit-refused : (shared : Bool) (id : Name) → shared ≡ true → endsInDigit id ≡ true → keyAllowed shared id ≡ false
+digit-refused shared id m d = ap (λ (b : Bool). keyAllowed b id) m ∙ key-shared id ∙ ap not d
+
+pub marked-digit-gets-32 : MarkedDigitGets32
+unfolding openNumber settingsNumberFor
+marked-digit-gets-32 s shared n room = (only, always)
+  where
+    only : openNumber s shared n room ≡ 32 → MarkedDigit s shared
+    only e =
+        let p = at-32 (cspGood (s .csp)) (idGood (s .id)) (keyAllowed shared (s .id)) (serialGood (s .serial)) (widthGood n) (leb (headLength s) room) e in
+        let k = refused-key shared (s .id) (p .2) in
+        record { csp = p .0; id = p .1; marked = k .0; ends = k .1 }
+
+    always : MarkedDigit s shared → openNumber s shared n room ≡ 32
+    always m = ask-yes 1 _ (m .csp) ∙ ask-yes 2 _ (m .id) ∙ ask-no 32 _ (digit-refused shared (s .id) (m .marked) (m .ends))
+
+-- ---- the rest is the unmarked Open
+
+same-number : (s : Settings) (shared : Bool) (n room : ℕ) → (openNumber s shared n room ≡ 32 → ⊥) → openNumber s shared n room ≡ openNumber s false n room
+unfolding openNumber settingsNumberFor
+same-number s shared n room h =
+    let rest = ask (serialGood (s .serial)) 3 (ask (widthGood n) 4 (ask (leb (headLength s) room) 5 0)) in
+    not-32 (cspGood (s .csp)) (idGood (s .id)) (keyAllowed shared (s .id)) rest h
+    ∙ ap (λ (b : Bool). ask (cspGood (s .csp)) 1 (ask (idGood (s .id)) 2 (ask b 32 rest))) (sym (key-own (s .id)))
+
+pub mark-is-not-stored : MarkIsNotStored
+unfolding opened openBuffer
+mark-is-not-stored s key shared n buf h =
+    let e = same-number s shared n (length buf) h in
+    ((λ i. record { number = e i; state = ifZero (e i) (fresh s n key) unopened }), ap (λ (k : ℕ). ifZero k (overwrite buf 0 (head s 0)) buf) e)
+
+pub unmarked-as-before : UnmarkedAsBefore
+unfolding openNumber settingsNumberFor keyAllowed ask
+unmarked-as-before s n room = refl
