@@ -18,7 +18,7 @@ use Rattle.receipt.specs.declared.settings.Settings.{Settings}
 use Rattle.receipt.specs.declared.settings.Letters.the-variants.{Id, Serial}
 use Rattle.receipt.specs.declared.details.Kind.{Kind}
 use Rattle.receipt.specs.declared.entry.Entry.{Entry}
-use Rattle.receipt.proofs.Names.{name-of, settings-yes}
+use Rattle.receipt.proofs.Names.{name-of, key-own, settings-yes}
 use Rattle.receipt.proofs.Entries.{settings-all, admitted}
 use Rattle.journal.specs.State.{TypedRegister, TypedState}
 use Rattle.journal.specs.Opening.{openNumber, opened}
@@ -96,16 +96,16 @@ module _ (b : List ℕ) (g : Register) (cs : List Call) (l : length (keyOf b) �
       }
 
 pub written-is-accepted-in-c : WrittenIsAcceptedInC
-written-is-accepted-in-c b g a l z cs tcs =
-    let r = registerIn b (g .journal) in
-    let t = opened-typed b g a z in
-    let o = open-accepted b g z in
-    let m = same-calls (settingsOf b) (widthOf b) (keyOf b) (g .journal) (t .0) (t .1) l (o .1) cs tcs in
-    let w = written-is-accepted (settingsOf b) (keyOf b) (widthOf b) (g .journal) (t .0) (t .1 .keyBytes) (o .1) (map callIn cs) (calls-typed cs tcs) in
-    let f = opened-same b g (o .0) in
-    let e : issuedAll (openedSlices b g) cs ≡ slicesOf (calls r (map callIn cs)) = ap (λ (x : Slices). issuedAll x cs) f ∙ m .slices in
-    let q : issuedReceipts (openedSlices b g) cs ≡ receiptsOf r (map callIn cs) = ap (λ (x : Slices). issuedReceipts x cs) f ∙ m .receipts in (
-      subst (λ (x : Slices). WrittenInC b x (issuedReceipts (openedSlices b g) cs)) (sym e)
+written-is-accepted-in-c b shared g a l z cs tcs =
+    let r = registerIn b shared (g .journal) in
+    let t = opened-typed b shared g a z in
+    let o = open-accepted b shared g z in
+    let m = same-calls (settingsOf b) shared (widthOf b) (keyOf b) (g .journal) (t .0) (t .1) l (o .1) cs tcs in
+    let w = written-is-accepted (settingsOf b) (keyOf b) shared (widthOf b) (g .journal) (t .0) (t .1 .keyBytes) (o .1) (map callIn cs) (calls-typed cs tcs) in
+    let f = opened-same b shared g (o .0) in
+    let e : issuedAll (openedSlices b shared g) cs ≡ slicesOf (calls r (map callIn cs)) = ap (λ (x : Slices). issuedAll x cs) f ∙ m .slices in
+    let q : issuedReceipts (openedSlices b shared g) cs ≡ receiptsOf r (map callIn cs) = ap (λ (x : Slices). issuedReceipts x cs) f ∙ m .receipts in (
+      subst (λ (x : Slices). WrittenInC b x (issuedReceipts (openedSlices b shared g) cs)) (sym e)
           (subst (λ (x : List Receipt). WrittenInC b (slicesOf (calls r (map callIn cs))) x) (sym q) (written-same b r (map callIn cs) (t .1 .keyLength) (m .typed) w)),
       ap (λ (x : Slices). issuedNumbers x cs) f ∙ m .numbers,
     )
@@ -154,7 +154,7 @@ settings-same s t good =
 
 answer-zero : (s : Settings) (n : ℕ) → settingsGood s ≡ true → widthGood n ≡ true → settingsAnswer s n 123 ≡ 0
 unfolding settingsAnswer
-answer-zero s n good width = settings-yes s n (ask (eqb 123 123) 23 0) good width ∙ ask-yes 23 0 refl
+answer-zero s n good width = settings-yes s false n (ask (eqb 123 123) 23 0) good (key-own (s .id)) width ∙ ask-yes 23 0 refl
 
 module _ {j key : List ℕ} {n : ℕ} (v : Valid j key n) where
   all-calls : (before es : List Entry) → v .entries ≡ before ++ es → TypedIssueCalls (map issueCallOf es) × (map callIn (map issueCallOf es) ≡ callsOf es)
@@ -184,10 +184,10 @@ module _ {j key : List ℕ} {n : ℕ} (v : Valid j key n) where
       b = settingsBytes (v .settings) n key
 
       start : Register
-      start = opening (v .settings) key n (g .journal)
+      start = opening (v .settings) key false n (g .journal)
 
       -- what the journal proves
-      rewritten : (openNumber (v .settings) n (length (g .journal)) ≡ 0) × (numbersOf start (callsOf (v .entries)) ≡ replicate (length (v .entries)) 0)
+      rewritten : (openNumber (v .settings) false n (length (g .journal)) ≡ 0) × (numbersOf start (callsOf (v .entries)) ≡ replicate (length (v .entries)) 0)
           × (calls start (callsOf (v .entries)) .buf ≡ j) × (calls start (callsOf (v .entries)) .state ≡ takeOver j key n .state)
       unfolding start
       rewritten =
@@ -198,16 +198,16 @@ module _ {j key : List ℕ} {n : ℕ} (v : Valid j key n) where
       unfolding b
       read = settings-are-read (v .settings) n key again-typed
 
-      again-opened : openedNumber b g ≡ 0
+      again-opened : openedNumber b false g ≡ 0
       unfolding openedNumber
       again-opened =
-          ap (λ (x : Opened). x .number) (open-answer b (length (g .journal)) (length (g .state)) ls)
-          ∙ opened-number (settingsOf b) (keyOf b) (widthOf b) (length (g .journal))
-          ∙ (λ i. openNumber (read .0 i) (read .1 i) (length (g .journal))) ∙ rewritten .0
+          ap (λ (x : Opened). x .number) (open-answer b false (length (g .journal)) (length (g .state)) ls)
+          ∙ opened-number (settingsOf b) (keyOf b) false (widthOf b) (length (g .journal))
+          ∙ (λ i. openNumber (read .0 i) false (read .1 i) (length (g .journal))) ∙ rewritten .0
 
-      again-start : openedSlices b g ≡ slicesOf start
+      again-start : openedSlices b false g ≡ slicesOf start
       unfolding start
-      again-start = opened-same b g ls ∙ (λ i. slicesOf (opening (read .0 i) (read .2 i) (read .1 i) (g .journal)))
+      again-start = opened-same b false g ls ∙ (λ i. slicesOf (opening (read .0 i) (read .2 i) false (read .1 i) (g .journal)))
 
       cs : List IssueCall
       cs = map issueCallOf (v .entries)
@@ -222,12 +222,12 @@ module _ {j key : List ℕ} {n : ℕ} (v : Valid j key n) where
 
       made : Same start cs
       unfolding start
-      made = same-calls (v .settings) n key (g .journal) (v .typed) again-typed (omega arith) (rewritten .0) cs typed
+      made = same-calls (v .settings) false n key (g .journal) (v .typed) again-typed (omega arith) (rewritten .0) cs typed
 
-      again-left : issuedAll (openedSlices b g) cs ≡ slicesOf (calls start (callsOf (v .entries)))
+      again-left : issuedAll (openedSlices b false g) cs ≡ slicesOf (calls start (callsOf (v .entries)))
       again-left = ap (λ (x : Slices). issuedAll x cs) again-start ∙ made .slices ∙ ap (λ (x : List Call). slicesOf (calls start x)) same
 
-      written-again : AgainInC j key n (v .entries) (openedSlices b g)
+      written-again : AgainInC j key n (v .entries) (openedSlices b false g)
       unfolding slicesOf cs
       written-again =
           let st = calls start (callsOf (v .entries)) .state in
@@ -248,7 +248,7 @@ pub accepted-is-written-in-c : AcceptedIsWrittenInC
 unfolding b
 accepted-is-written-in-c j key n lj kb lk v out lo g lg ls =
     let e = again-bytes v kb lk out lo in
-    let p = subst (λ (x : List ℕ). (openedNumber x g ≡ 0) × AgainInC j key n (v .entries) (openedSlices x g)) (sym e)
+    let p = subst (λ (x : List ℕ). (openedNumber x false g ≡ 0) × AgainInC j key n (v .entries) (openedSlices x false g)) (sym e)
     (again-opened v kb lk g lj lg ls, written-again v kb lk g lj lg ls) in
     (again-number v kb lk out lo, p .0, p .1)
 

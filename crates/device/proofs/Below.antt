@@ -2,7 +2,7 @@
 -- file of the crate that unfolds a definition of a lower one.
 use Prim.Native.Nat.{ℕ, _<_}
 use mathlib.Core.Path.{_≡_, refl}
-use mathlib.Core.Bool.{true, cond}
+use mathlib.Core.Bool.{Bool, true, cond}
 use mathlib.Core.List.{List, [], _∷_}
 use native.Mathlib.Omega.{arith}
 use borrow.Author.Tests.{leb-true}
@@ -55,14 +55,14 @@ date-words t h =
 
 -- ---- journal: a register
 
-pub opened-number : (s : Settings) (key : List ℕ) (n room : ℕ) → opened s key n room .number ≡ openNumber s n room
+pub opened-number : (s : Settings) (key : List ℕ) (shared : Bool) (n room : ℕ) → opened s key shared n room .number ≡ openNumber s shared n room
 unfolding opened
-opened-number s key n room = refl
+opened-number s key shared n room = refl
 
-pub opening-is : (s : Settings) (key : List ℕ) (n : ℕ) (buf : List ℕ)
-    → opening s key n buf ≡ record { state = opened s key n (length buf) .state; buf = openBuffer s n buf }
+pub opening-is : (s : Settings) (key : List ℕ) (shared : Bool) (n : ℕ) (buf : List ℕ)
+    → opening s key shared n buf ≡ record { state = opened s key shared n (length buf) .state; buf = openBuffer s shared n buf }
 unfolding opening
-opening-is s key n buf = refl
+opening-is s key shared n buf = refl
 
 pub journal-is : (g : Register) → journalOf g ≡ take (g .state .length) (g .buf)
 unfolding journalOf

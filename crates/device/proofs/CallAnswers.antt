@@ -1,7 +1,7 @@
 -- What the calls of a register show at their returns, over plain variables.
 use Prim.Native.Nat.{ℕ, _≤_}
 use mathlib.Core.Path.{_≡_, sym, ap, _∙_}
-use mathlib.Core.Bool.{Bool, true, cond}
+use mathlib.Core.Bool.{Bool, true, false, cond}
 use mathlib.Core.List.{List, [], _∷_}
 use native.Mathlib.Omega.{arith}
 use borrow.Author.Tests.{eq-eqb, ne-eqb, eqb-true}
@@ -46,11 +46,11 @@ use Rattle.device.proofs.Writers.{length-settings}
 module _ (s : Settings) (n room : ℕ) {k : ℕ} (e : k ≡ settingsNumber s n 0) where
   pub answer-stops : (k ≡ 0 → ⊥) → k ≡ settingsAnswer s n room
   unfolding settingsAnswer
-  answer-stops h = e ∙ sym (settings-stop s n (ask (eqb room 123) 23 0) (λ z. h (e ∙ z)))
+  answer-stops h = e ∙ sym (settings-stop s false n (ask (eqb room 123) 23 0) (λ z. h (e ∙ z)))
 
   answer-rest : k ≡ 0 → settingsAnswer s n room ≡ ask (eqb room 123) 23 0
   unfolding settingsAnswer
-  answer-rest z = settings-pass s n (ask (eqb room 123) 23 0) (sym e ∙ z)
+  answer-rest z = settings-pass s false n (ask (eqb room 123) 23 0) (sym e ∙ z)
 
   pub answer-no-room : k ≡ 0 → (room ≡ 123 → ⊥) → 23 ≡ settingsAnswer s n room
   answer-no-room z h = sym (answer-rest z ∙ ask-no 23 0 (ne-eqb room 123 h))
@@ -75,7 +75,7 @@ module _ (s : Settings) (key : List ℕ) (n : ℕ) (out : List ℕ) {s₁ : Sett
     answers : (widthGood (widthWith key n) ≡ true) × (length out ≡ 123)
     unfolding settingsAnswer
     answers =
-        let a = settings-zero s (widthWith key n) (ask (eqb (length out) 123) 23 0) accepted in
+        let a = settings-zero s false (widthWith key n) (ask (eqb (length out) 123) 23 0) accepted in
         (a .1, eqb-true (length out) 123 (ask-zero (eqb (length out) 123) 22 0 (a .2) .0))
 
     pub settings-room : 123 ≤ length out
@@ -95,26 +95,26 @@ module _ (s : Settings) (key : List ℕ) (n : ℕ) (out : List ℕ) {s₁ : Sett
 
 -- ---- open
 
-module _ (settings : List ℕ) (g : Slices) where
+module _ (settings : List ℕ) (shared : Bool) (g : Slices) where
   pub open-none : (length (g .state) ≡ 155 → ⊥)
-      → (6 ≡ openedNumber settings g) × (g .journal ≡ openedSlices settings g .journal) × (g .state ≡ openedSlices settings g .state)
+      → (6 ≡ openedNumber settings shared g) × (g .journal ≡ openedSlices settings shared g .journal) × (g .state ≡ openedSlices settings shared g .state)
   unfolding openedNumber openedSlices
   open-none h =
-      let a = openAnswer settings (length (g .journal)) (length (g .state)) in
-      let e : a ≡ record { number = 6; state = unopened } = open-six settings (length (g .journal)) (length (g .state)) h in
-      let q = openBuffer (settingsOf settings) (widthOf settings) (g .journal) in
+      let a = openAnswer settings shared (length (g .journal)) (length (g .state)) in
+      let e : a ≡ record { number = 6; state = unopened } = open-six settings shared (length (g .journal)) (length (g .state)) h in
+      let q = openBuffer (settingsOf settings) shared (widthOf settings) (g .journal) in
       (sym (ap (λ (x : Opened). x .number) e), sym (ap (λ (t : Bool). cond t q (g .journal)) (ne-eqb (length (g .state)) 155 h)), sym (kept-not (g .state) (a .state) h))
 
   pub open-some : {s : Settings} {n : ℕ} {key : List ℕ} {o : Opened} {j b : List ℕ} → length (g .state) ≡ 155 → s ≡ settingsOf settings → n ≡ widthOf settings
-      → key ≡ keyOf settings → (o ≡ opened s key n (length (g .journal))) × (j ≡ openBuffer s n (g .journal)) → b ≡ kept (g .state) (o .state)
-      → (o .number ≡ openedNumber settings g) × (j ≡ openedSlices settings g .journal) × (b ≡ openedSlices settings g .state)
+      → key ≡ keyOf settings → (o ≡ opened s key shared n (length (g .journal))) × (j ≡ openBuffer s shared n (g .journal)) → b ≡ kept (g .state) (o .state)
+      → (o .number ≡ openedNumber settings shared g) × (j ≡ openedSlices settings shared g .journal) × (b ≡ openedSlices settings shared g .state)
   unfolding openedNumber openedSlices
   open-some {o = o} h es en ek p q =
-      let a = openAnswer settings (length (g .journal)) (length (g .state)) in
-      let e : o ≡ a = p .0 ∙ (λ i. opened (es i) (ek i) (en i) (length (g .journal))) ∙ sym (open-answer settings (length (g .journal)) (length (g .state)) h) in
-      let f = openBuffer (settingsOf settings) (widthOf settings) (g .journal) in (
+      let a = openAnswer settings shared (length (g .journal)) (length (g .state)) in
+      let e : o ≡ a = p .0 ∙ (λ i. opened (es i) (ek i) shared (en i) (length (g .journal))) ∙ sym (open-answer settings shared (length (g .journal)) (length (g .state)) h) in
+      let f = openBuffer (settingsOf settings) shared (widthOf settings) (g .journal) in (
         ap (λ (x : Opened). x .number) e,
-        p .1 ∙ (λ i. openBuffer (es i) (en i) (g .journal)) ∙ sym (ap (λ (t : Bool). cond t f (g .journal)) (eq-eqb (length (g .state)) 155 h)),
+        p .1 ∙ (λ i. openBuffer (es i) shared (en i) (g .journal)) ∙ sym (ap (λ (t : Bool). cond t f (g .journal)) (eq-eqb (length (g .state)) 155 h)),
         q ∙ ap (λ (x : Opened). kept (g .state) (x .state)) e,
       )
 

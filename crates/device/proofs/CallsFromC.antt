@@ -71,13 +71,13 @@ calls-typed (c ∷ cs) (demand.more t ts) = more (call-typed c t) (calls-typed c
 -- ---- settings that were not refused
 
 module _ (b : List ℕ) where
-  settings-long : (room : ℕ) → openNumber (settingsOf b) (widthOf b) room ≡ 0 → length b ≡ 123
+  settings-long : (shared : Bool) (room : ℕ) → openNumber (settingsOf b) shared (widthOf b) room ≡ 0 → length b ≡ 123
   unfolding settingsOf
-  settings-long room z = go (eqb (length b) 123) refl z
+  settings-long shared room z = go (eqb (length b) 123) refl z
     where
-      go : (t : Bool) → eqb (length b) 123 ≡ t → openNumber (cond t (settingsAt b) (unopened .settings)) (widthOf b) room ≡ 0 → length b ≡ 123
+      go : (t : Bool) → eqb (length b) 123 ≡ t → openNumber (cond t (settingsAt b) (unopened .settings)) shared (widthOf b) room ≡ 0 → length b ≡ 123
       go true e q = eqb-true (length b) 123 e
-      go false e q = absurd (omega (arith, q, no-settings-get-one (widthOf b) room))
+      go false e q = absurd (omega (arith, q, no-settings-get-one shared (widthOf b) room))
 
   module _ (a : AllBytes b) (l : length b ≡ 123) where
     pub settings-typed : TypedSettings (settingsOf b)
@@ -95,16 +95,16 @@ module _ (b : List ℕ) where
     register-typed : settingsGood (settingsOf b) ≡ true → widthGood (widthOf b) ≡ true → TypedRegister (settingsOf b) (widthOf b) (keyOf b)
     register-typed good width = good-register (settingsOf b) (widthOf b) (keyOf b) (settings-typed .lengths) good width (key-typed .0) (key-typed .1)
 
-pub open-accepted : (b : List ℕ) (g : Slices) → openedNumber b g ≡ 0 → (length (g .state) ≡ 155) × (openNumber (settingsOf b) (widthOf b) (length (g .journal)) ≡ 0)
+pub open-accepted : (b : List ℕ) (shared : Bool) (g : Slices) → openedNumber b shared g ≡ 0 → (length (g .state) ≡ 155) × (openNumber (settingsOf b) shared (widthOf b) (length (g .journal)) ≡ 0)
 unfolding openedNumber
-open-accepted b g z = go (eqb (length (g .state)) 155) refl
+open-accepted b shared g z = go (eqb (length (g .state)) 155) refl
   where
-    go : (t : Bool) → eqb (length (g .state)) 155 ≡ t → (length (g .state) ≡ 155) × (openNumber (settingsOf b) (widthOf b) (length (g .journal)) ≡ 0)
+    go : (t : Bool) → eqb (length (g .state)) 155 ≡ t → (length (g .state) ≡ 155) × (openNumber (settingsOf b) shared (widthOf b) (length (g .journal)) ≡ 0)
     go true e =
         let h = eqb-true (length (g .state)) 155 e in
-        (h, sym (ap (λ (x : Opened). x .number) (open-answer b (length (g .journal)) (length (g .state)) h) ∙ opened-number (settingsOf b) (keyOf b) (widthOf b) (length (g .journal))) ∙ z)
+        (h, sym (ap (λ (x : Opened). x .number) (open-answer b shared (length (g .journal)) (length (g .state)) h) ∙ opened-number (settingsOf b) (keyOf b) shared (widthOf b) (length (g .journal))) ∙ z)
     go false e =
-        let q : _≡_ {A = ℕ} 0 6 = sym z ∙ ap (λ (x : Opened). x .number) (open-six b (length (g .journal)) (length (g .state)) (eqb-false (length (g .state)) 155 e)) in
+        let q : _≡_ {A = ℕ} 0 6 = sym z ∙ ap (λ (x : Opened). x .number) (open-six b shared (length (g .journal)) (length (g .state)) (eqb-false (length (g .state)) 155 e)) in
         absurd (omega arith)
 
 -- ---- the slices of a register
@@ -112,12 +112,12 @@ open-accepted b g z = go (eqb (length (g .state)) 155) refl
 unfoldable pub slicesOf : Register → Slices
 slicesOf g = record { state = stateBytes (g .state); journal = g .buf }
 
-pub opened-same : (b : List ℕ) (g : Slices) → length (g .state) ≡ 155 → openedSlices b g ≡ slicesOf (registerIn b (g .journal))
+pub opened-same : (b : List ℕ) (shared : Bool) (g : Slices) → length (g .state) ≡ 155 → openedSlices b shared g ≡ slicesOf (registerIn b shared (g .journal))
 unfolding openedSlices slicesOf
-opened-same b g l =
-    let p = kept-all (g .state) _ l ∙ ap (λ (x : Opened). stateBytes (x .state)) (open-answer b (length (g .journal)) (length (g .state)) l) in
-    let q = ap (λ (t : Bool). cond t (openBuffer (settingsOf b) (widthOf b) (g .journal)) (g .journal)) (eq-eqb (length (g .state)) 155 l) in
-    (λ i. record { state = p i; journal = q i }) ∙ ap slicesOf (sym (opening-is (settingsOf b) (keyOf b) (widthOf b) (g .journal)))
+opened-same b shared g l =
+    let p = kept-all (g .state) _ l ∙ ap (λ (x : Opened). stateBytes (x .state)) (open-answer b shared (length (g .journal)) (length (g .state)) l) in
+    let q = ap (λ (t : Bool). cond t (openBuffer (settingsOf b) shared (widthOf b) (g .journal)) (g .journal)) (eq-eqb (length (g .state)) 155 l) in
+    (λ i. record { state = p i; journal = q i }) ∙ ap slicesOf (sym (opening-is (settingsOf b) (keyOf b) shared (widthOf b) (g .journal)))
 
 issued-same : (g : Register) (c : IssueCall) → TypedState (g .state) → issuedSlices (slicesOf g) c ≡ slicesOf (call g (callIn c))
 unfolding issuedSlices issueAnswer slicesOf callIn
@@ -202,19 +202,19 @@ module _ (s : Settings) (n : ℕ) (key : List ℕ) (ts : TypedSettings s) (t : T
 -- ---- from an Open that was not refused
 
 -- all calls, in a buffer whose length is a number of 64 bits
-pub same-calls : (s : Settings) (n : ℕ) (key buf : List ℕ) → TypedSettings s → TypedRegister s n key → length buf < 18446744073709551616
-    → openNumber s n (length buf) ≡ 0 → (cs : List IssueCall) → TypedIssueCalls cs → Same (opening s key n buf) cs
-same-calls s n key buf ts t l z cs tcs =
-    let o = open-zero s n (length buf) z in
-    let h = opening-holds s n key ts (o .0) (o .1) (t .keyBytes) buf z in
-    let m = opening-length s n key ts (o .0) (o .1) (t .keyBytes) buf z in
-    all-same s n key ts t (o .0) (o .1) cs (opening s key n buf) [] tcs h (omega (arith, m))
+pub same-calls : (s : Settings) (shared : Bool) (n : ℕ) (key buf : List ℕ) → TypedSettings s → TypedRegister s n key → length buf < 18446744073709551616
+    → openNumber s shared n (length buf) ≡ 0 → (cs : List IssueCall) → TypedIssueCalls cs → Same (opening s key shared n buf) cs
+same-calls s shared n key buf ts t l z cs tcs =
+    let o = open-zero s shared n (length buf) z in
+    let h = opening-holds s n key ts (o .0) (o .1) (t .keyBytes) buf shared z in
+    let m = opening-length s n key ts (o .0) (o .1) (t .keyBytes) buf shared z in
+    all-same s n key ts t (o .0) (o .1) cs (opening s key shared n buf) [] tcs h (omega (arith, m))
 
--- what the types say of settings that ditgrux_open accepted
-pub opened-typed : (b : List ℕ) (g : Slices) → AllBytes b → openedNumber b g ≡ 0
+-- what the types say of settings that ditgrux_open or ditgrux_open_shared accepted
+pub opened-typed : (b : List ℕ) (shared : Bool) (g : Slices) → AllBytes b → openedNumber b shared g ≡ 0
     → TypedSettings (settingsOf b) × TypedRegister (settingsOf b) (widthOf b) (keyOf b)
-opened-typed b g a z =
-    let q = open-accepted b g z .1 in
-    let o = open-zero (settingsOf b) (widthOf b) (length (g .journal)) q in
-    let l = settings-long b (length (g .journal)) q in
+opened-typed b shared g a z =
+    let q = open-accepted b shared g z .1 in
+    let o = open-zero (settingsOf b) shared (widthOf b) (length (g .journal)) q in
+    let l = settings-long b shared (length (g .journal)) q in
     (settings-typed b a l, register-typed b a l (o .0) (o .1))

@@ -7,6 +7,7 @@ pub mod Pieces
 pub mod ReadBackCalls
 pub mod ReadBackLaws
 pub mod Reading
+pub mod SharedOpens
 pub mod Sizes
 pub mod Spelling
 pub mod TextAnswers

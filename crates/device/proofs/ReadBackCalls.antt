@@ -16,7 +16,7 @@ use Rattle.receipt.specs.Settings.{settingsGood, settingsNumber}
 use Rattle.receipt.specs.Compact.{readEntry}
 use Rattle.receipt.specs.declared.settings.Settings.{Settings}
 use Rattle.receipt.specs.declared.entry.Found.{Found}
-use Rattle.receipt.proofs.Names.{settings-yes, settings-zero, settings-pass, settings-stop}
+use Rattle.receipt.proofs.Names.{key-own, settings-yes, settings-zero, settings-pass, settings-stop}
 use Rattle.journal.specs.Calls.{callOf}
 use Rattle.device.specs.Layout.{settingsOf, widthOf}
 use Rattle.device.specs.Details.{detailsBytes}
@@ -31,12 +31,12 @@ module _ (s : Settings) (n : ℕ) (ok : Bool) (details signature : ℕ) {k : ℕ
 
   pub read-stops : (k ≡ 0 → ⊥) → k ≡ readNumber s n ok details signature
   unfolding readNumber after-settings
-  read-stops h = e ∙ sym (settings-stop s n after-settings (λ z. h (e ∙ z)))
+  read-stops h = e ∙ sym (settings-stop s false n after-settings (λ z. h (e ∙ z)))
 
   module _ (z : k ≡ 0) where
     rest : readNumber s n ok details signature ≡ after-settings
     unfolding readNumber after-settings
-    rest = settings-pass s n after-settings (sym e ∙ z)
+    rest = settings-pass s false n after-settings (sym e ∙ z)
 
     pub read-misspelled : not ok ≡ true → 16 ≡ readNumber s n ok details signature
     unfolding after-settings
@@ -68,7 +68,7 @@ module _ (s : Settings) (n : ℕ) (ok : Bool) (details signature : ℕ) where
   pub number-zero : readNumber s n ok details signature ≡ 0 → Asked s n ok details signature
   unfolding readNumber
   number-zero z =
-      let a = settings-zero s n (ask ok 16 (ask (eqb details 72) 23 (ask (eqb signature 64) 23 0))) z in
+      let a = settings-zero s false n (ask ok 16 (ask (eqb details 72) 23 (ask (eqb signature 64) 23 0))) z in
       let b = ask-zero ok 15 (ask (eqb details 72) 23 (ask (eqb signature 64) 23 0)) (a .2) in
       let c = ask-zero (eqb details 72) 22 (ask (eqb signature 64) 23 0) (b .1) in
       let d = ask-zero (eqb signature 64) 22 0 (c .1) in
@@ -83,7 +83,7 @@ module _ (s : Settings) (n : ℕ) (ok : Bool) (details signature : ℕ) where
   pub zero-number : Asked s n ok details signature → readNumber s n ok details signature ≡ 0
   unfolding readNumber
   zero-number a =
-      settings-yes s n (ask ok 16 (ask (eqb details 72) 23 (ask (eqb signature 64) 23 0))) (a .settings) (a .width)
+      settings-yes s false n (ask ok 16 (ask (eqb details 72) 23 (ask (eqb signature 64) 23 0))) (a .settings) (key-own (s .id)) (a .width)
       ∙ ask-yes 16 (ask (eqb details 72) 23 (ask (eqb signature 64) 23 0)) (a .found)
       ∙ ask-yes 23 (ask (eqb signature 64) 23 0) (eq-eqb details 72 (a .detailsLength))
       ∙ ask-yes 23 0 (eq-eqb signature 64 (a .signatureLength))

@@ -91,12 +91,12 @@ kept-all b st h = rw (eq-eqb (length b) 155 h)
 
 -- ---- open and take over
 
-module _ (settings : List ℕ) (room size : ℕ) where
-  pub open-six : (size ≡ 155 → ⊥) → openAnswer settings room size ≡ record { number = 6; state = unopened }
+module _ (settings : List ℕ) (shared : Bool) (room size : ℕ) where
+  pub open-six : (size ≡ 155 → ⊥) → openAnswer settings shared room size ≡ record { number = 6; state = unopened }
   unfolding openAnswer
   open-six h = rw (ne-eqb size 155 h)
 
-  pub open-answer : size ≡ 155 → openAnswer settings room size ≡ opened (settingsOf settings) (keyOf settings) (widthOf settings) room
+  pub open-answer : size ≡ 155 → openAnswer settings shared room size ≡ opened (settingsOf settings) (keyOf settings) shared (widthOf settings) room
   unfolding openAnswer
   open-answer h = rw (eq-eqb size 155 h)
 

@@ -102,7 +102,7 @@ pub written-settings-are-read : WrittenSettingsAreRead
 unfolding settingsAnswer settingsBuffer
 written-settings-are-read csp id serial key n out b z =
     let s = settingsFrom csp id serial in
-    let a = settings-zero s (widthWith key n) (ask (eqb (length out) 123) 23 0) z in
+    let a = settings-zero s false (widthWith key n) (ask (eqb (length out) 123) 23 0) z in
     let l = key-long key n (a .1) in
     let w : widthGood n ≡ true = subst (λ (k : ℕ). widthGood k ≡ true) (width-whole key n l) (a .1) in
     let e : settingsBuffer s key n out ≡ settingsBytes s n key = ifZero-yes (settingsBytes s n key) out z in

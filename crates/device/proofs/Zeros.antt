@@ -6,7 +6,7 @@ use borrow.Author.Tests.{le-ltb}
 use Rattle.primitives.specs.Number.{digitsOf, bytesOf}
 use Rattle.primitives.specs.Counter.{widthGood, half, fitsIn, counterFits, twos, counterBytes}
 use Rattle.primitives.proofs.Rows.{ask-no}
-use Rattle.receipt.specs.Settings.{between, cspGood, settingsGood, settingsNumber}
+use Rattle.receipt.specs.Settings.{between, cspGood, settingsGood, settingsNumberFor}
 use Rattle.journal.specs.State.{unopened}
 use Rattle.primitives.specs.Questions.{ask}
 use Rattle.journal.specs.Opening.{openNumber}
@@ -26,8 +26,8 @@ unfolding unopened cspGood between
 csp-bad = refl
 
 pub no-settings-get-one : NoSettingsGetOne
-unfolding openNumber settingsNumber
-no-settings-get-one n room = ask-no 1 _ csp-bad
+unfolding openNumber settingsNumberFor
+no-settings-get-one shared n room = ask-no 1 _ csp-bad
 
 unopened-unsound : soundAlone unopened ≡ false
 unfolding soundAlone settingsGood

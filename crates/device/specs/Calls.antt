@@ -1,6 +1,6 @@
 -- What the calls of a register answer and leave, from the bytes that they are given.
 use Prim.Native.Nat.{ℕ}
-use mathlib.Core.Bool.{cond}
+use mathlib.Core.Bool.{Bool, cond}
 use mathlib.Core.List.{List}
 use lib.Dec.{eqb}
 use lib.IntN.{ℤ}
@@ -47,21 +47,23 @@ slicesWith state journal = record { state = state; journal = journal }
 
 -- ---- open
 
--- the answer for a state's slice of this length: 6, and then questions 1 to 5
-unfoldable pub openAnswer : List ℕ → ℕ → ℕ → Opened
-openAnswer settings room size =
-    cond (eqb size 155) (opened (settingsOf settings) (keyOf settings) (widthOf settings) room) (record { number = 6; state = unopened })
+-- ditgrux_open does not mark the key as shared, ditgrux_open_shared does
 
--- what ditgrux_open returns
-unfoldable pub openedNumber : List ℕ → Slices → ℕ
-openedNumber settings g = openAnswer settings (length (g .journal)) (length (g .state)) .number
+-- the answer for a state's slice of this length: 6, and then the questions of Open
+unfoldable pub openAnswer : List ℕ → Bool → ℕ → ℕ → Opened
+openAnswer settings shared room size =
+    cond (eqb size 155) (opened (settingsOf settings) (keyOf settings) shared (widthOf settings) room) (record { number = 6; state = unopened })
 
--- what it leaves; nothing is written if the state's slice is not 155 bytes long
-unfoldable pub openedSlices : List ℕ → Slices → Slices
-openedSlices settings g =
+-- what they return
+unfoldable pub openedNumber : List ℕ → Bool → Slices → ℕ
+openedNumber settings shared g = openAnswer settings shared (length (g .journal)) (length (g .state)) .number
+
+-- what they leave; nothing is written if the state's slice is not 155 bytes long
+unfoldable pub openedSlices : List ℕ → Bool → Slices → Slices
+openedSlices settings shared g =
     record {
-      state = kept (g .state) (openAnswer settings (length (g .journal)) (length (g .state)) .state);
-      journal = cond (eqb (length (g .state)) 155) (openBuffer (settingsOf settings) (widthOf settings) (g .journal)) (g .journal);
+      state = kept (g .state) (openAnswer settings shared (length (g .journal)) (length (g .state)) .state);
+      journal = cond (eqb (length (g .state)) 155) (openBuffer (settingsOf settings) shared (widthOf settings) (g .journal)) (g .journal);
     }
 
 -- ---- issue

@@ -1,7 +1,7 @@
--- Demand 3 in bytes: what a C program holds after ditgrux_open and a list of ditgrux_issue, and what ditgrux_take_over answers.
+-- Demand 3 in bytes: what a C program holds after ditgrux_open or ditgrux_open_shared and a list of ditgrux_issue, and what ditgrux_take_over answers.
 use Prim.Native.Nat.{ℕ, _<_}
 use mathlib.Core.Path.{_≡_}
-use mathlib.Core.Bool.{true}
+use mathlib.Core.Bool.{Bool, true, false}
 use mathlib.Core.List.{List, [], _∷_, map}
 use lib.IntN.{pos}
 use lib.ListN.{length, take, replicate, getD}
@@ -73,11 +73,11 @@ AcceptedIsValidInC =
 
 -- ---- what is written is accepted
 
--- the register of the journal that ditgrux_open makes of these settings and this buffer
-abbrev pub registerIn : List ℕ → List ℕ → Register
-registerIn settings buffer = opening (settingsOf settings) (keyOf settings) (widthOf settings) buffer
+-- the register of the journal that ditgrux_open, or ditgrux_open_shared where the key is shared, makes of these settings and this buffer
+abbrev pub registerIn : List ℕ → Bool → List ℕ → Register
+registerIn settings shared buffer = opening (settingsOf settings) (keyOf settings) shared (widthOf settings) buffer
 
--- what holds of the slices that the calls left, and of the receipts rs of those that returned 0, since ditgrux_open got these settings
+-- what holds of the slices that the calls left, and of the receipts rs of those that returned 0, since one of them got these settings
 pub record WrittenInC (settings : List ℕ) (left : Slices) (rs : List Receipt) : Type 0 where
   -- ditgrux_take_over accepts the journal under the key and the width of the settings, with the register's own state
   pub taken : takeOverAnswer (journalIn left) (keyOf settings) (widthOf settings) 155 ≡ record { number = 0; index = 0; state = stateOf (left .state) }
@@ -89,13 +89,13 @@ pub record WrittenInC (settings : List ℕ) (left : Slices) (rs : List Receipt) 
   -- the counter that ditgrux_counter returns is the sum of their amounts
   pub counter : stateOf (left .state) .counter ≡ sum rs
 
--- from a ditgrux_open that returned 0, after every list of calls; and they return the numbers of the journal's calls
+-- from a ditgrux_open or a ditgrux_open_shared that returned 0, after every list of calls; and they return the numbers of the journal's calls
 abbrev pub WrittenIsAcceptedInC : Type 0
 WrittenIsAcceptedInC =
-    (settings : List ℕ) (g : Slices) → AllBytes settings → length (g .journal) < 18446744073709551616 → openedNumber settings g ≡ 0
+    (settings : List ℕ) (shared : Bool) (g : Slices) → AllBytes settings → length (g .journal) < 18446744073709551616 → openedNumber settings shared g ≡ 0
     → (cs : List IssueCall) → TypedIssueCalls cs
-    → WrittenInC settings (issuedAll (openedSlices settings g) cs) (issuedReceipts (openedSlices settings g) cs)
-    × (issuedNumbers (openedSlices settings g) cs ≡ numbersOf (registerIn settings (g .journal)) (map callIn cs))
+    → WrittenInC settings (issuedAll (openedSlices settings shared g) cs) (issuedReceipts (openedSlices settings shared g) cs)
+    × (issuedNumbers (openedSlices settings shared g) cs ≡ numbersOf (registerIn settings shared (g .journal)) (map callIn cs))
 
 -- ---- what is accepted is written
 
@@ -132,8 +132,8 @@ AcceptedIsWrittenInC =
     (j key : List ℕ) (n : ℕ) → length j < 18446744073709551616 → AllBytes key → length key ≡ 32 → (v : Valid j key n)
     → (out : List ℕ) → length out ≡ 123 → (g : Slices) → length (g .journal) ≡ length j → length (g .state) ≡ 155
     → (settingsAnswer (settingsAgain (v .settings)) (widthWith key n) (length out) ≡ 0)
-    × (openedNumber (settingsBuffer (settingsAgain (v .settings)) key n out) g ≡ 0)
-    × AgainInC j key n (v .entries) (openedSlices (settingsBuffer (settingsAgain (v .settings)) key n out) g)
+    × (openedNumber (settingsBuffer (settingsAgain (v .settings)) key n out) false g ≡ 0)
+    × AgainInC j key n (v .entries) (openedSlices (settingsBuffer (settingsAgain (v .settings)) key n out) false g)
 
 -- demand 3 of the C library as one theorem
 pub record WritingAndCheckingAgreeInC : Type 0 where

@@ -1,12 +1,13 @@
 -- What holds of settings, states and details as bytes. Proved in proofs/.
 use Prim.Native.Nat.{ℕ, _<_}
 use mathlib.Core.Path.{_≡_}
-use mathlib.Core.Bool.{true}
+use mathlib.Core.Bool.{Bool, true, false}
 use mathlib.Core.List.{List}
 use lib.IntN.{pos}
 use lib.ListN.{length, replicate, getD}
 use Rattle.primitives.specs.Bytes.{AllBytes}
 use Rattle.primitives.specs.Counter.{fitsIn}
+use Rattle.receipt.specs.Chain.{hashInput}
 use Rattle.receipt.specs.declared.settings.Settings.{Settings}
 use Rattle.receipt.specs.declared.details.Details.{Details}
 use Rattle.journal.specs.State.{unopened, TypedRegister, TypedState}
@@ -17,7 +18,7 @@ use Rattle.journal.specs.Issuing.{issueNumber}
 use Rattle.journal.specs.declared.state.State.{State}
 use Rattle.device.specs.Layout.{settingsBytes, stateBytes, settingsOf, widthOf, keyOf, stateOf}
 use Rattle.device.specs.Details.{noDetails, detailsBytes, detailsIn}
-use Rattle.device.specs.Calls.{settingsFrom, widthWith, settingsAnswer, settingsBuffer, Slices, IssueCall, issuedNumber, issuedSlices}
+use Rattle.device.specs.Calls.{settingsFrom, widthWith, settingsAnswer, settingsBuffer, Slices, openedNumber, openedSlices, IssueCall, issuedNumber, issuedSlices}
 
 -- ---- reading and writing undo each other
 
@@ -50,13 +51,28 @@ UnopenedIsZero = stateBytes unopened ≡ replicate 155 0
 
 -- settings of another length get 1, a state of another length gets 6, and an unknown kind gets 7
 abbrev pub NoSettingsGetOne : Type 0
-NoSettingsGetOne = (n room : ℕ) → openNumber (unopened .settings) n room ≡ 1
+NoSettingsGetOne = (shared : Bool) (n room : ℕ) → openNumber (unopened .settings) shared n room ≡ 1
 
 abbrev pub UnopenedGetsSix : Type 0
 UnopenedGetsSix = (d : Details) (sig : List ℕ) (room : ℕ) → (issueNumber unopened d sig room ≡ 6) × (prepareNumber unopened d room ≡ 6)
 
 abbrev pub UnknownKindGetsSeven : Type 0
 UnknownKindGetsSeven = (st : State) (rest : ℕ) → detailsNumber st noDetails rest ≡ 7
+
+-- ---- a shared key
+
+-- of two registers that ditgrux_open_shared opened, no receipts have the same hash input for the IV unless ID and number are the same
+abbrev pub SharedKeyNeverRepeatsInC : Type 0
+SharedKeyNeverRepeatsInC =
+    (settings others : List ℕ) (g h : Slices) → AllBytes settings → AllBytes others → openedNumber settings true g ≡ 0 → openedNumber others true h ≡ 0
+    → (a b : ℕ) → a < 4294967296 → b < 4294967296 → hashInput (settingsOf settings .id) a ≡ hashInput (settingsOf others .id) b
+    → (settingsOf settings .id ≡ settingsOf others .id) × (a ≡ b)
+
+-- unless it returns 32, ditgrux_open_shared returns what ditgrux_open returns and leaves the same bytes
+abbrev pub SharedLeavesTheSame : Type 0
+SharedLeavesTheSame =
+    (settings : List ℕ) (g : Slices) → (openedNumber settings true g ≡ 32 → ⊥)
+    → (openedNumber settings true g ≡ openedNumber settings false g) × (openedSlices settings true g ≡ openedSlices settings false g)
 
 -- ---- a refused ditgrux_issue leaves the bytes of the state and the journal as they were, also where the state is not 155 bytes long
 

@@ -12,6 +12,7 @@ pub use register::ditgrux_issue;
 pub use register::ditgrux_journal_length;
 pub use register::ditgrux_last_number;
 pub use register::ditgrux_open;
+pub use register::ditgrux_open_shared;
 pub use register::ditgrux_prepare;
 pub use register::ditgrux_receipts;
 pub use register::ditgrux_settings;

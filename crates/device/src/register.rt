@@ -12,6 +12,7 @@ use super::layout::state_of;
 use super::layout::width_of;
 use receipt::Settings;
 ghost use mathlib.Core.Path.{_≡_};
+ghost use mathlib.Core.Bool.{true, false};
 ghost use lib.ListN.{length};
 ghost use Rattle.journal.specs.Preparing.{prepareAnswer, prepareBuffer};
 ghost use Rattle.device.specs.Layout.{arrayOf, stateOf, kept};
@@ -144,14 +145,13 @@ pub extern "C" fn ditgrux_journal_length(state: &[u8]) -> usize
 
 // ---- open
 
-// Writes the head of a journal and the state that goes with it. 6 if the state is not 155 bytes long, then questions 1 to 5.
-#[no_mangle]
-pub extern "C" fn ditgrux_open(settings: &[u8], journal: &mut [u8], state: &mut [u8]) -> u32
+// Writes the head of a journal and the state that goes with it. 6 if the state is not 155 bytes long, then Open's questions.
+fn open_with(settings: &[u8], shared: bool, journal: &mut [u8], state: &mut [u8]) -> u32
     ensures { λ r.
         let g : _ = slicesWith (now (state .entry)) (now (journal .entry)) in
-        ⌜ (r ≡ openedNumber (now (settings .entry)) g)
-        × (now (journal .exit) ≡ openedSlices (now (settings .entry)) g .journal)
-        × (now (state .exit) ≡ openedSlices (now (settings .entry)) g .state) ⌝ }
+        ⌜ (r ≡ openedNumber (now (settings .entry)) shared g)
+        × (now (journal .exit) ≡ openedSlices (now (settings .entry)) shared g .journal)
+        × (now (state .exit) ≡ openedSlices (now (settings .entry)) shared g .state) ⌝ }
 {
     if state.len() != STATE {
         return 6;
@@ -159,10 +159,34 @@ pub extern "C" fn ditgrux_open(settings: &[u8], journal: &mut [u8], state: &mut 
     let s = settings_of(settings);
     let n = width_of(settings);
     let key = key_of(settings);
-    let opened = journal::open(s, key, n, journal);
+    let opened = journal::open(s, key, shared, n, journal);
     let st = opened.state;
     keep(st, state);
     opened.number
+}
+
+// Opens a register. Questions 6 and 1 to 5.
+#[no_mangle]
+pub extern "C" fn ditgrux_open(settings: &[u8], journal: &mut [u8], state: &mut [u8]) -> u32
+    ensures { λ r.
+        let g : _ = slicesWith (now (state .entry)) (now (journal .entry)) in
+        ⌜ (r ≡ openedNumber (now (settings .entry)) false g)
+        × (now (journal .exit) ≡ openedSlices (now (settings .entry)) false g .journal)
+        × (now (state .exit) ≡ openedSlices (now (settings .entry)) false g .state) ⌝ }
+{
+    open_with(settings, false, journal, state)
+}
+
+// Opens a register whose key other registers have, too. Questions 6, 1, 2, 32, 3, 4 and 5.
+#[no_mangle]
+pub extern "C" fn ditgrux_open_shared(settings: &[u8], journal: &mut [u8], state: &mut [u8]) -> u32
+    ensures { λ r.
+        let g : _ = slicesWith (now (state .entry)) (now (journal .entry)) in
+        ⌜ (r ≡ openedNumber (now (settings .entry)) true g)
+        × (now (journal .exit) ≡ openedSlices (now (settings .entry)) true g .journal)
+        × (now (state .exit) ≡ openedSlices (now (settings .entry)) true g .state) ⌝ }
+{
+    open_with(settings, true, journal, state)
 }
 
 // ---- prepare

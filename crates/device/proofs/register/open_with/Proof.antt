@@ -1,14 +1,14 @@
--- `register::ditgrux_open` meets its contract.
+-- `register::open_with` meets its contract.
 use Rattle.device.specs.Calls.{slicesWith}
 use Rattle.device.proofs.CallAnswers.{open-none, open-some}
 use borrow.Author.Needs.{needs}
-use Rattle.device.proofs.register.ditgrux_open.Statement.{statement}
-use Rattle.device.proofs.register.ditgrux_open.Tie as tie
+use Rattle.device.proofs.register.open_with.Statement.{statement}
+use Rattle.device.proofs.register.open_with.Tie as tie
 
 returns : tie.Need-returns
 returns c =
     let s = c .before .before .before .before .args in
-    open-none (s .settings .now) (slicesWith (s .state .now) (s .journal .now)) (c .if1 .taken)
+    open-none (s .settings .now) (s .shared) (slicesWith (s .state .now) (s .journal .now)) (c .if1 .taken)
 
 settings-of-requires : tie.Need-settings-of-requires
 settings-of-requires c κs = search needs
@@ -34,10 +34,10 @@ same-length-2 c = search needs
 returns-2 : tie.Need-returns-2
 returns-2 c =
     let s = c .before .before .before .before .before .before .before .before .before .before .before .before .before .before .before .before .args in
-    open-some (s .settings .now) (slicesWith (s .state .now) (s .journal .now)) (c .before .before .before .before .before .before .before .before .before .before .before .before .if1 .left) (c .before .before .before .before .before .before .before .before .before .before .before .settings-of .ensures) (c .before .before .before .before .before .before .before .before .before .before .width-of .ensures) (c .before .before .before .before .before .before .before .before .before .key-of .ensures) (c .before .before .before .before .before .before .before .«open» .ensures) (c .before .before .keep .ensures)
+    open-some (s .settings .now) (s .shared) (slicesWith (s .state .now) (s .journal .now)) (c .before .before .before .before .before .before .before .before .before .before .before .before .if1 .left) (c .before .before .before .before .before .before .before .before .before .before .before .settings-of .ensures) (c .before .before .before .before .before .before .before .before .before .before .width-of .ensures) (c .before .before .before .before .before .before .before .before .before .key-of .ensures) (c .before .before .before .before .before .before .before .«open» .ensures) (c .before .before .keep .ensures)
 
-pub ditgrux-open-spec : {M : Type 1} → statement M
-ditgrux-open-spec =
+pub open-with-spec : {M : Type 1} → statement M
+open-with-spec =
     tie.close
     (tie.spec
     returns
