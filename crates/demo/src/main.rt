@@ -191,7 +191,7 @@ fn main() {
         id: receipt::name_of(b"SHOP-1"),
         serial: receipt::name_of(b"1a2b3c"),
     };
-    let r = journal::open(s, key, 8, &mut buf);
+    let r = journal::open(s, key, false, 8, &mut buf);
     let opened = r.state;
     printing::text(b"register SHOP-1 opened\n");
     let first = morning(opened, &mut buf);

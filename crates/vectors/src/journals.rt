@@ -1,6 +1,7 @@
 // The journals: a register is opened, its receipts are issued one after the other, and its journal is taken over.
 use super::lines::print;
 use super::lines::print_first;
+use super::lines::print_refused;
 use super::lines::write_hex;
 use super::lines::write_name;
 use super::lines::write_number;
@@ -60,14 +61,6 @@ fn print_settings(name: &[u8], s: Settings, width: usize) {
     printing::text(b"\n");
 }
 
-// The number of a refused call.
-fn print_refused(name: &[u8], number: u32) {
-    write_name(name);
-    printing::text(b"refused");
-    write_number(number as u64);
-    printing::text(b"\n");
-}
-
 // The compact form of the entry between two places of a journal.
 fn print_entry(name: &[u8], buf: &[u8], a: usize, e: usize) {
     if buf.len() < e {
@@ -90,7 +83,7 @@ fn open_row(line: &[u8], buf: &mut [u8]) -> State {
     let n = digits(field(line, 5), 0) as usize;
     let mut key = [0u8; 32];
     unhex(field(line, 6), &mut key);
-    let r = journal::open(s, key, n, buf);
+    let r = journal::open(s, key, false, n, buf);
     let st = r.state;
     if r.number != 0 {
         print_refused(field(line, 1), r.number);

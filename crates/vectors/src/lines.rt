@@ -45,3 +45,11 @@ pub(crate) fn print_hex(name: &[u8], bytes: &[u8], n: usize) {
         print_first(name, &text, m);
     }
 }
+
+// The number of a refused call.
+pub(crate) fn print_refused(name: &[u8], number: u32) {
+    write_name(name);
+    printing::text(b"refused");
+    write_number(number as u64);
+    printing::text(b"\n");
+}

@@ -1,6 +1,7 @@
 // Runs the library on the vectors of data/ and prints what it makes of each row.
 mod journals;
 mod lines;
+mod opens;
 mod primitive;
 mod receipts;
 mod takeovers;
@@ -20,6 +21,7 @@ fn answer(topic: u8, line: &[u8]) {
         b'c' => receipts::counter_row(line),
         b'm' => receipts::code_row(line),
         b'o' => receipts::compact_row(line),
+        b'p' => opens::row(line),
         b't' => takeovers::row(line),
         _ => receipts::amount_row(line),
     }
@@ -90,6 +92,7 @@ fn run_receipts() {
 }
 
 fn run_journals() {
+    run(b'p', b"open.tsv");
     run(b'j', b"journals.tsv");
     run(b't', b"takeover-1.tsv");
     run(b't', b"takeover-2.tsv");
