@@ -19,7 +19,7 @@ use Rattle.journal.specs.Head.{head, headLength}
 use Rattle.journal.specs.State.{unopened}
 use Rattle.journal.specs.Step.{fresh}
 use Rattle.journal.specs.Opening.{openNumber, opened, openBuffer}
-use Rattle.journal.specs.SharedKey.{SharedKeyNeverRepeats, MarkedDigit, MarkedDigitGets32, MarkIsNotStored, UnmarkedAsBefore}
+use Rattle.journal.specs.SharedKey.{SharedKeyNeverRepeats, SharedInputsDiffer, MarkedDigit, MarkedDigitGets32, MarkIsNotStored, UnmarkedAsBefore}
 use Rattle.journal.proofs.Registers.{open-zero}
 
 -- ---- the IDs that a marked Open takes
@@ -35,6 +35,13 @@ pub shared-key-never-repeats : SharedKeyNeverRepeats
 shared-key-never-repeats s t n m room space ts us z y a b h k e =
     one-id-one-hash-input (s .id) (t .id) (ts .lengths .id) (us .lengths .id) (good-id s (open-zero s true n room z .0)) (good-id t (open-zero t true m space y .0))
     (no-digit s n room z) (no-digit t m space y) a b h k e
+
+pub shared-inputs-differ : SharedInputsDiffer
+shared-inputs-differ j k key n m v w d h differ before later e p first rest f q i =
+    differ
+    (one-id-one-hash-input (v .settings .id) (w .settings .id) (v .typed .lengths .id) (w .typed .lengths .id) (good-id (v .settings) (v .good))
+    (good-id (w .settings) (w .good)) d h (e .fields .details .number) (f .fields .details .number) (v .each before e later p .typed .fields .number)
+    (w .each first f rest q .typed .fields .number) i .0)
 
 -- ---- 32 in the row of questions
 

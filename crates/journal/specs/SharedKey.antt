@@ -2,7 +2,7 @@
 use Prim.Native.Nat.{ℕ, _<_}
 use mathlib.Core.Path.{_≡_}
 use mathlib.Core.Bool.{Bool, true, false}
-use mathlib.Core.List.{List}
+use mathlib.Core.List.{List, _∷_, _++_}
 use lib.Dec.{leb}
 use lib.ListN.{length}
 use Rattle.primitives.specs.Counter.{widthGood}
@@ -10,14 +10,25 @@ use Rattle.primitives.specs.Questions.{ask}
 use Rattle.receipt.specs.Chain.{hashInput}
 use Rattle.receipt.specs.Settings.{TypedSettings, cspGood, idGood, serialGood, endsInDigit}
 use Rattle.receipt.specs.declared.settings.Settings.{Settings}
+use Rattle.receipt.specs.declared.entry.Entry.{Entry}
 use Rattle.journal.specs.Head.{headLength}
 use Rattle.journal.specs.Opening.{openNumber, opened, openBuffer}
+use Rattle.journal.specs.Valid.{Valid}
 
 -- "For any two registers so marked and any numbers, equal hash inputs mean equal ID and number."
 abbrev pub SharedKeyNeverRepeats : Type 0
 SharedKeyNeverRepeats =
     (s t : Settings) (n m room space : ℕ) → TypedSettings s → TypedSettings t → openNumber s true n room ≡ 0 → openNumber t true m space ≡ 0
     → (a b : ℕ) → a < 4294967296 → b < 4294967296 → hashInput (s .id) a ≡ hashInput (t .id) b → (s .id ≡ t .id) × (a ≡ b)
+
+-- so no hash input comes twice under the key: in two valid journals with different IDs that do not end in a digit, no two receipts have the same
+abbrev pub SharedInputsDiffer : Type 0
+SharedInputsDiffer =
+    (j k key : List ℕ) (n m : ℕ) (v : Valid j key n) (w : Valid k key m) → endsInDigit (v .settings .id) ≡ false → endsInDigit (w .settings .id) ≡ false
+    → (v .settings .id ≡ w .settings .id → ⊥)
+    → (before later : List Entry) (e : Entry) → v .entries ≡ before ++ (e ∷ later)
+    → (first rest : List Entry) (f : Entry) → w .entries ≡ first ++ (f ∷ rest)
+    → hashInput (v .settings .id) (e .fields .details .number) ≡ hashInput (w .settings .id) (f .fields .details .number) → ⊥
 
 -- "a marked ID ending in a digit", after questions 1 and 2
 pub record MarkedDigit (s : Settings) (shared : Bool) : Type 0 where
