@@ -1,6 +1,6 @@
 /* What include/ditgrux.h says besides the contracts: the wrappers pass every detail to its place and back, an empty signature may be
  * NULL, the walk of the entries ends at the length of the journal, what is left after a refusal, what to do when the buffer is full,
- * where power fails, and what the optical line is of a code.
+ * where power fails, which registers a shared key may have, and what the optical line is of a code.
  * Prints each line that fails; exit status 1 where one does. Compiles as C99 and as C++11. */
 #include "ditgrux.h"
 
@@ -355,6 +355,63 @@ static void lines(void)
     CHECK(refused(ditgrux_unbase32, TEXT("qqfoc5be2kg3g==="), 512) == DITGRUX_BAD_FORM);
 }
 
+/* Opens a register with the settings `bytes`, whose key is shared or not, into the journal `twin`; the state is `other`. */
+static uint32_t opened(const uint8_t *bytes, int is_shared, size_t room)
+{
+    memset(twin, 0xA5, sizeof twin);
+    memset(other, 0xA5, sizeof other);
+    return is_shared ? ditgrux_open_shared(bytes, DITGRUX_SETTINGS, twin, room, other, sizeof other)
+                     : ditgrux_open(bytes, DITGRUX_SETTINGS, twin, room, other, sizeof other);
+}
+
+/* The number of ditgrux_open_shared with this byte of the settings changed; a refused call leaves the journal and an unopened state. */
+static uint32_t refused_with(const uint8_t *bytes, size_t at, uint8_t byte, size_t room)
+{
+    uint8_t changed[DITGRUX_SETTINGS];
+    uint32_t number;
+    memcpy(changed, bytes, sizeof changed);
+    changed[at] = byte;
+    number = opened(changed, 1, room);
+    CHECK(is_all(0xA5, twin, sizeof twin) && is_all(0, other, sizeof other));
+    return number;
+}
+
+/* A shared key: 32 for an ID that ends in a digit, between 2 and 3; for any other ID both functions leave the same bytes. */
+static void shared(void)
+{
+    enum { CSP = 0, ID = 3, SERIAL = 43, WIDTH = 90 }; /* places in the settings; the width's last byte */
+    uint8_t left[DITGRUX_STATE], head[DITGRUX_LONGEST_HEAD];
+    uint8_t bytes[DITGRUX_SETTINGS];
+    int last;
+
+    CHECK(opened(settings, 0, sizeof twin) == DITGRUX_DONE); /* TILL-1 */
+    CHECK(refused_with(settings, CSP, 'A', sizeof twin) == DITGRUX_ID_ENDS_IN_DIGIT);
+    CHECK(refused_with(settings, CSP, 'a', 0) == DITGRUX_BAD_CSP);
+    CHECK(refused_with(settings, ID, '_', 0) == DITGRUX_BAD_ID);
+    CHECK(refused_with(settings, SERIAL, 'G', 0) == DITGRUX_ID_ENDS_IN_DIGIT);
+    CHECK(refused_with(settings, WIDTH, 4, 0) == DITGRUX_ID_ENDS_IN_DIGIT);
+    memcpy(bytes, settings, sizeof bytes);
+    for (last = 33; last < 127; last++) {
+        bytes[ID + 5] = (uint8_t)last;
+        if (last == '_' || (last >= '0' && last <= '9')) {
+            CHECK(refused_with(bytes, CSP, 'A', sizeof twin) == (uint32_t)(last == '_' ? DITGRUX_BAD_ID : DITGRUX_ID_ENDS_IN_DIGIT));
+            continue;
+        }
+        CHECK(opened(bytes, 0, sizeof twin) == DITGRUX_DONE);
+        memcpy(left, other, sizeof left);
+        memcpy(head, twin, sizeof head);
+        CHECK(opened(bytes, 1, sizeof twin) == DITGRUX_DONE);
+        CHECK(memcmp(left, other, sizeof left) == 0 && memcmp(head, twin, sizeof head) == 0);
+        CHECK(refused_with(bytes, SERIAL, 'G', 0) == DITGRUX_BAD_SERIAL);
+        CHECK(refused_with(bytes, WIDTH, 4, 0) == DITGRUX_BAD_WIDTH);
+        CHECK(refused_with(bytes, CSP, 'A', 28) == DITGRUX_HEAD_TOO_LONG);
+    }
+    memset(other, 0xA5, sizeof other);
+    CHECK(ditgrux_open_shared(settings, sizeof settings, twin, sizeof twin, other, sizeof other - 1) == DITGRUX_BAD_STATE);
+    CHECK(is_all(0xA5, other, sizeof other));
+    CHECK(ditgrux_open_shared(settings, sizeof settings - 1, twin, sizeof twin, other, sizeof other) == DITGRUX_BAD_CSP);
+}
+
 int main(void)
 {
     CHECK(make_settings(sizeof key, sizeof settings, settings) == DITGRUX_DONE);
@@ -366,6 +423,7 @@ int main(void)
     refusals();
     power_cut();
     reading();
+    shared();
     lines();
     return failures ? 1 : 0;
 }

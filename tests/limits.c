@@ -9,7 +9,7 @@
 #include <string.h>
 #include <ucontext.h>
 
-enum { STACK = 1 << 18, LIMIT = 4000, PATTERN = 0xA5, RECEIPTS = 20 };
+enum { STACK = 1 << 18, LIMIT = 4000, PATTERN = 0xA5, RECEIPTS = 20, ID_END = 3 + 31 /* the last byte of the ID in the settings */ };
 
 static uint8_t stack[STACK], journal[1 << 16], state[DITGRUX_STATE], again[DITGRUX_STATE], settings[DITGRUX_SETTINGS], output[512];
 static uint8_t optical[DITGRUX_LONGEST_ANY_LINE];
@@ -31,6 +31,11 @@ static void make_settings(void)
 static void open_register(void)
 {
     answer = ditgrux_open(settings, sizeof settings, journal, room, again, sizeof again);
+}
+
+static void open_shared(void)
+{
+    answer = ditgrux_open_shared(settings, sizeof settings, journal, room, again, sizeof again);
 }
 
 static int64_t cents(void)
@@ -164,7 +169,7 @@ static int damaged(size_t at, uint32_t expected)
 /* The longest register, and its longest receipts. */
 static int longest(void)
 {
-    int bad = measure("settings", make_settings, 0) + measure("open", open_register, 0);
+    int bad = measure("settings", make_settings, 0) + measure("shared", open_shared, 0) + measure("open", open_register, 0);
     memcpy(state, again, sizeof state);
     bad += exactly("head", ditgrux_journal_length(state, sizeof state), DITGRUX_LONGEST_HEAD);
     for (number = 1; number < RECEIPTS; number++)
@@ -287,7 +292,11 @@ static int refusals(void)
     bad += measure("prepare", prepare, DITGRUX_NUMBER_NOT_ABOVE) + measure("issue", issue, DITGRUX_NUMBER_NOT_ABOVE);
     cut = 0;
     room = 10;
-    return bad + measure("open", open_register, DITGRUX_HEAD_TOO_LONG) + measure("issue", issue, DITGRUX_BAD_STATE);
+    bad += measure("open", open_register, DITGRUX_HEAD_TOO_LONG) + measure("shared", open_shared, DITGRUX_HEAD_TOO_LONG);
+    settings[ID_END] = '9';
+    bad += measure("shared", open_shared, DITGRUX_ID_ENDS_IN_DIGIT);
+    settings[ID_END] = 'f';
+    return bad + measure("issue", issue, DITGRUX_BAD_STATE);
 }
 
 int main(void)
