@@ -296,11 +296,7 @@ impl Round<'_> {
         let room = given.head_length() + self.random.pick(&[1000, 2000, 4000, self.random.below(3000)]);
         let mut journal = self.garbage(room);
         let mut state = self.garbage(STATE);
-        let opened = if shared {
-            self.compare.open_shared(&settings, &mut journal, &mut state)?
-        } else {
-            self.compare.open(&settings, &mut journal, &mut state)?
-        };
+        let opened = self.opened(shared, &settings, &mut journal, &mut state)?;
         demand((number, opened) == (0, 0), "good settings are opened", &journal)?;
 
         let mut receipts = Vec::new();

@@ -36,6 +36,21 @@ fn combined(one: &[u8], other: &[u8]) -> Vec<u8> {
 impl Round<'_> {
     // ---- both ways to open
 
+    /// Opens a register in one of the two ways.
+    pub(super) fn opened(
+        &mut self,
+        shared: bool,
+        settings: &[u8],
+        journal: &mut [u8],
+        state: &mut [u8],
+    ) -> Compared<u32> {
+        if shared {
+            self.compare.open_shared(settings, journal, state)
+        } else {
+            self.compare.open(settings, journal, state)
+        }
+    }
+
     /// Opens a register both ways on the same bytes. For a shared key there is 32 between 2 and 3, and all else is the same.
     /// Returns both numbers, that for a shared key last.
     pub(super) fn opened_both_ways(&mut self, settings: &[u8], journal: &[u8], state: &[u8]) -> Compared<[u32; 2]> {
@@ -116,7 +131,7 @@ impl Round<'_> {
         demand(numbers == [0, number], "a shared key asks whether the last byte is a digit", &id)
     }
 
-    /// IDs with a length that they can't have, or with bytes after their end: digits or not, they get 2.
+    /// IDs with a length that they can't have, a byte after their end, or a foreign byte: digits or not, they get 2.
     pub(super) fn bad_ids_with_digits(&mut self) -> Compared<()> {
         for byte in [self.random.pick(DIGITS), self.random.pick(b"/:-Aaf")] {
             let short = 1 + self.random.below(31) as u64;
@@ -127,6 +142,10 @@ impl Round<'_> {
             let mut id = Name::of(&sample::id_with_digit(&self.random)[..1]);
             id.bytes[1 + self.random.below(31)] = byte;
             self.bad_id(id)?;
+            let mut id = sample::id_ending_in(&self.random, 2 + self.random.below(31), byte);
+            let place = self.random.below(id.len() - 1);
+            id[place] = sample::no_id_byte(&self.random);
+            self.bad_id(Name::of(&id))?;
         }
         Ok(())
     }
@@ -162,7 +181,7 @@ impl Round<'_> {
             let hashed = self.hashed();
             self.taken_once(&hashed)?;
         }
-        for _ in 0..6 {
+        for _ in 0..8 {
             self.two_registers()?;
         }
         Ok(())
@@ -184,45 +203,43 @@ impl Round<'_> {
         demand(taken.len() <= 1, "a hash input has one register that shares its key", &input)
     }
 
-    /// Two registers that open for a shared key, and two numbers.
+    /// Two registers that are both opened for a shared key, and two numbers.
     fn two_registers(&mut self) -> Compared<()> {
-        let one = (sample::id_without_digit(&self.random), self.number());
-        let other = self.hashed_like(&one);
-        for (id, _) in [&one, &other] {
-            let [_, shared] = self.id_opened(Name::of(id))?;
-            demand(shared == 0, "an ID that ends in no digit shares its key", id)?;
-        }
+        let Some([one, other]) = self.pair()? else { return Ok(()) };
         let inputs = [hash_input(&one), hash_input(&other)];
-        demand(
-            (inputs[0] == inputs[1]) == (one == other),
-            "hash inputs are equal for one register alone",
-            &inputs.concat(),
-        )
+        let equal = inputs[0] == inputs[1];
+        demand(equal == (one == other), "hash inputs are equal for one ID and one number alone", &inputs.concat())
     }
 
-    /// An ID that ends in no digit and a number, made of others so that the hash inputs are alike.
+    /// Two IDs with numbers over 1 whose hash inputs are alike; None where one of the IDs is not opened for a shared key.
+    fn pair(&mut self) -> Compared<Option<[Hashed; 2]>> {
+        let one = self.hashed();
+        let other = self.hashed_like(&one);
+        for (id, _) in [&one, &other] {
+            if self.id_opened(Name::of(id))? != [0, 0] {
+                return Ok(None);
+            }
+        }
+        Ok(Some([one, other]))
+    }
+
+    /// Another ID and number made of these. The digits of the number may go over to the ID.
     fn hashed_like(&self, (id, number): &Hashed) -> Hashed {
         let digits = number.to_string().into_bytes();
-        let cut = self.random.below(digits.len() + 1);
+        let (moved, rest) = digits.split_at(self.random.below(digits.len() + 1));
         let end = &[self.random.pick(b"/:-A")][..];
         let mut other = match self.random.below(6) {
             0 => id.clone(),
-            1 => [id, &digits[..cut], end].concat(),
-            2 => [id, &digits[..], end].concat(),
+            1 => [id, moved].concat(),
+            2 => [id, moved, end].concat(),
             3 => [id, end].concat(),
-            4 => [&id[..id.len() - 1], &digits[..cut], end].concat(),
-            // up to a byte before its last that is no digit, where there is one
-            _ => match id[..id.len() - 1].iter().rposition(|byte| !byte.is_ascii_digit()) {
-                Some(place) => id[..=place].to_vec(),
-                None => id.clone(),
-            },
+            4 => [&id[..id.len() - 1], moved, end].concat(),
+            _ => id[..1 + self.random.below(id.len())].to_vec(),
         };
-        if other.len() > 32 {
-            other = id.clone();
-        }
-        let rest = String::from_utf8_lossy(&digits[cut..]).parse().unwrap_or(0u32);
-        let numbers = [*number, rest, number.wrapping_add(1), number / 10, self.number()];
-        (other, self.random.pick(&numbers).max(1))
+        other.truncate(32);
+        let rest = String::from_utf8_lossy(rest).parse().unwrap_or(0);
+        let numbers = [*number, rest, rest, number.wrapping_add(1), number / 10, self.number()];
+        (other, self.random.pick(&numbers).max(2))
     }
 
     // ---- the key stream
@@ -249,10 +266,8 @@ impl Round<'_> {
     /// Two registers that share a key have two key streams, but for one ID and one number. Eight bytes are not equal by
     /// chance.
     fn two_streams(&mut self) -> Compared<()> {
+        let Some([one, other]) = self.pair()? else { return Ok(()) };
         let settings = Settings { width: 8, ..sample::settings(&self.random) };
-        let one = (sample::id_without_digit(&self.random), self.number());
-        let mut other = self.hashed_like(&one);
-        other.1 = other.1.max(2);
         let [(field, counter), (other_field, other_counter)] =
             [self.counter_issued(&settings, &one, true)?, self.counter_issued(&settings, &other, true)?];
         let equal = combined(&field, &counter) == combined(&other_field, &other_counter);
@@ -272,11 +287,7 @@ impl Round<'_> {
         let mut journal = self.garbage(head + 2 * (2 + LONGEST_COMPACT));
         let mut state = self.garbage(STATE);
         let bytes = settings_bytes(&settings);
-        let opened = if shared {
-            self.compare.open_shared(&bytes, &mut journal, &mut state)?
-        } else {
-            self.compare.open(&bytes, &mut journal, &mut state)?
-        };
+        let opened = self.opened(shared, &bytes, &mut journal, &mut state)?;
         demand(opened == 0, "a register with a key of others is opened", id)?;
         let date = sample::date(&self.random);
         let start = Details { number: 1, date, amounts: [0; 5], kind: 0 };
