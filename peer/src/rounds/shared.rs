@@ -23,9 +23,8 @@ fn hash_input((id, number): &Hashed) -> Vec<u8> {
 /// Every ID and number with this hash input.
 fn all_with_input(input: &[u8]) -> Vec<Hashed> {
     let ids = (1..=input.len().min(32)).map(|end| input[..end].to_vec());
-    let numbers =
-        |id: &Vec<u8>| std::str::from_utf8(&input[id.len()..]).ok()?.parse().ok().filter(|&number| number > 0);
-    let pairs = ids.filter_map(|id| numbers(&id).map(|number| (id, number)));
+    let number = |id: &[u8]| String::from_utf8_lossy(&input[id.len()..]).parse().ok().filter(|&number| number > 0);
+    let pairs = ids.filter_map(|id| number(&id).map(|number| (id, number)));
     pairs.filter(|pair| hash_input(pair) == input).collect()
 }
 
@@ -157,7 +156,7 @@ impl Round<'_> {
 
     // ---- what is hashed
 
-    /// A register and a number; with the digits of the ID the hash input can often be split in several ways.
+    /// Any good ID and a number over 1. Where the ID ends in digits, others have the same hash input.
     fn hashed(&self) -> Hashed {
         let mut id = match self.random.below(4) {
             0 => sample::id(&self.random),
@@ -288,13 +287,13 @@ impl Round<'_> {
         let mut state = self.garbage(STATE);
         let bytes = settings_bytes(&settings);
         let opened = self.opened(shared, &bytes, &mut journal, &mut state)?;
-        demand(opened == 0, "a register with a key of others is opened", id)?;
+        demand(opened == 0, "a register of a pair is opened", id)?;
         let date = sample::date(&self.random);
         let start = Details { number: 1, date, amounts: [0; 5], kind: 0 };
         let amounts = std::array::from_fn(|_| self.random.between(-1_000_000, 1_000_000));
         for details in [start, Details { number: *number, amounts, ..start }] {
             let issued = self.compare.issue(&mut state, &details, &[], &mut journal)?;
-            demand(issued == 0, "a register with a key of others issues", id)?;
+            demand(issued == 0, "a register of a pair issues", id)?;
         }
         let held = state_of(&state);
         journal.truncate(held.journal_length as usize);
