@@ -247,10 +247,20 @@ impl Round<'_> {
     pub(super) fn key_streams(&mut self) -> Compared<()> {
         let (one, other) = ((b"A1".to_vec(), 2), (b"A".to_vec(), 12));
         self.one_stream(&one, &other)?;
-        let hashed = self.hashed();
-        let all: Vec<Hashed> = all_with_input(&hash_input(&hashed)).into_iter().filter(|pair| pair.1 > 1).collect();
-        self.one_stream(&all[0], &all[all.len() - 1])?;
+        let [one, other] = self.equal_inputs();
+        self.one_stream(&one, &other)?;
         self.two_streams()
+    }
+
+    /// Two IDs with numbers over 1 that have one hash input.
+    fn equal_inputs(&self) -> [Hashed; 2] {
+        loop {
+            let mut all = all_with_input(&hash_input(&self.hashed()));
+            all.retain(|pair| pair.1 > 1);
+            if let [first, .., last] = &all[..] {
+                return [first.clone(), last.clone()];
+            }
+        }
     }
 
     /// Two receipts with one hash input under one key: their counter fields differ as their counters do.

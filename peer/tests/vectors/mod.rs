@@ -405,8 +405,9 @@ pub fn open(side: &dyn Calls) {
         let mut bytes = [0; SETTINGS];
         match (side.settings(&settings.csp, &id, serial, width, &key, &mut bytes), expected.0) {
             (0, 0 | 5 | 32) => assert_eq!(bytes, settings_bytes(&settings), "{}", row[0]),
-            // 32 is asked before 3, and by Open alone
-            (number, opened) => assert!(number == opened || (number, opened) == (3, 32) || (number, opened) == (4, 32)),
+            // 32 is asked before these two, and by Open alone
+            (3 | 4, 32) => (),
+            (number, opened) => assert_eq!(number, opened, "{}", row[0]),
         }
     }
 }
