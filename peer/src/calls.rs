@@ -39,6 +39,7 @@ pub trait Calls {
     fn receipts(&self, state: &[u8]) -> u32;
     fn journal_length(&self, state: &[u8]) -> usize;
     fn open(&self, settings: &[u8], journal: &mut [u8], state: &mut [u8]) -> u32;
+    fn open_shared(&self, settings: &[u8], journal: &mut [u8], state: &mut [u8]) -> u32;
     fn prepare(&self, state: &[u8], details: &Details, output: &mut [u8]) -> Written;
     fn issue(&self, state: &mut [u8], details: &Details, signature: &[u8], journal: &mut [u8]) -> u32;
     fn take_over(&self, journal: &[u8], key: &[u8], width: usize, state: &mut [u8]) -> TakenOver;
@@ -63,6 +64,19 @@ fn written(answer: Result<usize, u32>) -> Written {
         Ok(length) => Written { number: 0, length },
         Err(number) => Written { number, length: 0 },
     }
+}
+
+/// Both ways to open a register.
+fn open(settings: &[u8], shared: bool, journal: &mut [u8], state: &mut [u8]) -> u32 {
+    if state.len() != STATE {
+        return 6;
+    }
+    let (number, opened) = match register::open(&settings_of(settings), shared, journal) {
+        Ok(opened) => (0, opened),
+        Err(number) => (number, State::default()),
+    };
+    state.copy_from_slice(&state_bytes(&opened));
+    number
 }
 
 /// The bytes to the start of the output: their length, or 23.
@@ -128,15 +142,11 @@ impl Calls for Peer {
     }
 
     fn open(&self, settings: &[u8], journal: &mut [u8], state: &mut [u8]) -> u32 {
-        if state.len() != STATE {
-            return 6;
-        }
-        let (number, opened) = match register::open(&settings_of(settings), journal) {
-            Ok(opened) => (0, opened),
-            Err(number) => (number, State::default()),
-        };
-        state.copy_from_slice(&state_bytes(&opened));
-        number
+        open(settings, false, journal, state)
+    }
+
+    fn open_shared(&self, settings: &[u8], journal: &mut [u8], state: &mut [u8]) -> u32 {
+        open(settings, true, journal, state)
     }
 
     fn prepare(&self, state: &[u8], details: &Details, output: &mut [u8]) -> Written {

@@ -11,11 +11,12 @@ use crate::receipt::Details;
 use crate::text::hex;
 
 /// The calls in the order of the table, with the numbers that each can return.
-pub const CALLS: [(&str, &[u32]); 18] = [
+pub const CALLS: [(&str, &[u32]); 19] = [
     ("version", &[0]),
     ("settings", &[0, 1, 2, 3, 4, 23]),
     ("figures", &[0]),
     ("open", &[0, 1, 2, 3, 4, 5, 6]),
+    ("open_shared", &[0, 1, 2, 3, 4, 5, 6, 32]),
     ("prepare", &[0, 6, 7, 8, 9, 10, 11, 13]),
     ("issue", &[0, 6, 7, 8, 9, 10, 11, 12, 13]),
     ("take_over", &[0, 4, 6, 14, 15, 16, 17, 18, 19, 20, 21]),
@@ -32,8 +33,8 @@ pub const CALLS: [(&str, &[u32]); 18] = [
     ("unbase32", &[0, 22, 23]),
 ];
 
-/// The numbers of the calls are 0 to 27.
-const NUMBERS: usize = 28;
+/// The numbers of the calls are 0 to 32.
+const NUMBERS: usize = 33;
 
 const CANARY: usize = 48;
 
@@ -189,12 +190,32 @@ impl Compare {
     }
 
     pub fn open(&mut self, settings: &[u8], journal: &mut [u8], state: &mut [u8]) -> Compared<u32> {
+        self.open_call("open", settings, journal, state, |side, settings, journal, state| {
+            side.open(settings, journal, state)
+        })
+    }
+
+    pub fn open_shared(&mut self, settings: &[u8], journal: &mut [u8], state: &mut [u8]) -> Compared<u32> {
+        self.open_call("open_shared", settings, journal, state, |side, settings, journal, state| {
+            side.open_shared(settings, journal, state)
+        })
+    }
+
+    /// Open, of either way.
+    fn open_call(
+        &mut self,
+        call: &'static str,
+        settings: &[u8],
+        journal: &mut [u8],
+        state: &mut [u8],
+        work: impl Fn(&dyn Calls, &[u8], &mut [u8], &mut [u8]) -> u32,
+    ) -> Compared<u32> {
         let (number, after) = self.run(
-            "open",
+            call,
             &format_args!(""),
             [("settings", settings), ("journal", journal), ("state", state)],
             Some(2),
-            |side, [settings, journal, state]| side.open(settings.get(), journal.get_mut(), state.get_mut()),
+            |side, [settings, journal, state]| work(side, settings.get(), journal.get_mut(), state.get_mut()),
             |number| number,
         )?;
         journal.copy_from_slice(after[1].get());
@@ -406,7 +427,7 @@ impl Compare {
     pub fn table(&self) -> String {
         let mut text = String::new();
         for (row, (name, numbers)) in CALLS.iter().enumerate() {
-            text += &format!("{name:<10}");
+            text += &format!("{name:<11}");
             for &number in *numbers {
                 text += &format!(" {number}:{}", self.tally[row][number as usize]);
             }

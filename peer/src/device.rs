@@ -19,6 +19,8 @@ unsafe extern "C" {
     fn ditgrux_journal_length(state: *const u8, state_length: usize) -> usize;
     fn ditgrux_open(settings: *const u8, settings_length: usize, journal: *mut u8, journal_length: usize,
         state: *mut u8, state_length: usize) -> u32;
+    fn ditgrux_open_shared(settings: *const u8, settings_length: usize, journal: *mut u8, journal_length: usize,
+        state: *mut u8, state_length: usize) -> u32;
     fn ditgrux_prepare(state: *const u8, state_length: usize, number: u32, year: u32, month: u32, day: u32, hour: u32,
         minute: u32, second: u32, standard: i64, reduced_1: i64, reduced_2: i64, zero: i64, special: i64, kind: u32,
         output: *mut u8, output_length: usize, length: *mut usize) -> u32;
@@ -52,6 +54,9 @@ unsafe extern "C" {
 /// A call that reads one text and writes another, with its length.
 type TextCall = unsafe extern "C" fn(*const u8, usize, *mut u8, usize, *mut usize) -> u32;
 
+/// Open, of either way.
+type OpenCall = unsafe extern "C" fn(*const u8, usize, *mut u8, usize, *mut u8, usize) -> u32;
+
 /// libdevice.a.
 pub struct Library;
 
@@ -62,6 +67,12 @@ fn text_call(call: TextCall, text: &[u8], output: &mut [u8]) -> Written {
     let mut length = UNWRITTEN_LENGTH;
     let number = unsafe { call(text.as_ptr(), text.len(), output.as_mut_ptr(), output.len(), &mut length) };
     Written { number, length }
+}
+
+fn open_call(call: OpenCall, settings: &[u8], journal: &mut [u8], state: &mut [u8]) -> u32 {
+    unsafe {
+        call(settings.as_ptr(), settings.len(), journal.as_mut_ptr(), journal.len(), state.as_mut_ptr(), state.len())
+    }
 }
 
 impl Calls for Library {
@@ -104,16 +115,11 @@ impl Calls for Library {
     }
 
     fn open(&self, settings: &[u8], journal: &mut [u8], state: &mut [u8]) -> u32 {
-        unsafe {
-            ditgrux_open(
-                settings.as_ptr(),
-                settings.len(),
-                journal.as_mut_ptr(),
-                journal.len(),
-                state.as_mut_ptr(),
-                state.len(),
-            )
-        }
+        open_call(ditgrux_open, settings, journal, state)
+    }
+
+    fn open_shared(&self, settings: &[u8], journal: &mut [u8], state: &mut [u8]) -> u32 {
+        open_call(ditgrux_open_shared, settings, journal, state)
     }
 
     fn prepare(&self, state: &[u8], details: &Details, output: &mut [u8]) -> Written {

@@ -52,9 +52,10 @@ impl State {
     }
 }
 
-/// Writes a head with count 0 to the start of the buffer.
-pub fn open(settings: &Settings, buffer: &mut [u8]) -> Result<State, Number> {
-    settings.good()?;
+/// Writes a head with count 0 to the start of the buffer. Where the key is shared, one question more is asked and nothing
+/// else is different.
+pub fn open(settings: &Settings, shared: bool, buffer: &mut [u8]) -> Result<State, Number> {
+    settings.good_to_open(shared)?;
     let length = settings.head_length();
     if length > buffer.len() {
         return Err(5);

@@ -2,6 +2,7 @@
 
 mod limits;
 mod lines;
+mod shared;
 
 use crate::calls::{Calls, Peer};
 use crate::compare::{Compare, Compared, demand};
@@ -24,6 +25,13 @@ pub fn round(compare: &mut Compare, seed: u64, number: u64) -> Compared<()> {
     round.base32()?;
     round.settings()?;
     round.opening()?;
+    round.order_of_open()?;
+    round.last_bytes()?;
+    round.bad_ids_with_digits()?;
+    round.hash_inputs()?;
+    round.key_streams()?;
+    round.shared_list()?;
+    round.list_from_earlier()?;
     for _ in 0..12 {
         round.state_made_by_hand()?;
     }
@@ -255,22 +263,27 @@ impl Round<'_> {
                 2 => head + self.random.below(300),
                 _ => head,
             };
-            let mut journal = self.garbage(room);
+            let journal = self.garbage(room);
             let mut state = self.garbage(STATE);
             if self.random.once_in(8) {
                 state = self.other_length(&state);
             }
-            self.compare.open(&bytes, &mut journal, &mut state)?;
-            self.compare.figures(&state)?;
+            self.opened_both_ways(&bytes, &journal, &state)?;
         }
         Ok(())
     }
 
     // ---- a list of calls
 
-    /// Open and a list of calls, refused ones among them; then the journal is taken over and written again.
+    /// Open and a list of calls.
     fn call_list(&mut self) -> Compared<Accepted> {
-        let given = sample::settings(&self.random);
+        let settings = sample::settings(&self.random);
+        self.call_list_of(settings, false)
+    }
+
+    /// Open, for a shared key or not, and a list of calls, refused ones among them; then the journal is taken over and
+    /// written again.
+    fn call_list_of(&mut self, given: Settings, shared: bool) -> Compared<Accepted> {
         let mut settings = [0; SETTINGS];
         let number = self.compare.settings(
             &given.csp,
@@ -283,7 +296,7 @@ impl Round<'_> {
         let room = given.head_length() + self.random.pick(&[1000, 2000, 4000, self.random.below(3000)]);
         let mut journal = self.garbage(room);
         let mut state = self.garbage(STATE);
-        let opened = self.compare.open(&settings, &mut journal, &mut state)?;
+        let opened = self.opened(shared, &settings, &mut journal, &mut state)?;
         demand((number, opened) == (0, 0), "good settings are opened", &journal)?;
 
         let mut receipts = Vec::new();
@@ -360,7 +373,10 @@ impl Round<'_> {
             let number = self.compare.issue(&mut state, &details, &signature, &mut journal)?;
             demand(number == 0, "a receipt of an accepted journal is issued", &accepted.journal)?;
         }
-        demand(journal == accepted.journal, "the journal written again is the same", &accepted.journal)
+        demand(journal == accepted.journal, "the journal written again is the same", &accepted.journal)?;
+        let mut taken = self.garbage(STATE);
+        let answer = self.compare.take_over(&journal, &accepted.settings.key, accepted.width(), &mut taken)?;
+        demand(answer.number == 0 && taken == state, "the state after writing again is the same", &journal)
     }
 
     /// What Read gives of a receipt, which must be what Issue was given.

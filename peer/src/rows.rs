@@ -1,10 +1,11 @@
-//! Rows of the test tables that the peer computes: what lies at the limits of request E4 and next to them. In their tables
-//! they come last, after the published rows. The answers are the peer's; the tests ask them of the library, too.
+//! Rows of the test tables that the peer computes: what lies at the limits of request E4 and next to them, and both ways to
+//! open a register (request E7). In their tables they come last, after the published rows. The answers are the peer's; the
+//! tests ask them of the library, too.
 
 use crate::calls::{Calls, Peer, Written};
-use crate::layout::{STATE, state_bytes};
+use crate::layout::{STATE, settings_bytes, state_bytes};
 use crate::model::{CHAIN, COUNTER, Given, Journal, Printed, SIGNED, spelled};
-use crate::receipt::{AMOUNT_LIMIT, Date, Details, LONGEST_COMPACT, LONGEST_INPUT, LONGEST_PAYLOAD};
+use crate::receipt::{AMOUNT_LIMIT, Date, Details, LONGEST_COMPACT, LONGEST_INPUT, LONGEST_PAYLOAD, chain_value};
 use crate::register::State;
 use crate::sample::{ENDS, FIVE_LARGEST, LAST_AMOUNTS, NEW_AMOUNTS, NEXT_AMOUNTS, PAYLOAD_EDGES, width_end};
 use crate::settings::{Name, Settings};
@@ -14,12 +15,13 @@ use crate::text::hex;
 pub type Rows = fn() -> Vec<String>;
 
 /// The tables with such rows, by their place as seen from the peer's folder.
-pub const TABLES: [(&str, Rows); 5] = [
+pub const TABLES: [(&str, Rows); 6] = [
     ("../tests/takeover.tsv", takeover),
     ("tests/data/amount.tsv", amount),
     ("tests/data/code.tsv", code),
     ("tests/data/issue-limits.tsv", issue_limits),
     ("tests/data/ocr-line.tsv", ocr_line),
+    ("tests/data/open.tsv", open),
 ];
 
 const DATE: Date = Date { year: 2016, month: 2, day: 29, hour: 8, minute: 5, second: 0 };
@@ -280,4 +282,142 @@ fn counter_rows(end: &str, width: u64, sign: i64, last: i64) -> Vec<String> {
     add("amount-beyond-with-room", far, beyond, &[0, 1, 2]);
     add("end-of-i64", last, [i64_end, 0, 0, 0, 0], &[0, 2]);
     rows
+}
+
+// ---- open
+
+/// Open into a buffer of this size, for a shared key or not: the number, and the head, which is empty where it is refused.
+/// Nothing else is written, and the state is that of the head or the unopened one.
+pub fn open_answer(side: &dyn Calls, settings: &Settings, room: usize, shared: bool) -> (u32, Vec<u8>) {
+    let (mut journal, mut state) = (vec![0xaa; room], [0xaa; STATE]);
+    let bytes = settings_bytes(settings);
+    let number = if shared {
+        side.open_shared(&bytes, &mut journal, &mut state)
+    } else {
+        side.open(&bytes, &mut journal, &mut state)
+    };
+    let (mut head, mut opened) = (0, State::default());
+    if number == 0 {
+        head = settings.head_length();
+        opened.settings = *settings;
+        opened.chain = chain_value(settings.id());
+        opened.journal_length = head as u64;
+    }
+    assert_eq!(state, state_bytes(&opened), "{settings:?}");
+    assert!(journal[head..].iter().all(|&byte| byte == 0xaa), "{settings:?}");
+    journal.truncate(head);
+    (number, journal)
+}
+
+fn open_row(name: &str, settings: &Settings, room: usize, shared: bool) -> String {
+    let (number, head) = open_answer(&Peer, settings, room, shared);
+    let name = format!("{name}-{}", if shared { "shared" } else { "alone" });
+    let [csp, serial] = [&settings.csp, settings.serial()].map(|text| String::from_utf8_lossy(text));
+    let (id, head) = (hex(settings.id()), hex(&head));
+    let Settings { width, .. } = settings;
+    format!("{name}\t{csp}\t{id}\t{serial}\t{width}\t{room}\t{}\t{number}\t{head}", u8::from(shared))
+}
+
+fn open() -> Vec<String> {
+    let digits = (b'0'..=b'9').flat_map(|digit| id_rows(&format!("ends-in-{}", digit as char), &[b'K', digit]));
+    let others = LAST_BYTES.map(|(name, last)| id_row(&format!("ends-in-{name}"), &[b'K', last], true));
+    let ids = IDS.iter().flat_map(|(name, id)| id_rows(name, id));
+    digits.chain(others).chain(ids).chain(room_rows()).chain(question_rows()).collect()
+}
+
+/// Last bytes that are no digits: those next to the digits, and others that could be taken for one.
+const LAST_BYTES: [(&str, u8); 18] = [
+    ("slash", b'/'),
+    ("colon", b':'),
+    ("hyphen", b'-'),
+    ("plus", b'+'),
+    ("dot", b'.'),
+    ("comma", b','),
+    ("lowest-byte", b'!'),
+    ("highest-byte", b'~'),
+    ("at-sign", b'@'),
+    ("caret", b'^'),
+    ("backquote", b'`'),
+    ("capital-a", b'A'),
+    ("capital-o", b'O'),
+    ("capital-z", b'Z'),
+    ("small-a", b'a'),
+    ("small-f", b'f'),
+    ("small-l", b'l'),
+    ("small-z", b'z'),
+];
+
+/// The IDs that the request names, digits at other places than the end, IDs of one byte, of 31 and of 32, and bad ones.
+const IDS: [(&str, &[u8]); 22] = [
+    ("request-a", b"A"),
+    ("request-a1", b"A1"),
+    ("digit-first", b"1A"),
+    ("digit-before-the-last", b"A1-"),
+    ("digits-before-the-last", b"A123456789:"),
+    ("two-digits-last", b"A12"),
+    ("digit-first-and-last", b"1A2"),
+    ("only-digits", b"4294967295"),
+    ("one-byte-0", b"0"),
+    ("one-byte-9", b"9"),
+    ("one-byte-slash", b"/"),
+    ("one-byte-colon", b":"),
+    ("31-bytes-digit-last", b"~~~~~~~~~~~~~~~~~~~~~~~~~~~~~~1"),
+    ("31-bytes-digit-before-the-last", b"~~~~~~~~~~~~~~~~~~~~~~~~~~~~~1~"),
+    ("32-bytes-digit-last", b"~~~~~~~~~~~~~~~~~~~~~~~~~~~~~~~1"),
+    ("32-bytes-digit-before-the-last", b"~~~~~~~~~~~~~~~~~~~~~~~~~~~~~~1~"),
+    ("32-bytes-only-digits", b"01234567890123456789012345678901"),
+    ("32-bytes-digits-and-hyphen", b"0123456789012345678901234567890-"),
+    ("empty", b""),
+    ("blank-before-digit", b"K 1"),
+    ("blank-after-digit", b"K1 "),
+    ("high-byte-before-digit", b"K\xb91"),
+];
+
+fn id_row(name: &str, id: &[u8], shared: bool) -> String {
+    let settings = settings(id, b"2a", 5);
+    open_row(name, &settings, settings.head_length(), shared)
+}
+
+fn id_rows(name: &str, id: &[u8]) -> [String; 2] {
+    [false, true].map(|shared| id_row(name, id, shared))
+}
+
+/// The longest head of each width into its own size, and into others.
+fn room_rows() -> impl Iterator<Item = String> {
+    let row = |name: &str, width: u64, room: usize| {
+        open_row(&format!("longest-width-{width}{name}"), &longest_settings(width), room, true)
+    };
+    let head = longest_settings(5).head_length();
+    let others = [("-room-one-more", head + 1), ("-room-one-short", head - 1), ("-room-none", 0)];
+    (5..=8).map(move |width| row("", width, head)).chain(others.map(|(name, room)| row(name, 5, room)))
+}
+
+/// The questions in their order, by what is wrong.
+const QUESTIONS: [&str; 6] = ["bad-csp", "bad-id", "digit", "bad-serial", "bad-width", "no-room"];
+
+/// Each question answered by "no", together with each other one, and all of them. With the key alone only where the ID ends
+/// in a digit.
+fn question_rows() -> Vec<String> {
+    let mut rows = Vec::new();
+    for (place, first) in QUESTIONS.into_iter().enumerate() {
+        rows.extend(wrong_rows(first, &[first]));
+        for other in &QUESTIONS[place + 1..] {
+            rows.extend(wrong_rows(&format!("{first}-and-{other}"), &[first, other]));
+        }
+    }
+    rows.extend(wrong_rows("all-wrong", &QUESTIONS));
+    rows
+}
+
+fn wrong_rows(name: &str, wrong: &[&str]) -> Vec<String> {
+    let is = |what| wrong.contains(&what);
+    let id = [&b"K"[..], if is("bad-id") { b"_" } else { b"-" }, if is("digit") { b"1" } else { b"A" }].concat();
+    let serial: &[u8] = if is("bad-serial") { b"2A" } else { b"2a" };
+    let mut settings = settings(&id, serial, if is("bad-width") { 9 } else { 5 });
+    if is("bad-csp") {
+        settings.csp = *b"at0";
+    }
+    let room = settings.head_length() - usize::from(is("no-room"));
+    let ways: &[bool] = if is("digit") { &[false, true] } else { &[true] };
+    ways.iter().map(|&shared| open_row(name, &settings, room, shared)).collect()
 }

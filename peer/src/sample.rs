@@ -5,7 +5,7 @@ use crate::model::{CHAIN, COUNTER, Printed, SIGNED};
 use crate::random::Random;
 use crate::receipt::{AMOUNT_LIMIT, Date, Details, FAILURE, LONGEST_PAYLOAD};
 use crate::register::State;
-use crate::settings::{Name, Settings};
+use crate::settings::{Name, Number, Settings};
 
 // ---- settings
 
@@ -29,6 +29,27 @@ pub fn id(random: &Random) -> Vec<u8> {
         }
     }
     id
+}
+
+pub const DIGITS: &[u8; 10] = b"0123456789";
+
+/// An ID of this length with this last byte. Before it stand any bytes, or digits alone.
+pub fn id_ending_in(random: &Random, length: usize, last: u8) -> Vec<u8> {
+    let digits = random.once_in(3);
+    let mut id: Vec<u8> =
+        (0..length).map(|_| if digits { random.pick(DIGITS) } else { random.pick(b"!~^`/:-.0A9Zafgz") }).collect();
+    id[length - 1] = last;
+    id
+}
+
+/// An ID that ends in a digit.
+pub fn id_with_digit(random: &Random) -> Vec<u8> {
+    id_ending_in(random, name_length(random), random.pick(DIGITS))
+}
+
+/// An ID that ends in no digit, often in a byte next to them.
+pub fn id_without_digit(random: &Random) -> Vec<u8> {
+    id_ending_in(random, name_length(random), random.pick(b"/:-.!~^`@AZafgz"))
 }
 
 pub fn serial(random: &Random) -> Vec<u8> {
@@ -78,14 +99,16 @@ pub fn no_serial_byte(random: &Random) -> u8 {
 /// Makes one name bad: a foreign byte, a wrong length, or a byte after the end.
 fn spoil_name(random: &Random, name: &mut Name, foreign: u8) {
     let length = name.length as usize;
-    match random.below(6) {
+    match random.below(7) {
         0 | 1 => name.bytes[random.below(length)] = foreign,
         2 => name.length = 0,
         3 => *name = Name::default(),
         4 if length < 32 => {
             let place = random.pick(&[length, 31, length + random.below(32 - length)]);
-            name.bytes[place] = random.pick(&[1, b'a', 0x80, 0xff]);
+            name.bytes[place] = random.pick(&[1, b'0', b'9', b'a', 0x80, 0xff]);
         }
+        // the last byte lies after the end
+        5 => name.length -= 1,
         _ => {
             let long = [33, 34, 64, 255, 256 + name.length, (1 << 32) + name.length, (1 << 63) + name.length, u64::MAX];
             name.length = random.pick(&long);
@@ -99,17 +122,23 @@ pub fn bad_width(random: &Random) -> u64 {
 
 /// Makes the settings bad by one of 1 to 4.
 pub fn spoil_settings(random: &Random, settings: &mut Settings) {
-    match random.below(4) {
-        0 => settings.csp = bad_csp(random),
-        1 => {
+    spoil_settings_by(random, settings, random.pick(&[1, 2, 3, 4]));
+}
+
+/// Makes the settings bad by this one of 1 to 4.
+pub fn spoil_settings_by(random: &Random, settings: &mut Settings, number: Number) {
+    match number {
+        1 => settings.csp = bad_csp(random),
+        2 => {
             let foreign = no_id_byte(random);
             spoil_name(random, &mut settings.id, foreign);
         }
-        2 => {
+        3 => {
             let foreign = no_serial_byte(random);
             spoil_name(random, &mut settings.serial, foreign);
         }
-        _ => settings.width = bad_width(random),
+        4 => settings.width = bad_width(random),
+        other => panic!("settings are not asked {other}"),
     }
 }
 

@@ -1,4 +1,4 @@
-//! The settings of a register, and questions 1 to 4 on them.
+//! The settings of a register, and questions 1 to 4 and 32 on them.
 
 /// The number of the first question that is answered by "no".
 pub type Number = u32;
@@ -11,6 +11,11 @@ pub fn csp_good(csp: &[u8]) -> bool {
 /// 1 to 32 bytes, each 33 to 126, never "_".
 pub fn id_good(id: &[u8]) -> bool {
     (1..=32).contains(&id.len()) && id.iter().all(|&byte| (33..=126).contains(&byte) && byte != b'_')
+}
+
+/// Is the last byte a digit? Then ID and number after it could be the hash input of another register, too.
+pub fn ends_in_digit(id: &[u8]) -> bool {
+    matches!(id, [.., b'0'..=b'9'])
 }
 
 /// 1 to 32 of 0-9 a-f.
@@ -58,11 +63,19 @@ pub struct Settings {
 impl Settings {
     /// Questions 1 to 4.
     pub fn good(&self) -> Result<(), Number> {
+        self.good_to_open(false)
+    }
+
+    /// Questions 1 to 4, and 32 after 2 where other registers share the key.
+    pub fn good_to_open(&self, shared: bool) -> Result<(), Number> {
         if !csp_good(&self.csp) {
             return Err(1);
         }
-        if !self.id.text().is_some_and(id_good) {
+        let Some(id) = self.id.text().filter(|id| id_good(id)) else {
             return Err(2);
+        };
+        if shared && ends_in_digit(id) {
+            return Err(32);
         }
         if !self.serial.text().is_some_and(serial_good) {
             return Err(3);

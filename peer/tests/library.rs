@@ -80,6 +80,16 @@ fn version() {
 }
 
 #[test]
+fn open() {
+    vectors::open(&Library);
+}
+
+#[test]
+fn one_key_for_two_registers() {
+    vectors::one_key_for_two_registers(&Library);
+}
+
+#[test]
 fn read_by_hand() {
     vectors::read_by_hand(&Library);
 }

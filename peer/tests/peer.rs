@@ -89,6 +89,16 @@ fn version() {
 }
 
 #[test]
+fn open() {
+    vectors::open(&Peer);
+}
+
+#[test]
+fn one_key_for_two_registers() {
+    vectors::one_key_for_two_registers(&Peer);
+}
+
+#[test]
 fn read_by_hand() {
     vectors::read_by_hand(&Peer);
 }

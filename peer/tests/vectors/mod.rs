@@ -6,7 +6,7 @@ use peer::crypto::Aes256;
 use peer::layout::{DETAILS, SETTINGS, SIGNATURE, STATE, details_bytes, settings_bytes, state_bytes, state_of};
 use peer::receipt::{Date, Details, LONGEST_COMPACT, LONGEST_INPUT, LONGEST_PAYLOAD, counter_iv};
 use peer::register::State;
-use peer::rows::{KINDS, issue_answer, takeover_line, text_answer};
+use peer::rows::{KINDS, issue_answer, open_answer, takeover_line, text_answer};
 use peer::settings::{Name, Settings};
 
 /// A file by its place as seen from the peer's folder.
@@ -383,6 +383,79 @@ pub fn version(side: &dyn Calls) {
     let header = header();
     let number = header.lines().find_map(|line| line.strip_prefix("#define DITGRUX_VERSION ")).expect("a version");
     assert_eq!(side.version().to_string(), number);
+}
+
+// ---- registers that share a key
+
+/// Both ways to open a register, with the bytes of its settings, good or bad.
+pub fn open(side: &dyn Calls) {
+    for row in rows("tests/data/open.tsv", 118) {
+        let (id, serial, key) = (unhex(&row[2]), row[3].as_bytes(), [9; 32]);
+        let (width, room): (usize, usize) = (row[4].parse().expect("a width"), row[5].parse().expect("a size"));
+        let settings = Settings {
+            csp: row[1].as_bytes().try_into().expect("a CSP"),
+            id: Name::of(&id),
+            serial: Name::of(serial),
+            width: width as u64,
+            key,
+        };
+        let shared = ["0", "1"].iter().position(|shared| *shared == row[6]).expect("0 or 1") == 1;
+        let expected = (row[7].parse().expect("a number"), unhex(&row[8]));
+        assert_eq!(open_answer(side, &settings, room, shared), expected, "{}", row[0]);
+        let mut bytes = [0; SETTINGS];
+        match (side.settings(&settings.csp, &id, serial, width, &key, &mut bytes), expected.0) {
+            (0, 0 | 5 | 32) => assert_eq!(bytes, settings_bytes(&settings), "{}", row[0]),
+            // 32 is asked before these two, and by Open alone
+            (3 | 4, 32) => (),
+            (number, opened) => assert_eq!(number, opened, "{}", row[0]),
+        }
+    }
+}
+
+/// A receipt over so many cents, of a register that has issued its start receipt: the counter field. The journal is taken
+/// over, whatever its ID ends in.
+fn counter_field(side: &dyn Calls, settings: &Settings, number: u32, cents: i64) -> String {
+    let (mut journal, mut held) = ([0; 900], [0; STATE]);
+    assert_eq!(side.open(&settings_bytes(settings), &mut journal, &mut held), 0);
+    let start = Details { number: 1, date: GOOD_DATE, amounts: [0; 5], kind: 0 };
+    assert_eq!(side.issue(&mut held, &start, &[1; 64], &mut journal), 0);
+    let sale = Details { number, amounts: [cents, 0, 0, 0, 0], ..start };
+    let fields = prepared_fields(side, &state_of(&held), &sale).expect("not refused");
+    assert_eq!(side.issue(&mut held, &sale, &[2; 64], &mut journal), 0);
+    let (journal, mut taken) = (&journal[..side.journal_length(&held)], [0; STATE]);
+    assert_eq!(side.take_over(journal, &settings.key, settings.width as usize, &mut taken).number, 0);
+    assert_eq!(taken, held);
+    fields[9].clone()
+}
+
+/// "A1" at 2 and "A" at 12 under one key: one hash input, one IV, and counter fields that differ as the counters do. For a
+/// shared key "A1" is not opened.
+pub fn one_key_for_two_registers(side: &dyn Calls) {
+    let table = rows("tests/data/counter-iv.tsv", 3);
+    let key = std::array::from_fn(|i| i as u8);
+    let register =
+        |id: &str| Settings { csp: *b"AT0", id: Name::of(id.as_bytes()), serial: Name::of(b"2a"), width: 5, key };
+    let mut seen = Vec::new();
+    for ((row, (id, number)), (cents, field)) in
+        table.iter().zip([("A1", 2), ("A", 12)]).zip([(1050, "SY2y0vM="), (-5, "tnJNKRI=")])
+    {
+        assert_eq!((row[1].as_str(), row[2].clone()), (id, number.to_string()));
+        assert_eq!(row[3], "91bec90d2f59a91f2e7c08d17b5334af");
+        assert_eq!(counter_field(side, &register(id), number, cents), field, "{id} {number}");
+        let mut hidden = [0; 8];
+        assert_eq!(side.unbase64(0, field.as_bytes(), &mut hidden), Written { number: 0, length: 5 });
+        seen.push((u64::from_be_bytes(hidden) >> 24, cents as u64 & 0xff_ffff_ffff));
+    }
+    assert_eq!(seen[0].0 ^ seen[1].0, seen[0].1 ^ seen[1].1);
+
+    let mut journal = [0xaa; 30];
+    let mut state = [0xaa; STATE];
+    assert_eq!(side.open_shared(&settings_bytes(&register("A1")), &mut journal, &mut state), 32);
+    assert_eq!((journal, state), ([0xaa; 30], [0; STATE]));
+    assert_eq!(side.open_shared(&settings_bytes(&register("A")), &mut journal, &mut state), 0);
+    let (mut alone, mut held) = ([0xaa; 30], [0xaa; STATE]);
+    assert_eq!(side.open(&settings_bytes(&register("A")), &mut alone, &mut held), 0);
+    assert_eq!((journal, state), (alone, held));
 }
 
 // ---- receipts read back
