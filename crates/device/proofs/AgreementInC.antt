@@ -11,12 +11,11 @@ use lib.ListN.{length, take, replicate}
 use Rattle.primitives.specs.Bytes.{AllBytes}
 use Rattle.primitives.specs.Counter.{widthGood}
 use Rattle.primitives.specs.Questions.{ask}
-use Rattle.primitives.proofs.Rows.{both, ask-yes, ifZero-yes}
+use Rattle.primitives.proofs.Rows.{ask-yes, ifZero-yes}
 use Rattle.receipt.specs.Settings.{settingsGood, TypedSettings}
 use Rattle.receipt.specs.Compact.{spellable, TypedEntry}
 use Rattle.receipt.specs.declared.settings.Settings.{Settings}
 use Rattle.receipt.specs.declared.settings.Letters.the-variants.{Id, Serial}
-use Rattle.receipt.specs.declared.details.Kind.{Kind}
 use Rattle.receipt.specs.declared.entry.Entry.{Entry}
 use Rattle.receipt.proofs.Names.{name-of, key-own, settings-yes}
 use Rattle.receipt.proofs.Entries.{settings-all, admitted}

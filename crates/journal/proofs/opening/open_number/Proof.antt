@@ -2,10 +2,6 @@
 use borrow.Author.Needs.{needs}
 use Rattle.journal.proofs.opening.open_number.Statement.{statement}
 use Rattle.journal.proofs.opening.open_number.Tie as tie
-use Rattle.journal.proofs.opening.open_number.Reads as reads
-use Rattle.journal.proofs.opening.open_number.Lts as lts
-use Rattle.journal.proofs.head.head_length.Reads as head-length-reads
-use Rattle.receipt.proofs.settings_number_for.Reads as settings-number-for-reads
 use Rattle.journal.proofs.OpenCalls.{number-stops, number-good, number-short, number-zero}
 
 settings-number-for-requires : tie.Need-settings-number-for-requires
