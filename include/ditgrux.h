@@ -246,7 +246,8 @@ size_t ditgrux_journal_length(const uint8_t *state, size_t state_length);
 
 /* ---- a register */
 
-/* Opens a register: writes the head of a journal without receipts to the start of the buffer, and the state that goes with it.
+/* Opens a register: writes the head of a journal without receipts to the start of the buffer, and the state that goes with it. If
+ * other registers have the same key, call ditgrux_open_shared instead.
  *
  *     settings, settings_length   from ditgrux_settings, 123 bytes
  *     journal, journal_size       the buffer of the journal, and its whole size
@@ -258,13 +259,16 @@ size_t ditgrux_journal_length(const uint8_t *state, size_t state_length);
 uint32_t ditgrux_open(const uint8_t *settings, size_t settings_length, uint8_t *journal, size_t journal_size, uint8_t *state,
                       size_t state_length);
 
-/* Opens a register whose key other registers have, too. It is ditgrux_open with one check more: the register ID must not end in a
- * digit. Open every register that shares a key by this function.
+/* Opens a register that shares its key with other registers. It is ditgrux_open with one check more: the register ID must not end in
+ * a digit. Open every register that shares a key by this function.
  *
  * Why: the initialization vector (IV) that encrypts the turnover counter is a hash of the register ID and the receipt number, written
  * one after the other. Register "A1" at number 2 and register "A" at number 12 both hash "A12", and one IV must not come twice under
- * a key. If no ID ends in a digit, no two registers with different IDs ever hash the same text. "A1" could be called "1A" or "A1-".
- * Two registers must not have the same ID; the function cannot see that.
+ * a key. If no ID ends in a digit, registers with different IDs never hash the same text. "A1" could be called "1A" or "A1-".
+ *
+ * The function sees one register. You must see to it that all registers under the key are opened by it (a register "A1" that was
+ * opened by ditgrux_open hashes what "A" hashes), that no two of them have the same ID, and that none is opened a second time under
+ * its ID and the key. ditgrux_settings does not ask what the ID ends in.
  *
  * The state and the journal do not show which function opened the register: they are the same bytes. All other functions work alike
  * for both, and ditgrux_take_over accepts a journal whatever its ID ends in.

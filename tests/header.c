@@ -406,10 +406,12 @@ static void shared(void)
         CHECK(refused_with(bytes, WIDTH, 4, 0) == DITGRUX_BAD_WIDTH);
         CHECK(refused_with(bytes, CSP, 'A', 28) == DITGRUX_HEAD_TOO_LONG);
     }
+    memset(twin, 0xA5, sizeof twin);
     memset(other, 0xA5, sizeof other);
     CHECK(ditgrux_open_shared(settings, sizeof settings, twin, sizeof twin, other, sizeof other - 1) == DITGRUX_BAD_STATE);
-    CHECK(is_all(0xA5, other, sizeof other));
+    CHECK(is_all(0xA5, other, sizeof other) && is_all(0xA5, twin, sizeof twin));
     CHECK(ditgrux_open_shared(settings, sizeof settings - 1, twin, sizeof twin, other, sizeof other) == DITGRUX_BAD_CSP);
+    CHECK(is_all(0, other, sizeof other) && is_all(0xA5, twin, sizeof twin));
 }
 
 int main(void)

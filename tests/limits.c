@@ -295,7 +295,7 @@ static int refusals(void)
     bad += measure("open", open_register, DITGRUX_HEAD_TOO_LONG) + measure("shared", open_shared, DITGRUX_HEAD_TOO_LONG);
     settings[ID_END] = '9';
     bad += measure("shared", open_shared, DITGRUX_ID_ENDS_IN_DIGIT);
-    settings[ID_END] = 'f';
+    settings[ID_END] = name[31];
     return bad + measure("issue", issue, DITGRUX_BAD_STATE);
 }
 

@@ -17,7 +17,7 @@ use Rattle.receipt.specs.Compact.{spellable, TypedEntry}
 use Rattle.receipt.specs.declared.settings.Settings.{Settings}
 use Rattle.receipt.specs.declared.settings.Letters.the-variants.{Id, Serial}
 use Rattle.receipt.specs.declared.entry.Entry.{Entry}
-use Rattle.receipt.proofs.Names.{name-of, key-own, settings-yes}
+use Rattle.receipt.proofs.Names.{name-of, id-own, settings-yes}
 use Rattle.receipt.proofs.Entries.{settings-all, admitted}
 use Rattle.journal.specs.State.{TypedRegister, TypedState}
 use Rattle.journal.specs.Opening.{openNumber, opened}
@@ -153,7 +153,7 @@ settings-same s t good =
 
 answer-zero : (s : Settings) (n : ℕ) → settingsGood s ≡ true → widthGood n ≡ true → settingsAnswer s n 123 ≡ 0
 unfolding settingsAnswer
-answer-zero s n good width = settings-yes s false n (ask (eqb 123 123) 23 0) good (key-own (s .id)) width ∙ ask-yes 23 0 refl
+answer-zero s n good width = settings-yes s false n (ask (eqb 123 123) 23 0) good (id-own (s .id)) width ∙ ask-yes 23 0 refl
 
 module _ {j key : List ℕ} {n : ℕ} (v : Valid j key n) where
   all-calls : (before es : List Entry) → v .entries ≡ before ++ es → TypedIssueCalls (map issueCallOf es) × (map callIn (map issueCallOf es) ≡ callsOf es)

@@ -3,11 +3,11 @@ pub mod Below
 pub mod CallAnswers
 pub mod CallsFromC
 pub mod DetailLaws
+pub mod Opens
 pub mod Pieces
 pub mod ReadBackCalls
 pub mod ReadBackLaws
 pub mod Reading
-pub mod SharedOpens
 pub mod Sizes
 pub mod Spelling
 pub mod TextAnswers

@@ -16,7 +16,7 @@ use Rattle.receipt.specs.Settings.{settingsGood, settingsNumber}
 use Rattle.receipt.specs.Compact.{readEntry}
 use Rattle.receipt.specs.declared.settings.Settings.{Settings}
 use Rattle.receipt.specs.declared.entry.Found.{Found}
-use Rattle.receipt.proofs.Names.{key-own, settings-yes, settings-zero, settings-pass, settings-stop}
+use Rattle.receipt.proofs.Names.{id-own, settings-yes, settings-zero, settings-pass, settings-stop}
 use Rattle.journal.specs.Calls.{callOf}
 use Rattle.device.specs.Layout.{settingsOf, widthOf}
 use Rattle.device.specs.Details.{detailsBytes}
@@ -83,7 +83,7 @@ module _ (s : Settings) (n : ℕ) (ok : Bool) (details signature : ℕ) where
   pub zero-number : Asked s n ok details signature → readNumber s n ok details signature ≡ 0
   unfolding readNumber
   zero-number a =
-      settings-yes s false n (ask ok 16 (ask (eqb details 72) 23 (ask (eqb signature 64) 23 0))) (a .settings) (key-own (s .id)) (a .width)
+      settings-yes s false n (ask ok 16 (ask (eqb details 72) 23 (ask (eqb signature 64) 23 0))) (a .settings) (id-own (s .id)) (a .width)
       ∙ ask-yes 16 (ask (eqb details 72) 23 (ask (eqb signature 64) 23 0)) (a .found)
       ∙ ask-yes 23 (ask (eqb signature 64) 23 0) (eq-eqb details 72 (a .detailsLength))
       ∙ ask-yes 23 0 (eq-eqb signature 64 (a .signatureLength))

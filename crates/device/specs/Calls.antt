@@ -47,18 +47,18 @@ slicesWith state journal = record { state = state; journal = journal }
 
 -- ---- open
 
--- ditgrux_open does not mark the key as shared, ditgrux_open_shared does
+-- `shared` is false for ditgrux_open and true for ditgrux_open_shared
 
 -- the answer for a state's slice of this length: 6, and then the questions of Open
 unfoldable pub openAnswer : List ℕ → Bool → ℕ → ℕ → Opened
 openAnswer settings shared room size =
     cond (eqb size 155) (opened (settingsOf settings) (keyOf settings) shared (widthOf settings) room) (record { number = 6; state = unopened })
 
--- what they return
+-- what the two functions return
 unfoldable pub openedNumber : List ℕ → Bool → Slices → ℕ
 openedNumber settings shared g = openAnswer settings shared (length (g .journal)) (length (g .state)) .number
 
--- what they leave; nothing is written if the state's slice is not 155 bytes long
+-- what the two functions leave; nothing is written if the state's slice is not 155 bytes long
 unfoldable pub openedSlices : List ℕ → Bool → Slices → Slices
 openedSlices settings shared g =
     record {

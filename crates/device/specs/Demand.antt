@@ -77,7 +77,7 @@ AcceptedIsValidInC =
 abbrev pub registerIn : List ℕ → Bool → List ℕ → Register
 registerIn settings shared buffer = opening (settingsOf settings) (keyOf settings) shared (widthOf settings) buffer
 
--- what holds of the slices that the calls left, and of the receipts rs of those that returned 0, since one of them got these settings
+-- what holds of the slices that the calls left, and of the receipts rs of those that returned 0, since ditgrux_open or ditgrux_open_shared got these settings
 pub record WrittenInC (settings : List ℕ) (left : Slices) (rs : List Receipt) : Type 0 where
   -- ditgrux_take_over accepts the journal under the key and the width of the settings, with the register's own state
   pub taken : takeOverAnswer (journalIn left) (keyOf settings) (widthOf settings) 155 ≡ record { number = 0; index = 0; state = stateOf (left .state) }

@@ -12,11 +12,12 @@ use Rattle.receipt.specs.declared.settings.Settings.{Settings}
 use Rattle.receipt.specs.declared.details.Details.{Details}
 use Rattle.journal.specs.State.{unopened, TypedRegister, TypedState}
 use Rattle.journal.specs.Opening.{openNumber}
+use Rattle.journal.specs.SharedKey.{SharedDigit}
 use Rattle.journal.specs.Preparing.{prepareNumber}
 use Rattle.journal.specs.Step.{detailsNumber}
 use Rattle.journal.specs.Issuing.{issueNumber}
 use Rattle.journal.specs.declared.state.State.{State}
-use Rattle.device.specs.Layout.{settingsBytes, stateBytes, settingsOf, widthOf, keyOf, stateOf}
+use Rattle.device.specs.Layout.{settingsBytes, stateBytes, settingsOf, widthOf, keyOf, stateOf, kept}
 use Rattle.device.specs.Details.{noDetails, detailsBytes, detailsIn}
 use Rattle.device.specs.Calls.{settingsFrom, widthWith, settingsAnswer, settingsBuffer, Slices, openedNumber, openedSlices, IssueCall, issuedNumber, issuedSlices}
 
@@ -59,20 +60,33 @@ UnopenedGetsSix = (d : Details) (sig : List ℕ) (room : ℕ) → (issueNumber u
 abbrev pub UnknownKindGetsSeven : Type 0
 UnknownKindGetsSeven = (st : State) (rest : ℕ) → detailsNumber st noDetails rest ≡ 7
 
--- ---- a shared key
+-- ---- ditgrux_open, and ditgrux_open_shared for a shared key
 
--- of two registers that ditgrux_open_shared opened, no receipts have the same hash input for the IV unless ID and number are the same
+-- two receipts of registers that ditgrux_open_shared opened have the same hash input only if ID and number are the same
 abbrev pub SharedKeyNeverRepeatsInC : Type 0
 SharedKeyNeverRepeatsInC =
     (settings others : List ℕ) (g h : Slices) → AllBytes settings → AllBytes others → openedNumber settings true g ≡ 0 → openedNumber others true h ≡ 0
     → (a b : ℕ) → a < 4294967296 → b < 4294967296 → hashInput (settingsOf settings .id) a ≡ hashInput (settingsOf others .id) b
     → (settingsOf settings .id ≡ settingsOf others .id) × (a ≡ b)
 
+-- 32 is returned exactly for a good ID that ends in a digit, by ditgrux_open_shared, with a state's slice of 155 bytes
+abbrev pub SharedDigitGets32InC : Type 0
+SharedDigitGets32InC =
+    (settings : List ℕ) (shared : Bool) (g : Slices)
+    → (openedNumber settings shared g ≡ 32 → (length (g .state) ≡ 155) × SharedDigit (settingsOf settings) shared)
+    × (length (g .state) ≡ 155 → SharedDigit (settingsOf settings) shared → openedNumber settings shared g ≡ 32)
+
 -- unless it returns 32, ditgrux_open_shared returns what ditgrux_open returns and leaves the same bytes
-abbrev pub SharedLeavesTheSame : Type 0
-SharedLeavesTheSame =
+abbrev pub SharedIsNotStoredInC : Type 0
+SharedIsNotStoredInC =
     (settings : List ℕ) (g : Slices) → (openedNumber settings true g ≡ 32 → ⊥)
     → (openedNumber settings true g ≡ openedNumber settings false g) × (openedSlices settings true g ≡ openedSlices settings false g)
+
+-- refused, either leaves the journal as it was and the unopened state; if the state's slice is not 155 bytes long, it is as it was
+abbrev pub RefusedOpenKeepsJournal : Type 0
+RefusedOpenKeepsJournal =
+    (settings : List ℕ) (shared : Bool) (g : Slices) → (openedNumber settings shared g ≡ 0 → ⊥)
+    → (openedSlices settings shared g .journal ≡ g .journal) × (openedSlices settings shared g .state ≡ kept (g .state) unopened)
 
 -- ---- a refused ditgrux_issue leaves the bytes of the state and the journal as they were, also where the state is not 155 bytes long
 

@@ -177,7 +177,7 @@ pub extern "C" fn ditgrux_open(settings: &[u8], journal: &mut [u8], state: &mut 
     open_with(settings, false, journal, state)
 }
 
-// Opens a register whose key other registers have, too. Questions 6, 1, 2, 32, 3, 4 and 5.
+// Opens a register that shares its key with other registers. Questions 6, 1, 2, 32, 3, 4 and 5.
 #[no_mangle]
 pub extern "C" fn ditgrux_open_shared(settings: &[u8], journal: &mut [u8], state: &mut [u8]) -> u32
     ensures { λ r.

@@ -41,7 +41,7 @@ use Rattle.journal.proofs.Accepting.{valid-right, valid-taken}
 use Rattle.journal.proofs.CallLists.{Bounds, Sound, Detailed, issue-yes}
 use Rattle.journal.proofs.Registers.{run-bounds, counter-sum, entryIn, Holds, holds-after, call-state, accepted-call, accepted-length, opening-holds, opening-length}
 use Rattle.journal.specs.State.{settingsNow}
-use Rattle.receipt.proofs.Names.{settings-yes, key-own}
+use Rattle.receipt.proofs.Names.{settings-yes, id-own}
 use Rattle.primitives.proofs.Rows.{ask-yes}
 
 -- ---- the signature of an entry, as a slice
@@ -220,7 +220,7 @@ module _ (s : Settings) (n : ℕ) (key : List ℕ) (ts : TypedSettings s) (good 
 
 open-yes : (s : Settings) (n room : ℕ) → settingsGood s ≡ true → widthGood n ≡ true → headLength s ≤ room → openNumber s false n room ≡ 0
 unfolding openNumber
-open-yes s n room g w h = settings-yes s false n _ g (key-own (s .id)) w ∙ ask-yes 5 0 (le-leb (headLength s) room h)
+open-yes s n room g w h = settings-yes s false n _ g (id-own (s .id)) w ∙ ask-yes 5 0 (le-leb (headLength s) room h)
 
 accepted-state : (st : State) → accepted st .state ≡ st
 unfolding accepted

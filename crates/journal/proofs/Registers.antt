@@ -16,7 +16,7 @@ use Rattle.primitives.specs.Counter.{widthGood, counterFits, half}
 use Rattle.primitives.proofs.Over.{length-over, read-over}
 use Rattle.primitives.proofs.Twos.{width-true, half-twice, below-fits, fits-wide}
 use Rattle.receipt.specs.Amount.{amountLimit}
-use Rattle.receipt.specs.Settings.{nameText, settingsGood, TypedSettings, keyAllowed}
+use Rattle.receipt.specs.Settings.{nameText, settingsGood, TypedSettings, idAllowed}
 use Rattle.receipt.specs.Compact.{compact}
 use Rattle.receipt.specs.declared.settings.Settings.{Settings}
 use Rattle.receipt.specs.declared.entry.Entry.{Entry}
@@ -177,7 +177,7 @@ receipts-same (c ∷ cs) g = go (numberOf g c) (receipts-same cs (call g c))
 
 -- what an Open that was not refused says
 pub open-zero : (s : Settings) (shared : Bool) (n room : ℕ) → openNumber s shared n room ≡ 0
-    → (settingsGood s ≡ true) × (widthGood n ≡ true) × (headLength s ≤ room) × (keyAllowed shared (s .id) ≡ true)
+    → (settingsGood s ≡ true) × (widthGood n ≡ true) × (headLength s ≤ room) × (idAllowed shared (s .id) ≡ true)
 unfolding openNumber
 open-zero s shared n room z =
     let p = settings-zero s shared n _ z in

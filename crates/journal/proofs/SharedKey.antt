@@ -1,7 +1,7 @@
 -- What the mark of an Open for a shared key asks and promises.
 use Prim.Native.Nat.{ℕ}
-use mathlib.Core.Path.{_≡_, refl, sym, ap, _∙_}
-use mathlib.Core.Bool.{Bool, true, false, not, _&&_}
+use mathlib.Core.Path.{_≡_, refl, sym, ap, _∙_, subst}
+use mathlib.Core.Bool.{Bool, true, false, not}
 use native.Mathlib.Omega.{arith}
 use borrow.Author.Tests.{not-true, not-false}
 use lib.Dec.{leb}
@@ -9,39 +9,38 @@ use lib.ListN.{length}
 use Rattle.primitives.specs.Place.{overwrite}
 use Rattle.primitives.specs.Questions.{ask, ifZero}
 use Rattle.primitives.specs.Counter.{widthGood}
-use Rattle.primitives.proofs.Rows.{true-is-not-false, both, ask-yes, ask-no}
-use Rattle.receipt.specs.Settings.{cspGood, idGood, serialGood, settingsGood, endsInDigit, keyAllowed, settingsNumberFor}
+use Rattle.primitives.proofs.Rows.{true-is-not-false, ask-yes, ask-no}
+use Rattle.receipt.specs.Settings.{cspGood, idGood, serialGood, endsInDigit, idAllowed, settingsNumberFor}
 use Rattle.receipt.specs.declared.settings.Name.{Name}
 use Rattle.receipt.specs.declared.settings.Settings.{Settings}
+use Rattle.receipt.proofs.Entries.{settings-all}
 use Rattle.receipt.proofs.HashInputs.{one-id-one-hash-input}
-use Rattle.receipt.proofs.Names.{key-own, key-shared}
+use Rattle.receipt.proofs.Names.{id-own, id-shared, unshared-asks-one-to-four}
 use Rattle.journal.specs.Head.{head, headLength}
 use Rattle.journal.specs.State.{unopened}
 use Rattle.journal.specs.Step.{fresh}
 use Rattle.journal.specs.Opening.{openNumber, opened, openBuffer}
-use Rattle.journal.specs.SharedKey.{SharedKeyNeverRepeats, SharedInputsDiffer, MarkedDigit, MarkedDigitGets32, MarkIsNotStored, UnmarkedAsBefore}
-use Rattle.journal.proofs.Registers.{open-zero}
+use Rattle.journal.specs.Checking.{accepted, takeOver}
+use Rattle.journal.specs.Calls.{Register, journalOf, calls}
+use Rattle.journal.specs.SharedKey.{SharedKeyNeverRepeats, JournalsNeverRepeat, SharedDigit, SharedDigitGets32, SharedIsNotStored, openNumberBefore, registerBefore, UnsharedAsBefore, EarlierJournalsStayAccepted}
+use Rattle.journal.proofs.Registers.{open-zero, opening-is}
+use Rattle.journal.proofs.WrittenIsAccepted.{written-is-accepted}
 
 -- ---- the IDs that a marked Open takes
 
-good-id : (s : Settings) → settingsGood s ≡ true → idGood (s .id) ≡ true
-unfolding settingsGood
-good-id s e = both (idGood (s .id)) (serialGood (s .serial)) (both (cspGood (s .csp)) (idGood (s .id) && serialGood (s .serial)) e .1) .0
-
 no-digit : (s : Settings) (n room : ℕ) → openNumber s true n room ≡ 0 → endsInDigit (s .id) ≡ false
-no-digit s n room z = not-true (endsInDigit (s .id)) (sym (key-shared (s .id)) ∙ open-zero s true n room z .3)
+no-digit s n room z = not-true (endsInDigit (s .id)) (sym (id-shared (s .id)) ∙ open-zero s true n room z .3)
 
 pub shared-key-never-repeats : SharedKeyNeverRepeats
 shared-key-never-repeats s t n m room space ts us z y a b h k e =
-    one-id-one-hash-input (s .id) (t .id) (ts .lengths .id) (us .lengths .id) (good-id s (open-zero s true n room z .0)) (good-id t (open-zero t true m space y .0))
-    (no-digit s n room z) (no-digit t m space y) a b h k e
+    one-id-one-hash-input (s .id) (t .id) (ts .lengths .id) (us .lengths .id) (settings-all s (open-zero s true n room z .0) .id)
+    (settings-all t (open-zero t true m space y .0) .id) (no-digit s n room z) (no-digit t m space y) a b h k e
 
-pub shared-inputs-differ : SharedInputsDiffer
-shared-inputs-differ j k key n m v w d h differ before later e p first rest f q i =
-    differ
-    (one-id-one-hash-input (v .settings .id) (w .settings .id) (v .typed .lengths .id) (w .typed .lengths .id) (good-id (v .settings) (v .good))
-    (good-id (w .settings) (w .good)) d h (e .fields .details .number) (f .fields .details .number) (v .each before e later p .typed .fields .number)
-    (w .each first f rest q .typed .fields .number) i .0)
+pub journals-never-repeat : JournalsNeverRepeat
+journals-never-repeat j k key other n m v w d h before later e p first rest f q i =
+    one-id-one-hash-input (v .settings .id) (w .settings .id) (v .typed .lengths .id) (w .typed .lengths .id) (settings-all (v .settings) (v .good) .id)
+    (settings-all (w .settings) (w .good) .id) d h (e .fields .details .number) (f .fields .details .number) (v .each before e later p .typed .fields .number)
+    (w .each first f rest q .typed .fields .number) i
 
 -- ---- 32 in the row of questions
 
@@ -66,25 +65,25 @@ not-32 true false key rest h = refl
 not-32 true true false rest h = absurd (h refl)
 not-32 true true true rest h = refl
 
-refused-key : (shared : Bool) (id : Name) → keyAllowed shared id ≡ false → (shared ≡ true) × (endsInDigit id ≡ true)
-refused-key true id e = (refl, not-false (endsInDigit id) (sym (key-shared id) ∙ e))
-refused-key false id e = true-is-not-false (sym e ∙ key-own id)
+refused-key : (shared : Bool) (id : Name) → idAllowed shared id ≡ false → (shared ≡ true) × (endsInDigit id ≡ true)
+refused-key true id e = (refl, not-false (endsInDigit id) (sym (id-shared id) ∙ e))
+refused-key false id e = true-is-not-false (sym e ∙ id-own id)
 
-digit-refused : (shared : Bool) (id : Name) → shared ≡ true → endsInDigit id ≡ true → keyAllowed shared id ≡ false
-digit-refused shared id m d = ap (λ (b : Bool). keyAllowed b id) m ∙ key-shared id ∙ ap not d
+digit-refused : (shared : Bool) (id : Name) → shared ≡ true → endsInDigit id ≡ true → idAllowed shared id ≡ false
+digit-refused shared id m d = ap (λ (b : Bool). idAllowed b id) m ∙ id-shared id ∙ ap not d
 
-pub marked-digit-gets-32 : MarkedDigitGets32
+pub shared-digit-gets-32 : SharedDigitGets32
 unfolding openNumber settingsNumberFor
-marked-digit-gets-32 s shared n room = (only, always)
+shared-digit-gets-32 s shared n room = (only, always)
   where
-    only : openNumber s shared n room ≡ 32 → MarkedDigit s shared
+    only : openNumber s shared n room ≡ 32 → SharedDigit s shared
     only e =
-        let p = at-32 (cspGood (s .csp)) (idGood (s .id)) (keyAllowed shared (s .id)) (serialGood (s .serial)) (widthGood n) (leb (headLength s) room) e in
+        let p = at-32 (cspGood (s .csp)) (idGood (s .id)) (idAllowed shared (s .id)) (serialGood (s .serial)) (widthGood n) (leb (headLength s) room) e in
         let k = refused-key shared (s .id) (p .2) in
-        record { csp = p .0; id = p .1; marked = k .0; ends = k .1 }
+        record { csp = p .0; id = p .1; sharing = k .0; ends = k .1 }
 
-    always : MarkedDigit s shared → openNumber s shared n room ≡ 32
-    always m = ask-yes 1 _ (m .csp) ∙ ask-yes 2 _ (m .id) ∙ ask-no 32 _ (digit-refused shared (s .id) (m .marked) (m .ends))
+    always : SharedDigit s shared → openNumber s shared n room ≡ 32
+    always m = ask-yes 1 _ (m .csp) ∙ ask-yes 2 _ (m .id) ∙ ask-no 32 _ (digit-refused shared (s .id) (m .sharing) (m .ends))
 
 -- ---- the rest is the unmarked Open
 
@@ -92,15 +91,33 @@ same-number : (s : Settings) (shared : Bool) (n room : ℕ) → (openNumber s sh
 unfolding openNumber settingsNumberFor
 same-number s shared n room h =
     let rest = ask (serialGood (s .serial)) 3 (ask (widthGood n) 4 (ask (leb (headLength s) room) 5 0)) in
-    not-32 (cspGood (s .csp)) (idGood (s .id)) (keyAllowed shared (s .id)) rest h
-    ∙ ap (λ (b : Bool). ask (cspGood (s .csp)) 1 (ask (idGood (s .id)) 2 (ask b 32 rest))) (sym (key-own (s .id)))
+    not-32 (cspGood (s .csp)) (idGood (s .id)) (idAllowed shared (s .id)) rest h
+    ∙ ap (λ (b : Bool). ask (cspGood (s .csp)) 1 (ask (idGood (s .id)) 2 (ask b 32 rest))) (sym (id-own (s .id)))
 
-pub mark-is-not-stored : MarkIsNotStored
+pub shared-is-not-stored : SharedIsNotStored
 unfolding opened openBuffer
-mark-is-not-stored s key shared n buf h =
+shared-is-not-stored s key shared n buf h =
     let e = same-number s shared n (length buf) h in
     ((λ i. record { number = e i; state = ifZero (e i) (fresh s n key) unopened }), ap (λ (k : ℕ). ifZero k (overwrite buf 0 (head s 0)) buf) e)
 
-pub unmarked-as-before : UnmarkedAsBefore
-unfolding openNumber settingsNumberFor keyAllowed ask
-unmarked-as-before s n room = refl
+-- ---- Open from before
+
+before-is : (s : Settings) (n room : ℕ) → openNumber s false n room ≡ openNumberBefore s n room
+unfolding openNumber openNumberBefore
+before-is s n room = unshared-asks-one-to-four s n (ask (leb (headLength s) room) 5 0)
+
+pub unshared-as-before : UnsharedAsBefore
+unfolding opened openBuffer
+unshared-as-before =
+    record {
+      answer = λ s key n room. λ i. record { number = before-is s n room i; state = ifZero (before-is s n room i) (fresh s n key) unopened };
+      buffer = λ s n buf. ap (λ (k : ℕ). ifZero k (overwrite buf 0 (head s 0)) buf) (before-is s n (length buf));
+    }
+
+pub earlier-journals-stay-accepted : EarlierJournalsStayAccepted
+unfolding registerBefore
+earlier-journals-stay-accepted s key n buf ts kb z cs tcs =
+    let y : openNumber s false n (length buf) ≡ 0 = before-is s n (length buf) ∙ z in
+    let o = open-zero s false n (length buf) y in
+    subst (λ (g : Register). takeOver (journalOf (calls g cs)) key n ≡ accepted (calls g cs .state)) (opening-is s n key ts (o .0) (o .1) kb buf false y)
+    (written-is-accepted s key false n buf ts kb y cs tcs .taken)

@@ -11,8 +11,8 @@ use lib.Seq.{getD-append-seam, getD-append-add, getD-take, take-append-seam, dro
 use Rattle.primitives.proofs.Each.{Each, each-at}
 use Rattle.primitives.proofs.Rows.{true-is-not-false}
 use Rattle.receipt.specs.Decimal.{digits}
-use Rattle.receipt.specs.Settings.{between, digit, nameText, idGood, endsInDigit}
-use Rattle.receipt.specs.Chain.{hashInput, EndsInLastByte, OneIdOneHashInput}
+use Rattle.receipt.specs.Settings.{between, digit, nameText, idGood, endsInDigit, EndsInLastByte}
+use Rattle.receipt.specs.Chain.{hashInput, OneIdOneHashInput}
 use Rattle.receipt.specs.declared.settings.Name.{Name}
 use Rattle.receipt.specs.declared.settings.Letters.the-variants.{Id}
 use Rattle.receipt.proofs.Digits.{digits-same}

@@ -21,7 +21,7 @@ use Rattle.receipt.specs.declared.settings.Name.{Name}
 use Rattle.receipt.specs.declared.settings.Settings.{Settings}
 use Rattle.receipt.specs.declared.settings.Letters.{Letters}
 use Rattle.receipt.specs.declared.settings.Letters.the-variants.{Id, Serial, Zero}
-use Rattle.receipt.specs.Settings.{between, idLetter, serialLetter, letterGood, every, nameText, nameGood, nameOf, cspGood, idGood, serialGood, settingsGood, endsInDigit, keyAllowed, settingsNumberFor, sized}
+use Rattle.receipt.specs.Settings.{between, idLetter, serialLetter, letterGood, every, nameText, nameGood, nameOf, cspGood, idGood, serialGood, settingsGood, endsInDigit, idAllowed, settingsNumberFor, sized, UnsharedAsksOneToFour}
 use Rattle.primitives.proofs.Questions.{yes, no}
 use Rattle.primitives.proofs.Rows.{both, ask-zero, ask-yes, ask-no}
 
@@ -254,30 +254,30 @@ good-sized s e =
 csp-byte : (low high b : ℕ) → high < 256 → between low high b ≡ true → b < 256
 csp-byte low high b h e = omega (arith, between-true low high b e .1)
 
--- ---- a key of one's own, and a shared one
+-- ---- the IDs of a key that is not shared, and of a shared one
 
--- a key of one's own goes with every ID
-pub key-own : (id : Name) → keyAllowed false id ≡ true
-unfolding keyAllowed
-key-own id = refl
+-- every one
+pub id-own : (id : Name) → idAllowed false id ≡ true
+unfolding idAllowed
+id-own id = refl
 
--- a shared one with an ID that does not end in a digit
-pub key-shared : (id : Name) → keyAllowed true id ≡ not (endsInDigit id)
-unfolding keyAllowed
-key-shared id = refl
+-- those that do not end in a digit
+pub id-shared : (id : Name) → idAllowed true id ≡ not (endsInDigit id)
+unfolding idAllowed
+id-shared id = refl
 
-pub key-not-shared : (shared : Bool) (id : Name) → not shared ≡ true → true ≡ keyAllowed shared id
-key-not-shared shared id e = sym (ap (λ (b : Bool). keyAllowed b id) (not-true shared e) ∙ key-own id)
+pub id-not-shared : (shared : Bool) (id : Name) → not shared ≡ true → true ≡ idAllowed shared id
+id-not-shared shared id e = sym (ap (λ (b : Bool). idAllowed b id) (not-true shared e) ∙ id-own id)
 
-pub key-by-last : (shared : Bool) (id : Name) {r : Bool} → not shared ≡ false → r ≡ between 48 57 (getD (id .bytes) (id .len - 1) 0)
-    → not r ≡ keyAllowed shared id
+pub id-by-last : (shared : Bool) (id : Name) {r : Bool} → not shared ≡ false → r ≡ between 48 57 (getD (id .bytes) (id .len - 1) 0)
+    → not r ≡ idAllowed shared id
 unfolding endsInDigit
-key-by-last shared id e q = ap not q ∙ sym (ap (λ (b : Bool). keyAllowed b id) (not-false shared e) ∙ key-shared id)
+id-by-last shared id e q = ap not q ∙ sym (ap (λ (b : Bool). idAllowed b id) (not-false shared e) ∙ id-shared id)
 
 -- ---- questions 1, 2, 32, 3 and 4 in a row
 
 -- the questions after these decide where all answers are yes
-pub settings-yes : (s : Settings) (shared : Bool) (n rest : ℕ) → settingsGood s ≡ true → keyAllowed shared (s .id) ≡ true → widthGood n ≡ true
+pub settings-yes : (s : Settings) (shared : Bool) (n rest : ℕ) → settingsGood s ≡ true → idAllowed shared (s .id) ≡ true → widthGood n ≡ true
     → settingsNumberFor s shared n rest ≡ rest
 unfolding settingsGood settingsNumberFor
 settings-yes s shared n rest g k w =
@@ -286,12 +286,12 @@ settings-yes s shared n rest g k w =
     ask-yes 1 _ (a .0) ∙ ask-yes 2 _ (b .0) ∙ ask-yes 32 _ k ∙ ask-yes 3 _ (b .1) ∙ ask-yes 4 rest w
 
 pub settings-zero : (s : Settings) (shared : Bool) (n rest : ℕ) → settingsNumberFor s shared n rest ≡ 0
-    → (settingsGood s ≡ true) × (widthGood n ≡ true) × (rest ≡ 0) × (keyAllowed shared (s .id) ≡ true)
+    → (settingsGood s ≡ true) × (widthGood n ≡ true) × (rest ≡ 0) × (idAllowed shared (s .id) ≡ true)
 unfolding settingsGood settingsNumberFor
 settings-zero s shared n rest e =
     let a = ask-zero (cspGood (s .csp)) 0 _ e in
     let b = ask-zero (idGood (s .id)) 1 _ (a .1) in
-    let k = ask-zero (keyAllowed shared (s .id)) 31 _ (b .1) in
+    let k = ask-zero (idAllowed shared (s .id)) 31 _ (b .1) in
     let d = ask-zero (serialGood (s .serial)) 2 _ (k .1) in
     let w = ask-zero (widthGood n) 3 rest (d .1) in
     (rw (a .0, b .0, d .0), w .0, w .1, k .0)
@@ -311,7 +311,12 @@ unfolding settingsNumberFor
 settings-stop s shared n rest h =
     rest-of (cspGood (s .csp)) 1 _ _
     (λ a. rest-of (idGood (s .id)) 2 _ _
-    (λ b. rest-of (keyAllowed shared (s .id)) 32 _ _
+    (λ b. rest-of (idAllowed shared (s .id)) 32 _ _
     (λ k. rest-of (serialGood (s .serial)) 3 _ _
     (λ d. rest-of (widthGood n) 4 rest 0
     (λ w. absurd (h (ask-yes 1 _ a ∙ ask-yes 2 _ b ∙ ask-yes 32 _ k ∙ ask-yes 3 _ d ∙ ask-yes 4 0 w)))))))
+
+pub unshared-asks-one-to-four : UnsharedAsksOneToFour
+unfolding settingsNumberFor
+unshared-asks-one-to-four s n rest =
+    ap (λ (k : ℕ). ask (cspGood (s .csp)) 1 (ask (idGood (s .id)) 2 k)) (ask-yes 32 (ask (serialGood (s .serial)) 3 (ask (widthGood n) 4 rest)) (id-own (s .id)))

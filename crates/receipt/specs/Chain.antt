@@ -1,7 +1,7 @@
 -- The chain between receipts, and the encrypted counter.
 use Prim.Native.Nat.{ℕ, _<_}
 use mathlib.Core.Bool.{false, true}
-use mathlib.Core.List.{List, [], _∷_, _++_}
+use mathlib.Core.List.{List, _++_}
 use mathlib.Core.Path.{_≡_}
 use lib.IntN.{ℤ}
 use lib.ListN.{length, take, replicate}
@@ -9,7 +9,7 @@ use Rattle.primitives.specs.Sha256.{sha256}
 use Rattle.primitives.specs.Aes.{cipher}
 use Rattle.primitives.specs.Counter.{counterFits, counterBytes, counterValue, xorFirst}
 use Rattle.receipt.specs.Decimal.{digits}
-use Rattle.receipt.specs.Settings.{digit, nameText, idGood, endsInDigit}
+use Rattle.receipt.specs.Settings.{nameText, idGood, endsInDigit}
 use Rattle.receipt.specs.declared.settings.Name.{Name}
 
 -- "the first 8 bytes of SHA-256 of the previous receipt's compact form, for the first receipt of the ID"
@@ -55,13 +55,7 @@ DecryptionUndoesEncryption =
 abbrev pub OneHashInput : Type 0
 OneHashInput = (id : Name) (a b : ℕ) → a < 4294967296 → b < 4294967296 → hashInput id a ≡ hashInput id b → a ≡ b
 
--- a good ID ends in a digit exactly if its text is some bytes and then a digit
-abbrev pub EndsInLastByte : Type 0
-EndsInLastByte =
-    (id : Name) → length (id .bytes) ≡ 32 → idGood id ≡ true → (front : List ℕ) (last : ℕ) → nameText id ≡ front ++ (last ∷ [])
-    → endsInDigit id ≡ digit last
-
--- no two good IDs that do not end in a digit have the same hash input, under any numbers
+-- equal hash inputs of two good IDs that do not end in a digit mean the same ID and the same number
 abbrev pub OneIdOneHashInput : Type 0
 OneIdOneHashInput =
     (id other : Name) → length (id .bytes) ≡ 32 → length (other .bytes) ≡ 32 → idGood id ≡ true → idGood other ≡ true

@@ -83,17 +83,17 @@ settingsGood s = cspGood (s .csp) && (idGood (s .id) && serialGood (s .serial))
 unfoldable pub endsInDigit : Name → Bool
 endsInDigit name = digit (getD (name .bytes) (name .len - 1) 0)
 
--- whether a register with this good ID may have its key: it may if the key is not shared, or if the ID does not end in a digit
-unfoldable pub keyAllowed : Bool → Name → Bool
-keyAllowed shared id = not (shared && endsInDigit id)
+-- a register may have this good ID if its key is not shared, or if the ID does not end in a digit
+unfoldable pub idAllowed : Bool → Name → Bool
+idAllowed shared id = not (shared && endsInDigit id)
 
 -- "CSP good? 1. ID good? 2. Serial good? 3. N from 5 to 8? 4.", with "32 for a marked ID ending in a digit, between 2 and 3", and then the rest
 unfoldable pub settingsNumberFor : Settings → Bool → ℕ → ℕ → ℕ
 settingsNumberFor s shared n rest =
     ask (cspGood (s .csp)) 1
-    (ask (idGood (s .id)) 2 (ask (keyAllowed shared (s .id)) 32 (ask (serialGood (s .serial)) 3 (ask (widthGood n) 4 rest))))
+    (ask (idGood (s .id)) 2 (ask (idAllowed shared (s .id)) 32 (ask (serialGood (s .serial)) 3 (ask (widthGood n) 4 rest))))
 
--- and where nothing is said of a shared key
+-- questions 1 to 4 alone: 32 is not asked
 abbrev pub settingsNumber : Settings → ℕ → ℕ → ℕ
 settingsNumber s n rest = settingsNumberFor s false n rest
 
@@ -115,3 +115,18 @@ pub record SettingsBytes (s : Settings) : Type 0 where
 pub record TypedSettings (s : Settings) : Type 0 where
   pub lengths : SettingsLengths s
   pub bytes : SettingsBytes s
+
+-- ---- what holds of them
+
+-- a good ID ends in a digit exactly if its text is some bytes and then a digit
+abbrev pub EndsInLastByte : Type 0
+EndsInLastByte =
+    (id : Name) → length (id .bytes) ≡ 32 → idGood id ≡ true → (front : List ℕ) (last : ℕ) → nameText id ≡ front ++ (last ∷ [])
+    → endsInDigit id ≡ digit last
+
+-- 32 is asked only where the key is shared
+abbrev pub UnsharedAsksOneToFour : Type 0
+UnsharedAsksOneToFour =
+    (s : Settings) (n rest : ℕ)
+    → settingsNumber s n rest
+    ≡ ask (cspGood (s .csp)) 1 (ask (idGood (s .id)) 2 (ask (serialGood (s .serial)) 3 (ask (widthGood n) 4 rest)))

@@ -3,7 +3,7 @@ use primitives::width_good;
 ghost use mathlib.Core.Path.{_≡_};
 ghost use mathlib.Core.Bool.{true};
 ghost use Prim.Native.Nat.{min};
-ghost use Rattle.receipt.specs.Settings.{between, idLetter, serialLetter, letterGood, every, nameGood, cspGood, idGood, serialGood, settingsGood, keyAllowed, settingsNumberFor, settingsNumber, nameOf};
+ghost use Rattle.receipt.specs.Settings.{between, idLetter, serialLetter, letterGood, every, nameGood, cspGood, idGood, serialGood, settingsGood, idAllowed, settingsNumberFor, settingsNumber, nameOf};
 
 // A register ID or a serial: its bytes up to its length, then zeros.
 pub struct Name {
@@ -137,10 +137,10 @@ pub fn settings_good(s: Settings) -> bool
     serial_good(serial)
 }
 
-// A shared key goes only with an ID that does not end in a digit.
-fn key_allowed(shared: bool, id: Name) -> bool
+// Question 32: a register with a shared key has an ID that does not end in a digit.
+fn id_allowed(shared: bool, id: Name) -> bool
     requires { ⌜ idGood id ≡ true ⌝ }
-    ensures { λ r. ⌜ r ≡ keyAllowed shared id ⌝ }
+    ensures { λ r. ⌜ r ≡ idAllowed shared id ⌝ }
 {
     if !shared {
         return true;
@@ -162,7 +162,7 @@ pub fn settings_number_for(s: Settings, shared: bool, n: usize) -> u32
     if !id_good(id) {
         return 2;
     }
-    if !key_allowed(shared, id) {
+    if !id_allowed(shared, id) {
         return 32;
     }
     let serial = s.serial;
@@ -175,7 +175,7 @@ pub fn settings_number_for(s: Settings, shared: bool, n: usize) -> u32
     0
 }
 
-// Questions 1 to 4, where nothing is said of a shared key.
+// Questions 1 to 4 alone: 32 is not asked.
 pub fn settings_number(s: Settings, n: usize) -> u32
     ensures { λ r. ⌜ r ≡ settingsNumber s n 0 ⌝ }
 {

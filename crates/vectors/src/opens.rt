@@ -7,7 +7,7 @@ use super::text::field;
 use super::text::unhex;
 use receipt::Settings;
 
-// CSP, ID in hexadecimal, and serial.
+// CSP, ID in hexadecimal, and serial. No row has an ID of more than 32 bytes.
 fn settings_in(line: &[u8]) -> Settings {
     let mut id = [0u8; 32];
     let n = unhex(field(line, 2), &mut id);

@@ -19,8 +19,8 @@ returns-2 : tie.Need-returns-2
 unfolding settingsNumberFor
 returns-2 c = search rows depth 14
 
-key-allowed-requires : tie.Need-key-allowed-requires
-key-allowed-requires c κs = not-yes _ _ (c .before .id-good .ensures) (c .if2 .left)
+id-allowed-requires : tie.Need-id-allowed-requires
+id-allowed-requires c κs = not-yes _ _ (c .before .id-good .ensures) (c .if2 .left)
 
 returns-3 : tie.Need-returns-3
 unfolding settingsNumberFor
@@ -47,4 +47,4 @@ returns-6 c = search rows depth 14
 pub settings-number-for-spec : {M : Type 1} → statement M
 settings-number-for-spec =
     tie.close
-    (tie.spec csp-good-requires returns id-good-requires returns-2 key-allowed-requires returns-3 serial-good-requires returns-4 width-good-requires returns-5 returns-6)
+    (tie.spec csp-good-requires returns id-good-requires returns-2 id-allowed-requires returns-3 serial-good-requires returns-4 width-good-requires returns-5 returns-6)

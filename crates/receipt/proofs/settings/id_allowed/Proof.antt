@@ -1,17 +1,17 @@
--- `settings::key_allowed` meets its contract.
+-- `settings::id_allowed` meets its contract.
 use borrow.Author.Needs.{needs}
 use native.Mathlib.Omega.{arith}
 use Rattle.receipt.specs.declared.settings.Letters.the-variants.{Id}
-use Rattle.receipt.proofs.Names.{GoodName, good-name, key-not-shared, key-by-last}
-use Rattle.receipt.proofs.settings.key_allowed.Statement.{statement}
-use Rattle.receipt.proofs.settings.key_allowed.Tie as tie
+use Rattle.receipt.proofs.Names.{GoodName, good-name, id-not-shared, id-by-last}
+use Rattle.receipt.proofs.settings.id_allowed.Statement.{statement}
+use Rattle.receipt.proofs.settings.id_allowed.Tie as tie
 
 -- what is known of the ID
 known : (c : tie.Start) → GoodName Id (c .args .id)
 known c = good-name Id (c .args .id) (search needs)
 
 returns : tie.Need-returns
-returns c = key-not-shared _ _ (c .if1 .taken)
+returns c = id-not-shared _ _ (c .if1 .taken)
 
 sub-last : tie.Need-sub-last
 sub-last c = omega (arith, known (c .before .before .before) .some)
@@ -23,7 +23,7 @@ between-requires : tie.Need-between-requires
 between-requires c κs = search needs
 
 returns-2 : tie.Need-returns-2
-returns-2 c = key-by-last _ _ (c .before .before .before .if1 .left) (c .between .ensures)
+returns-2 c = id-by-last _ _ (c .before .before .before .if1 .left) (c .between .ensures)
 
-pub key-allowed-spec : {M : Type 1} → statement M
-key-allowed-spec = tie.close (tie.spec returns sub-last array-read-last between-requires returns-2)
+pub id-allowed-spec : {M : Type 1} → statement M
+id-allowed-spec = tie.close (tie.spec returns sub-last array-read-last between-requires returns-2)
