@@ -266,9 +266,9 @@ uint32_t ditgrux_open(const uint8_t *settings, size_t settings_length, uint8_t *
  * one after the other. Register "A1" at number 2 and register "A" at number 12 both hash "A12", and one IV must not come twice under
  * a key. If no ID ends in a digit, registers with different IDs never hash the same text. "A1" could be called "1A" or "A1-".
  *
- * The function sees one register. You must see to it that all registers under the key are opened by it (a register "A1" that was
- * opened by ditgrux_open hashes what "A" hashes), that no two of them have the same ID, and that none is opened a second time under
- * its ID and the key. ditgrux_settings does not ask what the ID ends in.
+ * The function sees one register, so three things are up to you. Open all registers under the key by it: a register "A1" that was
+ * opened by ditgrux_open can hash the same text as "A". Give no two of them the same ID. And do not open a register a second time
+ * under its old ID and key. (ditgrux_settings does not ask what the ID ends in.)
  *
  * The state and the journal do not show which function opened the register: they are the same bytes. All other functions work alike
  * for both, and ditgrux_take_over accepts a journal whatever its ID ends in.
