@@ -1,8 +1,9 @@
 -- The hash input of an IV under a shared key: where the ID in it ends, and that it has only one ID and one number.
-use Prim.Native.Nat.{ℕ, _+_, _-_, _<_, _≤_}
+use Prim.Native.Nat.{ℕ, zero, suc, _+_, _-_, _<_, _≤_}
 use mathlib.Core.Path.{_≡_, refl, sym, ap, _∙_}
 use mathlib.Core.Bool.{Bool, true, false}
 use mathlib.Core.List.{List, [], _∷_, _++_}
+use native.Mathlib.Nat.{sub-zero}
 use native.Mathlib.Omega.{arith}
 use borrow.Author.Tests.{le-leb, leb-true, leb-false}
 use lib.Dec.{leb}
@@ -12,7 +13,7 @@ use Rattle.primitives.proofs.Each.{Each, each-at}
 use Rattle.primitives.proofs.Rows.{true-is-not-false}
 use Rattle.receipt.specs.Decimal.{digits}
 use Rattle.receipt.specs.Settings.{between, digit, nameText, idGood, endsInDigit, EndsInLastByte}
-use Rattle.receipt.specs.Chain.{hashInput, OneIdOneHashInput}
+use Rattle.receipt.specs.Chain.{hashInput, OneIdOneHashInput, LongerIdHasDigits}
 use Rattle.receipt.specs.declared.settings.Name.{Name}
 use Rattle.receipt.specs.declared.settings.Letters.the-variants.{Id}
 use Rattle.receipt.proofs.Digits.{digits-same}
@@ -90,3 +91,18 @@ one-id-one-hash-input id other l m good fine id-no other-no a b h k e =
     let p = one-seam (nameText id) (nameText other) (digits a) (digits b) (text-some id l good) (text-some other m fine)
     (sym (last-is id l good) ∙ id-no) (sym (last-is other m fine) ∙ other-no) (digits-are a) (digits-are b) e in
     (same-name Id id other l m good fine (p .0), digits-same a b (omega arith) (omega arith) (p .1))
+
+-- ---- any two IDs
+
+-- the first bytes of two texts in a row, beyond the first text
+take-past : (front after : List ℕ) (n : ℕ) → length front ≤ n → take n (front ++ after) ≡ front ++ take (n - length front) after
+take-past [] after n h = ap (λ (k : ℕ). take k after) (sym (sub-zero n))
+take-past (x ∷ front) after zero h = absurd (omega (arith, h))
+take-past (x ∷ front) after (suc n) h =
+    let e : n - length front ≡ suc n - length (x ∷ front) = omega arith in
+    ap (λ (l : List ℕ). x ∷ l) (take-past front after n (omega (arith, h)) ∙ ap (λ (k : ℕ). front ++ take k after) e)
+
+pub longer-id-has-digits : LongerIdHasDigits
+unfolding hashInput
+longer-id-has-digits id other a b e h =
+    sym (take-append-seam (nameText other) (digits b)) ∙ ap (take (length (nameText other))) (sym e) ∙ take-past (nameText id) (digits a) (length (nameText other)) h

@@ -1,5 +1,5 @@
 -- The chain between receipts, and the encrypted counter.
-use Prim.Native.Nat.{ℕ, _<_}
+use Prim.Native.Nat.{ℕ, _-_, _≤_, _<_}
 use mathlib.Core.Bool.{false, true}
 use mathlib.Core.List.{List, _++_}
 use mathlib.Core.Path.{_≡_}
@@ -61,3 +61,9 @@ OneIdOneHashInput =
     (id other : Name) → length (id .bytes) ≡ 32 → length (other .bytes) ≡ 32 → idGood id ≡ true → idGood other ≡ true
     → endsInDigit id ≡ false → endsInDigit other ≡ false
     → (a b : ℕ) → a < 4294967296 → b < 4294967296 → hashInput id a ≡ hashInput other b → (id ≡ other) × (a ≡ b)
+
+-- if two IDs have the same hash input under some numbers, the longer ID is the shorter one with the first digits of that one's number after it
+abbrev pub LongerIdHasDigits : Type 0
+LongerIdHasDigits =
+    (id other : Name) (a b : ℕ) → hashInput id a ≡ hashInput other b → length (nameText id) ≤ length (nameText other)
+    → nameText other ≡ nameText id ++ take (length (nameText other) - length (nameText id)) (digits a)
