@@ -45,11 +45,11 @@ journals-never-repeat j k key other n m v w d h before later e p first rest f q 
 -- ---- 32 in the row of questions
 
 -- the row gives 32 only at its own question
-at-32 : (csp id key serial width room : Bool) → ask csp 1 (ask id 2 (ask key 32 (ask serial 3 (ask width 4 (ask room 5 0))))) ≡ 32
-    → (csp ≡ true) × (id ≡ true) × (key ≡ false)
+at-32 : (csp id allowed serial width room : Bool) → ask csp 1 (ask id 2 (ask allowed 32 (ask serial 3 (ask width 4 (ask room 5 0))))) ≡ 32
+    → (csp ≡ true) × (id ≡ true) × (allowed ≡ false)
 unfolding ask
-at-32 false id key serial width room e = absurd (omega (arith, e))
-at-32 true false key serial width room e = absurd (omega (arith, e))
+at-32 false id allowed serial width room e = absurd (omega (arith, e))
+at-32 true false allowed serial width room e = absurd (omega (arith, e))
 at-32 true true false serial width room e = (refl, refl, refl)
 at-32 true true true false width room e = absurd (omega (arith, e))
 at-32 true true true true false room e = absurd (omega (arith, e))
@@ -57,17 +57,17 @@ at-32 true true true true true false e = absurd (omega (arith, e))
 at-32 true true true true true true e = absurd (omega (arith, e))
 
 -- a row that does not give 32 is the row without its question
-not-32 : (csp id key : Bool) (rest : ℕ) → (ask csp 1 (ask id 2 (ask key 32 rest)) ≡ 32 → ⊥)
-    → ask csp 1 (ask id 2 (ask key 32 rest)) ≡ ask csp 1 (ask id 2 (ask true 32 rest))
+not-32 : (csp id allowed : Bool) (rest : ℕ) → (ask csp 1 (ask id 2 (ask allowed 32 rest)) ≡ 32 → ⊥)
+    → ask csp 1 (ask id 2 (ask allowed 32 rest)) ≡ ask csp 1 (ask id 2 (ask true 32 rest))
 unfolding ask
-not-32 false id key rest h = refl
-not-32 true false key rest h = refl
+not-32 false id allowed rest h = refl
+not-32 true false allowed rest h = refl
 not-32 true true false rest h = absurd (h refl)
 not-32 true true true rest h = refl
 
-refused-key : (shared : Bool) (id : Name) → idAllowed shared id ≡ false → (shared ≡ true) × (endsInDigit id ≡ true)
-refused-key true id e = (refl, not-false (endsInDigit id) (sym (id-shared id) ∙ e))
-refused-key false id e = true-is-not-false (sym e ∙ id-own id)
+not-allowed : (shared : Bool) (id : Name) → idAllowed shared id ≡ false → (shared ≡ true) × (endsInDigit id ≡ true)
+not-allowed true id e = (refl, not-false (endsInDigit id) (sym (id-shared id) ∙ e))
+not-allowed false id e = true-is-not-false (sym e ∙ id-own id)
 
 digit-refused : (shared : Bool) (id : Name) → shared ≡ true → endsInDigit id ≡ true → idAllowed shared id ≡ false
 digit-refused shared id m d = ap (λ (b : Bool). idAllowed b id) m ∙ id-shared id ∙ ap not d
@@ -79,7 +79,7 @@ shared-digit-gets-32 s shared n room = (only, always)
     only : openNumber s shared n room ≡ 32 → SharedDigit s shared
     only e =
         let p = at-32 (cspGood (s .csp)) (idGood (s .id)) (idAllowed shared (s .id)) (serialGood (s .serial)) (widthGood n) (leb (headLength s) room) e in
-        let k = refused-key shared (s .id) (p .2) in
+        let k = not-allowed shared (s .id) (p .2) in
         record { csp = p .0; id = p .1; sharing = k .0; ends = k .1 }
 
     always : SharedDigit s shared → openNumber s shared n room ≡ 32
