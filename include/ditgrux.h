@@ -270,8 +270,8 @@ uint32_t ditgrux_open(const uint8_t *settings, size_t settings_length, uint8_t *
  * opened by ditgrux_open can hash the same text as "A". Give no two of them the same ID. And do not open a register a second time
  * under its old ID and key. (ditgrux_settings does not ask what the ID ends in.)
  *
- * The state and the journal do not show which function opened the register: they are the same bytes. All other functions work alike
- * for both, and ditgrux_take_over accepts a journal whatever its ID ends in.
+ * If the ID does not end in a digit, both functions write the same bytes: state and journal do not show which one opened the register.
+ * All other functions work alike for both, and ditgrux_take_over accepts a journal whatever its ID ends in.
  *
  *     settings, settings_length   from ditgrux_settings, 123 bytes
  *     journal, journal_size       the buffer of the journal, and its whole size

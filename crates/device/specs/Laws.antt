@@ -69,7 +69,7 @@ SharedKeyNeverRepeatsInC =
     → (a b : ℕ) → a < 4294967296 → b < 4294967296 → hashInput (settingsOf settings .id) a ≡ hashInput (settingsOf others .id) b
     → (settingsOf settings .id ≡ settingsOf others .id) × (a ≡ b)
 
--- 32 is returned exactly for a good ID that ends in a digit, by ditgrux_open_shared, with a state's slice of 155 bytes
+-- 32 is returned exactly by ditgrux_open_shared, for a good CSP and a good ID that ends in a digit, with a state's slice of 155 bytes
 abbrev pub SharedDigitGets32InC : Type 0
 SharedDigitGets32InC =
     (settings : List ℕ) (shared : Bool) (g : Slices)
