@@ -15,6 +15,7 @@
  *         ditgrux_issue_details: appends the receipt to the journal
  *         ditgrux_code: writes the machine-readable code that is printed
  *         ditgrux_line: writes the code as a line of text, for a printer that cannot draw a square code
+ *     ditgrux_change, when the signature device gets a new certificate: the receipts after it name the new serial
  *     ditgrux_take_over, after each start and whenever you like: checks the whole journal and gives the state back
  *     ditgrux_read_details, to print a receipt again: gives its details and its signature back
  *
@@ -32,8 +33,8 @@
  *   - A pointer points to at least as many bytes as its length says.
  *   - The out pointers `length`, `start` and `index` are not NULL and are aligned like any size_t or uint32_t. A NULL `index`
  *     crashes.
- *   - No buffer that a call writes overlaps another buffer or out parameter of that call. So do not pass the first 123 bytes of a
- *     state as the settings while the same state is the output.
+ *   - No buffer that a call writes overlaps another buffer or out parameter of that call. So do not pass the settings or the
+ *     serial as a part of a state that the same call writes.
  *
  * Threads. The functions share no data. Calls on different buffers may run at the same time. Make one call at a time for a state
  * and its journal.
@@ -46,7 +47,7 @@
 
 /* The version of the layouts below: settings, state and details as bytes. It rises when one of them changes, so a header with the
  * same number reads the states that you have stored. The archive has its own: see ditgrux_version. */
-#define DITGRUX_VERSION 1
+#define DITGRUX_VERSION 2
 
 #ifdef __cplusplus
 extern "C" {
@@ -57,12 +58,14 @@ extern "C" {
 enum {
     DITGRUX_KEY = 32,             /* the AES-256 key of the turnover counter */
     DITGRUX_SETTINGS = 123,       /* the settings of a register, see below */
-    DITGRUX_STATE = 155,          /* the state of a register, see below */
+    DITGRUX_STATE = 447,          /* the state of a register, see below */
     DITGRUX_DETAILS = 72,         /* the details of a receipt, see below */
     DITGRUX_SIGNATURE = 64,       /* a signature of the device: r and s of ES256, 32 bytes each, not DER */
     DITGRUX_HASH = 32,            /* a SHA-256 value */
+    DITGRUX_SERIALS = 8,          /* so many serials a register can have, one after the other (a number, not bytes) */
     DITGRUX_LONGEST_NAME = 32,    /* a register ID, or a serial */
     DITGRUX_LONGEST_HEAD = 83,    /* the head of a journal: 19 bytes, the ID and the serial */
+    DITGRUX_LONGEST_CHANGE = 40,  /* what a change of the certificate appends to the journal: 8 bytes and the serial */
     DITGRUX_LONGEST_PAYLOAD = 200,
     DITGRUX_LONGEST_INPUT = 288,  /* the text that the device signs */
     DITGRUX_LONGEST_COMPACT = 375,
@@ -89,47 +92,52 @@ enum ditgrux_number {
     DITGRUX_BAD_SERIAL = 3,       /* serial is not 1 to 32 characters of 0-9 a-f */
     DITGRUX_BAD_WIDTH = 4,        /* width is not 5 to 8; ALSO: the key is not 32 bytes long */
     DITGRUX_HEAD_TOO_LONG = 5,    /* the journal's buffer is too small for the head */
-    DITGRUX_BAD_STATE = 6,        /* state is not 155 bytes long, holds bad settings, or contradicts itself or the buffer's size */
+    DITGRUX_BAD_STATE = 6,        /* state is not 447 bytes long, holds bad settings, or contradicts itself or the buffer's size */
     DITGRUX_NUMBER_NOT_ABOVE = 7, /* receipt number is not above the last one (0 never is); ALSO: the kind is not 0, 1 or 2 */
     DITGRUX_BAD_DATE = 8,         /* no date of the years 2000 to 2099, or no time from 0:00:00 to 23:59:59 */
     DITGRUX_BAD_AMOUNT = 9,       /* an amount is not within -99,999,999,999 to 99,999,999,999 cents */
     DITGRUX_NO_START = 10,        /* the first receipt is not a standard one with five zeros */
     DITGRUX_COUNTER_FULL = 11,    /* the turnover counter would not fit its width */
     DITGRUX_BAD_SIGNATURE = 12,   /* signature is neither 64 bytes long nor empty */
-    DITGRUX_NO_ROOM = 13,         /* issue: no room for the entry in the journal's buffer; prepare: none for the text in the output */
+    DITGRUX_NO_ROOM = 13,         /* issue, change: no room in the journal's buffer; prepare: none for the text in the output */
     DITGRUX_BAD_HEAD = 14,        /* the head of the journal is cut off, or its CSP, ID or serial is bad */
-    DITGRUX_ENTRY_CUT = 15,       /* the entry is cut off, or missing though the head counts it */
-    DITGRUX_ENTRY_MISSPELLED = 16, /* the entry is not a receipt of this register, spelled exactly as the ordinance has it */
+    DITGRUX_ENTRY_CUT = 15,       /* the entry is cut off, or missing though its section counts it */
+    DITGRUX_ENTRY_MISSPELLED = 16, /* the entry is not a receipt of this register and serial, spelled as the ordinance has it */
     DITGRUX_ENTRY_NUMBER = 17,    /* the entry's receipt number is not above that of the entry before */
     DITGRUX_ENTRY_NO_START = 18,  /* the first entry is not a standard receipt with five zeros */
     DITGRUX_ENTRY_CHAIN = 19,     /* the entry's chain field does not match the entry before */
     DITGRUX_ENTRY_COUNTER = 20,   /* the sum does not fit the width, or is not the counter that the entry holds encrypted */
-    DITGRUX_BYTES_LEFT = 21,      /* there are bytes after the last entry */
+    DITGRUX_BYTES_LEFT = 21,      /* the bytes after an entry section are not a good serial and a whole count */
     DITGRUX_BAD_FORM = 22,        /* not a compact form; unbase64, unbase32: not canonical BASE64 or BASE32 */
     DITGRUX_OUTPUT_SHORT = 23,    /* the output is too short; ALSO: the output of settings or read is longer than it must be */
     DITGRUX_BAD_CODE = 24,        /* not a machine-readable code; fields: or one without a register ID */
     DITGRUX_BAD_FIELDS = 26,      /* a code without twelve fields, or whose counter or chain field is not canonical BASE64 */
     DITGRUX_BAD_LINE = 27,        /* not the optical line of a machine-readable code */
+    DITGRUX_SERIAL_USED = 30,     /* change, take over: this register had the serial before; asked after DITGRUX_BAD_SERIAL */
+    DITGRUX_SERIALS_FULL = 31,    /* change, take over: a ninth serial */
     DITGRUX_ID_ENDS_IN_DIGIT = 32 /* open_shared: the register ID ends in a digit; asked between DITGRUX_BAD_ID and DITGRUX_BAD_SERIAL */
 };
 
 /* ---- the journal, as bytes
  *
- * A journal is a head and entries. The head is four sections, each with a count of four bytes, big-endian. With a register ID of I
- * bytes and a serial of S bytes:
+ * A journal is the sections of CSP and ID and then one to eight pairs: the section of a serial, and a section of the receipts that
+ * name it. Every section begins with a count of four bytes, big-endian. With a register ID of I bytes and a first serial of S bytes:
  *
  *     at               bytes
  *     0                    4  3, the length of the CSP
  *     4                    3  CSP
  *     7                    4  I, the length of the ID
  *     11                   I  register ID
- *     11 + I               4  S, the length of the serial
+ *     11 + I               4  S, the length of the serial          the first pair
  *     15 + I               S  serial
- *     15 + I + S           4  the number of receipts
- *     19 + I + S              the entries
+ *     15 + I + S           4  the number of receipts in this pair
+ *     19 + I + S              their entries
+ *                             the next pair: length of the serial, serial, number of receipts, entries; and so on
  *
- * An entry is a length of two bytes, big-endian, and a compact form of that length. Issuing a receipt appends an entry and
- * rewrites the number of receipts; nothing else in the journal ever changes.
+ * The bytes before the first entry are the head. An entry is a length of two bytes, big-endian, and a compact form of that length.
+ *
+ * ditgrux_open writes the head. ditgrux_issue appends an entry and rewrites the number of receipts of the last pair. ditgrux_change
+ * appends a pair without receipts. Nothing else in the journal ever changes.
  *
  * This is how to walk the entries of a journal that ditgrux_take_over has accepted or that the functions here have written. (In any
  * other journal, compare each place with the number of bytes that there are before you read.)
@@ -143,21 +151,26 @@ enum ditgrux_number {
  *     }
  *
  *     size_t at = 0, receipts, entry, section, length;
- *     for (section = 0; section < 3; section++)               // CSP, ID, serial
+ *     for (section = 0; section < 2; section++)               // CSP, ID
  *         at += 4 + number_at(journal + at, 4);
- *     receipts = number_at(journal + at, 4);
- *     at += 4;
- *     for (entry = 0; entry < receipts; entry++) {
- *         length = number_at(journal + at, 2);
- *         use(journal + at + 2, length);                      // the compact form: see ditgrux_read_details and ditgrux_code
- *         at += 2 + length;
+ *     while (at < journal_length) {                           // a pair
+ *         at += 4 + number_at(journal + at, 4);               // its serial
+ *         receipts = number_at(journal + at, 4);
+ *         at += 4;
+ *         for (entry = 0; entry < receipts; entry++) {
+ *             length = number_at(journal + at, 2);
+ *             use(journal + at + 2, length);                  // the compact form: see ditgrux_read_details and ditgrux_code
+ *             at += 2 + length;
+ *         }
  *     }
- *                                                             // now `at` is the length of the journal
+ *
+ * `journal_length` is what ditgrux_journal_length says of the state. The journal does not say how long it is: nothing tells the
+ * bytes of a next pair from other bytes that lie after the last one in the buffer.
  */
 
 /* ---- settings and state, as bytes
  *
- * Numbers are big-endian. The settings are the first 123 bytes of the state:
+ * Numbers are big-endian. The settings, which ditgrux_settings writes:
  *
  *     at  bytes
  *      0      3  CSP
@@ -167,27 +180,43 @@ enum ditgrux_number {
  *     75      8  length of the serial
  *     83      8  width of the turnover counter in bytes
  *     91     32  key
- *    123      8  turnover counter in cents, two's complement
- *    131      4  last receipt number
- *    135      4  number of receipts issued
- *    139      8  chain value for the next receipt
- *    147      8  length of the journal
  *
- * Any 155 bytes decode to a state; each state has exactly one encoding. Keep the state in flash, and keep it secret: it holds the
- * key. It is not trusted. Prepare and Issue check it first and return DITGRUX_BAD_STATE if it is inconsistent: bad settings, a
- * counter that does not fit the width, more receipts than the last number, a journal shorter than its head or (Issue only) longer
- * than its buffer. They cannot see that a bit of the key, the counter or the chain value has changed, nor that a state is old: with
- * a state from before the last receipt Issue writes over that receipt, for it reads nothing of the journal. Compare the state with
- * what ditgrux_take_over gives when the device starts.
+ * The state:
+ *
+ *     at  bytes
+ *      0      3  CSP
+ *      3     32  register ID, then zeros
+ *     35      8  length of the ID
+ *     43    320  eight serials, 40 bytes each, as in the settings: those used, the newest last, then zeros
+ *    363      8  width of the turnover counter in bytes
+ *    371     32  key
+ *    403      8  turnover counter in cents, two's complement
+ *    411      4  last receipt number
+ *    415      4  number of receipts issued, in all pairs
+ *    419      8  chain value for the next receipt
+ *    427      8  length of the journal
+ *    435      4  number of receipts in the last pair
+ *    439      8  place of their count in the journal
+ *
+ * Any 447 bytes decode to a state; each state has exactly one encoding. Keep the state in flash, and keep it secret: it holds the
+ * key. It is not trusted. Prepare, Issue and Change check it first and return DITGRUX_BAD_STATE if it is inconsistent: bad CSP, ID or
+ * width; not one to eight good serials with zeros after them; a counter that does not fit the width; more receipts than the last
+ * number, or more in the last pair than in all; a journal shorter than its head, or than the end of the last pair's count, or (Issue
+ * and Change only) longer than its buffer. They cannot see that a bit of the key, the counter or the chain value has changed, nor
+ * that a state is old: with a state from before the last receipt Issue writes over that receipt, for it reads nothing of the journal.
+ * Compare the state with what ditgrux_take_over gives when the device starts.
  *
  * After DITGRUX_BAD_STATE the state's bytes are as they were before the call, in every function.
  *
- * The unopened state is 155 zeros. A refused ditgrux_open, ditgrux_open_shared or ditgrux_take_over writes it, so do not pass the
+ * The unopened state is 447 zeros. A refused ditgrux_open, ditgrux_open_shared or ditgrux_take_over writes it, so do not pass the
  * live state to these three: pass a second array, and copy it when the call has returned DITGRUX_DONE.
  *
  * A lost state comes back by ditgrux_take_over, byte for byte, from the journal, the key and the width. It needs exactly the bytes
  * of the journal, and not its whole buffer. The length of the journal is a number of the state alone, so store it beside the
- * journal as well. (If it is lost, too, the walk above finds it, as long as nothing in the journal is damaged.)
+ * journal as well.
+ *
+ * States of version 1 were 155 bytes long. No function takes them: a device that kept one calls ditgrux_take_over with the journal,
+ * whose length stands in the last eight of those 155 bytes, and stores the 447 bytes that it writes.
  */
 
 /* ---- the details of a receipt, as bytes
@@ -238,11 +267,39 @@ uint32_t ditgrux_settings(const uint8_t *csp, size_t csp_length, const uint8_t *
 /* ---- what a state says
  *
  * The turnover counter in cents, the last receipt number, the number of receipts issued and the length of the journal. All four
- * return 0 if the state is not 155 bytes long. They read one number and do not check the state. */
+ * return 0 if the state is not 447 bytes long. They read one number and do not check the state. */
 int64_t ditgrux_counter(const uint8_t *state, size_t state_length);
 uint32_t ditgrux_last_number(const uint8_t *state, size_t state_length);
 uint32_t ditgrux_receipts(const uint8_t *state, size_t state_length);
 size_t ditgrux_journal_length(const uint8_t *state, size_t state_length);
+
+/* How many serials the register has had, 0 to 8: those up to the first that is empty. The newest is number ditgrux_serials - 1. */
+uint32_t ditgrux_serials(const uint8_t *state, size_t state_length);
+
+/* Writes one of the register's serials, as text: number 0 is the first, ditgrux_serials - 1 the newest, which the next receipt names.
+ * DITGRUX_LONGEST_NAME bytes of output are always enough.
+ *
+ *     state, state_length         447 bytes; they are not changed, and not checked either
+ *     which                       the number of the serial, from 0
+ *     output, output_length       output
+ *     length                      output: the length of the serial; 0 if the register has no such serial
+ *
+ * Returns DITGRUX_DONE, or DITGRUX_OUTPUT_SHORT. Refused: `output` is unchanged and *length is 0. */
+uint32_t ditgrux_serial(const uint8_t *state, size_t state_length, uint32_t which, uint8_t *output, size_t output_length,
+                        size_t *length);
+
+/* Writes the settings with which the receipts under one of the register's serials are spelled: CSP, ID, that serial, width and key.
+ * ditgrux_read takes them.
+ *
+ *     state, state_length         447 bytes; they are not changed, and not checked either
+ *     which                       the number of the serial, from 0, as for ditgrux_serial
+ *     settings, settings_length   output: exactly 123 bytes
+ *
+ * If the register has no such serial, the settings hold an empty one, and ditgrux_read refuses them with DITGRUX_BAD_SERIAL. With a
+ * state that is not 447 bytes long the settings are all zero.
+ *
+ * Returns DITGRUX_DONE, or DITGRUX_OUTPUT_SHORT (settings_length is not 123, be it less or more). Refused: `settings` is unchanged. */
+uint32_t ditgrux_settings_in(const uint8_t *state, size_t state_length, uint32_t which, uint8_t *settings, size_t settings_length);
 
 /* ---- a register */
 
@@ -251,11 +308,11 @@ size_t ditgrux_journal_length(const uint8_t *state, size_t state_length);
  *
  *     settings, settings_length   from ditgrux_settings, 123 bytes
  *     journal, journal_size       the buffer of the journal, and its whole size
- *     state, state_length         output: exactly 155 bytes
+ *     state, state_length         output: exactly 447 bytes
  *
- * Returns DITGRUX_DONE, DITGRUX_BAD_STATE (state_length is not 155), DITGRUX_BAD_CSP (also if settings_length is not 123),
+ * Returns DITGRUX_DONE, DITGRUX_BAD_STATE (state_length is not 447), DITGRUX_BAD_CSP (also if settings_length is not 123),
  * DITGRUX_BAD_ID, DITGRUX_BAD_SERIAL, DITGRUX_BAD_WIDTH, or DITGRUX_HEAD_TOO_LONG (journal_size is below 19 + ID + serial).
- * Refused: `journal` is unchanged. With DITGRUX_BAD_STATE `state` is unchanged, too; with any other number it is 155 zeros. */
+ * Refused: `journal` is unchanged. With DITGRUX_BAD_STATE `state` is unchanged, too; with any other number it is 447 zeros. */
 uint32_t ditgrux_open(const uint8_t *settings, size_t settings_length, uint8_t *journal, size_t journal_size, uint8_t *state,
                       size_t state_length);
 
@@ -275,19 +332,19 @@ uint32_t ditgrux_open(const uint8_t *settings, size_t settings_length, uint8_t *
  *
  *     settings, settings_length   from ditgrux_settings, 123 bytes
  *     journal, journal_size       the buffer of the journal, and its whole size
- *     state, state_length         output: exactly 155 bytes
+ *     state, state_length         output: exactly 447 bytes
  *
- * Returns DITGRUX_DONE, DITGRUX_BAD_STATE (state_length is not 155), DITGRUX_BAD_CSP (also if settings_length is not 123),
+ * Returns DITGRUX_DONE, DITGRUX_BAD_STATE (state_length is not 447), DITGRUX_BAD_CSP (also if settings_length is not 123),
  * DITGRUX_BAD_ID, DITGRUX_ID_ENDS_IN_DIGIT, DITGRUX_BAD_SERIAL, DITGRUX_BAD_WIDTH, or DITGRUX_HEAD_TOO_LONG (journal_size is below
  * 19 + ID + serial).
- * Refused: `journal` is unchanged. With DITGRUX_BAD_STATE `state` is unchanged, too; with any other number it is 155 zeros. */
+ * Refused: `journal` is unchanged. With DITGRUX_BAD_STATE `state` is unchanged, too; with any other number it is 447 zeros. */
 uint32_t ditgrux_open_shared(const uint8_t *settings, size_t settings_length, uint8_t *journal, size_t journal_size, uint8_t *state,
                              size_t state_length);
 
 /* Writes the text that the device signs: the compact form of the receipt up to its second '.', without it. You will want
  * ditgrux_prepare_details below, which takes the thirteen details by name.
  *
- *     state, state_length         155 bytes; they are not changed
+ *     state, state_length         447 bytes; they are not changed
  *     number                      receipt number, above the last one, up to 4,294,967,295
  *     year .. second              date and time of the receipt; they may lie before those of the last one
  *     standard, reduced_1, reduced_2, zero, special
@@ -309,10 +366,10 @@ uint32_t ditgrux_prepare(const uint8_t *state, size_t state_length, uint32_t num
                          uint32_t hour, uint32_t minute, uint32_t second, int64_t standard, int64_t reduced_1, int64_t reduced_2,
                          int64_t zero, int64_t special, uint32_t kind, uint8_t *output, size_t output_length, size_t *length);
 
-/* Issues a receipt: appends its entry to the journal, rewrites the number of receipts there, and writes the new state. You will want
- * ditgrux_issue_details below.
+/* Issues a receipt: appends its entry to the journal, rewrites the number of receipts of the last pair, and writes the new state. You
+ * will want ditgrux_issue_details below.
  *
- *     state, state_length         155 bytes, in and out
+ *     state, state_length         447 bytes, in and out
  *     number .. kind              the same state and the same details as in ditgrux_prepare: otherwise the signature is over
  *                                 another text
  *     signature, signature_length the 64 bytes of the device; length 0 says that the device has failed
@@ -331,26 +388,47 @@ uint32_t ditgrux_issue(uint8_t *state, size_t state_length, uint32_t number, uin
                        int64_t special, uint32_t kind, const uint8_t *signature, size_t signature_length, uint8_t *journal,
                        size_t journal_size);
 
-/* Checks a whole journal, entry by entry, and writes the state that it leads to. It does not verify signatures.
+/* Changes the certificate: appends the new serial and an empty section of receipts to the journal, and writes the new state. Counter,
+ * receipt numbers and chain run on. From then on receipts are prepared, issued and checked with the new serial; the old one cannot
+ * come back.
+ *
+ *     state, state_length         447 bytes, in and out
+ *     serial, serial_length       the serial of the new certificate, 1 to 32 characters of 0-9 a-f
+ *     journal, journal_size       the buffer of the journal, and its whole size
+ *
+ * A change may come before the first receipt, and several may follow each other without a receipt between them. Prepare a receipt after
+ * the change, not before: the text to be signed names the serial.
+ *
+ * Returns DITGRUX_DONE, DITGRUX_BAD_STATE (also if the state's journal is longer than journal_size), DITGRUX_BAD_SERIAL,
+ * DITGRUX_SERIAL_USED (the register has had this serial, be it the newest or an older one), DITGRUX_SERIALS_FULL (it has had
+ * eight), or DITGRUX_NO_ROOM (8 bytes and the serial do not fit after the journal).
+ * Refused: `state` and `journal` are unchanged. */
+uint32_t ditgrux_change(uint8_t *state, size_t state_length, const uint8_t *serial, size_t serial_length, uint8_t *journal,
+                        size_t journal_size);
+
+/* Checks a whole journal, pair by pair and entry by entry, and writes the state that it leads to. It does not verify signatures.
  *
  *     journal, journal_length     the journal, and its exact length (not the size of its buffer)
  *     key, key_length             the AES-256 key, 32 bytes
  *     width                       bytes of the turnover counter, 5 to 8
- *     state, state_length         output: exactly 155 bytes
- *     index                       output: the entry that is refused, counted from 0
+ *     state, state_length         output: exactly 447 bytes
+ *     index                       output: where the journal is refused, see below
  *
- * Returns DITGRUX_DONE, DITGRUX_BAD_STATE (state_length is not 155), DITGRUX_BAD_WIDTH (the width, or the key is not 32 bytes long),
+ * Returns DITGRUX_DONE, DITGRUX_BAD_STATE (state_length is not 447), DITGRUX_BAD_WIDTH (the width, or the key is not 32 bytes long),
  * DITGRUX_BAD_HEAD, then for each entry DITGRUX_ENTRY_CUT, DITGRUX_ENTRY_MISSPELLED, DITGRUX_ENTRY_NUMBER, DITGRUX_ENTRY_NO_START,
- * DITGRUX_ENTRY_CHAIN or DITGRUX_ENTRY_COUNTER, and at last DITGRUX_BYTES_LEFT.
- * *index is the refused entry's with DITGRUX_ENTRY_.., the number of receipts with DITGRUX_BYTES_LEFT, and 0 with every other result.
- * Refused: with DITGRUX_BAD_STATE `state` is unchanged; with any other number it is 155 zeros. The journal is only read. */
+ * DITGRUX_ENTRY_CHAIN or DITGRUX_ENTRY_COUNTER, and where bytes follow the last entry of a pair DITGRUX_BYTES_LEFT,
+ * DITGRUX_SERIAL_USED or DITGRUX_SERIALS_FULL.
+ * *index is the number of receipts before the place, in all pairs: that of the refused entry, counted from 0, with DITGRUX_ENTRY_..,
+ * the number of receipts so far with the last three; and 0 with every other result.
+ * Refused: with DITGRUX_BAD_STATE `state` is unchanged; with any other number it is 447 zeros. The journal is only read. */
 uint32_t ditgrux_take_over(const uint8_t *journal, size_t journal_length, const uint8_t *key, size_t key_length, size_t width,
                            uint8_t *state, size_t state_length, uint32_t *index);
 
 /* Reads a receipt back: gives the details and the signature of one compact form. You will want ditgrux_read_details below, which
  * gives the details by name.
  *
- *     settings, settings_length   the settings of the register, 123 bytes; the first 123 bytes of its state are the same
+ *     settings, settings_length   the settings of the register, 123 bytes, with the serial of the receipt: from ditgrux_settings, or
+ *                                 from ditgrux_settings_in, which takes them from a state
  *     form, form_length           the compact form, without the two bytes of its length in the journal
  *     details, details_length     output: exactly 72 bytes
  *     signature, signature_size   output: exactly 64 bytes
