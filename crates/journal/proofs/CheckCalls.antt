@@ -27,7 +27,7 @@ use Rattle.journal.specs.Step.{fresh, newCounter, next, soundAlone, soun
 use Rattle.primitives.specs.Questions.{ask, ifZero}
 use Rattle.primitives.specs.Number.{countAt}
 use Rattle.journal.specs.Head.{headSettings, headGood, lengthAt, there, textAt, headLength, entryText}
-use Rattle.journal.proofs.Remaining.{step-end, step-entry, idle, passed-step, after-settings, after-below}
+use Rattle.journal.proofs.Stepping.{step-end, step-entry, idle, passed-step}
 use Rattle.journal.specs.Checking.{headNumber, found, equal, counterRight, contextNumber, textNumber, after, entryNumber, refused, accepted, takeOver, checked, stopped, textChecked, placeChecked, endChecked, oneStep, steps, lastAnswer, entryReady, entryChecked, stepChecked, full}
 use Rattle.journal.specs.declared.state.State.{State}
 use Rattle.journal.proofs.Equal.{equal-true, equal-refl}
@@ -37,7 +37,7 @@ use Rattle.journal.specs.declared.checking.Checked.{Checked}
 use Rattle.journal.specs.declared.checking.Step.{Step}
 use Rattle.journal.proofs.Places.{length-entry}
 use Rattle.receipt.specs.Settings.{settingsGood}
-use Rattle.journal.proofs.CallLists.{sound-true}
+use Rattle.journal.proofs.Answers.{sound-true}
 use Rattle.journal.specs.State.{settingsNow, headLengthNow, countPlaceNow}
 use Rattle.receipt.proofs.Entries.{none-found}
 

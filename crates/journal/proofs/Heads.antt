@@ -17,7 +17,7 @@ use Rattle.receipt.specs.declared.settings.Settings.{Settings}
 use Rattle.receipt.specs.declared.settings.Letters.the-variants.{Id, Serial}
 use Rattle.receipt.proofs.Names.{GoodSettings, good-settings, length-text, text-of, name-of}
 use Rattle.receipt.proofs.Entries.{len-of, length-array, bytes-array, settings-all}
-use Rattle.journal.specs.Head.{section, sectionText, sectionEnd, front, head, headLength, countPlace, serialPlace, countPlaceIn, headSettings, headGood}
+use Rattle.journal.specs.Head.{section, sectionText, sectionEnd, front, head, headLength, countPlace, serialPlace, countPlaceIn, serialAt, headSettings, headGood}
 use Rattle.primitives.proofs.Counts.{count-in, cut, count-bytes, count-lt}
 use Rattle.journal.proofs.Sections.{length-section, section-count, section-text, section-end, text-length, text-bytes, section-there}
 
@@ -125,7 +125,7 @@ module _ (s : Settings) (t : SettingsLengths s) (g : settingsGood s ≡ true) wh
     read-count = ap (λ (p : ℕ). countAt (head s k ++ more) p 4) read-place ∙ read-count-at
 
     pub read-settings : headSettings (head s k ++ more) ≡ s
-    unfolding headSettings
+    unfolding headSettings serialAt
     read-settings =
         let a = settings-all s g in
         λ i. record {
@@ -189,11 +189,11 @@ module _ (j : List ℕ) (b : AllBytes j) (h : headGood j ≡ true) where
   id-is = refl
 
   serial-is : headSettings j .serial ≡ nameOf (sectionText j (serialPlace j))
-  unfolding headSettings
+  unfolding headSettings serialAt
   serial-is = refl
 
   pub read-typed : TypedSettings (headSettings j)
-  unfolding headSettings
+  unfolding headSettings serialAt
   read-typed =
       record {
         lengths = record { csp = text-length j b 0 csp-there ∙ good-head .three; id = length-array (sectionText j 7); serial = length-array (sectionText j (serialPlace j)) };

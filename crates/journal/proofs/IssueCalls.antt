@@ -40,7 +40,7 @@ use Rattle.journal.specs.Preparing.{preparedText, prepareNumber, prepare
 use Rattle.journal.specs.declared.state.State.{State}
 use Rattle.journal.proofs.Places.{length-entry}
 use Rattle.journal.proofs.OpenCalls.{count-room}
-use Rattle.journal.proofs.CallLists.{sound-true, details-zero, details-yes, details-then, sized-cases, call-spellable}
+use Rattle.journal.proofs.Answers.{sound-true, details-zero, details-yes, details-then, sized-cases, call-spellable}
 use Rattle.journal.specs.State.{settingsNow, countPlaceNow}
 
 -- ---- the questions 7 to 11, and then the rest

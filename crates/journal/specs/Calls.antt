@@ -1,34 +1,52 @@
--- Lists of Issue calls: "Each Issue gets the state that the call before it returned and the buffer as that call left it".
+-- Lists of calls that mix Issue and Change: "Each Issue gets the state that the call before it returned and the buffer as that call left it", and so does
+-- each Change.
 use Prim.Native.Nat.{ℕ, _<_}
 use mathlib.Core.Path.{_≡_}
 use mathlib.Core.Bool.{Bool, cond}
-use mathlib.Core.List.{List, [], _∷_}
+use mathlib.Core.List.{List, [], _∷_, _++_}
 use lib.ListN.{length, take}
 use Rattle.primitives.specs.Bytes.{AllBytes}
 use Rattle.receipt.specs.Amount.{amountLimit}
+use Rattle.receipt.specs.declared.settings.Name.{Name}
 use Rattle.receipt.specs.declared.settings.Settings.{Settings}
 use Rattle.receipt.specs.declared.details.Details.{Details}
 use Rattle.receipt.specs.declared.entry.Entry.{Entry}
 use Rattle.primitives.specs.Questions.{ifZero}
 use Rattle.journal.specs.Opening.{opened, openBuffer}
 use Rattle.journal.specs.Issuing.{issueNumber, issuedWithin, issueBufferWithin, givenSignature}
-use Rattle.journal.specs.Receipts.{Receipt}
+use Rattle.journal.specs.Changing.{changeNumber, changed, changeBuffer}
+use Rattle.journal.specs.Receipts.{Receipt, receiptsIn}
+use Rattle.journal.specs.State.{TypedName}
+use Rattle.journal.specs.Valid.{Pair}
 use Rattle.journal.specs.declared.state.State.{State}
 
--- a call of Issue
-pub record Call : Type 0 where
+-- ---- calls
+
+-- what Issue is given
+pub record Order : Type 0 where
   pub details : Details
   pub signature : List ℕ
 
--- what the code's types say of it
-pub record TypedCall (c : Call) : Type 0 where
+-- a call of Issue, or of Change with a serial
+pub data Call : Type 0 where
+  issue : Order → Call
+  change : Name → Call
+
+-- what the code's types say of them
+pub record TypedOrder (c : Order) : Type 0 where
   pub number : c .details .number < 4294967296
   pub amounts : length (c .details .amounts) ≡ 5
   pub bytes : AllBytes (c .signature)
 
+pub data TypedCall : Call → Type 0 where
+  issues : {c : Order} → TypedOrder c → TypedCall (issue c)
+  changes : {s : Name} → TypedName s → TypedCall (change s)
+
 pub data TypedCalls : List Call → Type 0 where
   none : TypedCalls []
   more : {c : Call} {cs : List Call} → TypedCall c → TypedCalls cs → TypedCalls (c ∷ cs)
+
+-- ---- registers
 
 -- a register: its state and its buffer
 pub record Register : Type 0 where
@@ -45,15 +63,17 @@ opening s key shared n buf = record { state = opened s key shared n (length buf)
 
 -- the number of a call: 0 if it was not refused
 unfoldable pub numberOf : Register → Call → ℕ
-numberOf g c = issueNumber (g .state) (c .details) (c .signature) (length (g .buf))
+numberOf g (issue c) = issueNumber (g .state) (c .details) (c .signature) (length (g .buf))
+numberOf g (change s) = changeNumber (g .state) s (length (g .buf))
 
 -- the register after a call, and after calls, with the limit of an amount as a parameter
 unfoldable pub callWithin : ℕ → Register → Call → Register
-callWithin limit g c =
+callWithin limit g (issue c) =
     record {
       state = issuedWithin limit (g .state) (c .details) (c .signature) (length (g .buf)) .state;
       buf = issueBufferWithin limit (g .state) (c .details) (c .signature) (g .buf);
     }
+callWithin limit g (change s) = record { state = changed (g .state) s (length (g .buf)) .state; buf = changeBuffer (g .state) s (g .buf) }
 
 unfoldable pub callsWithin : ℕ → Register → List Call → Register
 callsWithin limit g [] = g
@@ -71,22 +91,56 @@ unfoldable pub numbersOf : Register → List Call → List ℕ
 numbersOf g [] = []
 numbersOf g (c ∷ cs) = numberOf g c ∷ numbersOf (call g c) cs
 
+-- ---- their receipts
+
 -- "The receipt of an Issue call is its details with its 64 signature bytes or the failed device."
-unfoldable pub receiptOfCall : Call → Receipt
+unfoldable pub receiptOfCall : Order → Receipt
 receiptOfCall c = record { details = c .details; signature = givenSignature (c .signature) }
 
 -- the receipts of the calls that were not refused, in order
 unfoldable pub receiptsOf : Register → List Call → List Receipt
 receiptsOf g [] = []
-receiptsOf g (c ∷ cs) = ifZero (numberOf g c) (receiptOfCall c ∷ receiptsOf (call g c) cs) (receiptsOf (call g c) cs)
+receiptsOf g (issue c ∷ cs) =
+    ifZero (numberOf g (issue c)) (receiptOfCall c ∷ receiptsOf (call g (issue c)) cs) (receiptsOf (call g (issue c)) cs)
+receiptsOf g (change s ∷ cs) = receiptsOf (call g (change s)) cs
+
+-- a serial, and the receipts under it
+pub record Section : Type 0 where
+  pub serial : Name
+  pub receipts : List Receipt
+
+-- the sections that the calls make which are not refused: the open one takes a receipt, or it is closed by a new serial
+unfoldable pub sectionsFrom : Register → Section → List Call → List Section
+sectionsFrom g x [] = x ∷ []
+sectionsFrom g x (issue c ∷ cs) =
+    ifZero (numberOf g (issue c)) (sectionsFrom (call g (issue c)) (record { serial = x .serial; receipts = x .receipts ++ (receiptOfCall c ∷ []) }) cs)
+    (sectionsFrom (call g (issue c)) x cs)
+sectionsFrom g x (change s ∷ cs) =
+    ifZero (numberOf g (change s)) (x ∷ sectionsFrom (call g (change s)) (record { serial = s; receipts = [] }) cs)
+    (sectionsFrom (call g (change s)) x cs)
+
+-- the sections of a journal's pairs
+unfoldable pub sectionsIn : List Pair → List Section
+sectionsIn [] = []
+sectionsIn (p ∷ ps) = record { serial = p .serial; receipts = receiptsIn (p .entries) } ∷ sectionsIn ps
 
 -- ---- a journal written again
 
--- the call that issues the receipt of an entry: with its 64 signature bytes, or with no bytes if the device had failed
-unfoldable pub callOf : Entry → Call
-callOf e = record { details = e .fields .details; signature = cond (e .signature .failed) [] (e .signature .bytes) }
+-- what issues the receipt of an entry again: with its 64 signature bytes, or with no bytes if the device had failed
+unfoldable pub orderOf : Entry → Order
+orderOf e = record { details = e .fields .details; signature = cond (e .signature .failed) [] (e .signature .bytes) }
 
 -- "one Issue for each entry, in order"
-unfoldable pub callsOf : List Entry → List Call
+unfoldable pub issuesOf : List Entry → List Call
+issuesOf [] = []
+issuesOf (e ∷ es) = issue (orderOf e) ∷ issuesOf es
+
+-- "at the start of each later pair, a Change to that pair's serial"
+unfoldable pub laterCalls : List Pair → List Call
+laterCalls [] = []
+laterCalls (p ∷ ps) = change (p .serial) ∷ (issuesOf (p .entries) ++ laterCalls ps)
+
+-- "the list that writes a journal again opens with its first serial"
+unfoldable pub callsOf : List Pair → List Call
 callsOf [] = []
-callsOf (e ∷ es) = callOf e ∷ callsOf es
+callsOf (p ∷ ps) = issuesOf (p .entries) ++ laterCalls ps

@@ -1,6 +1,7 @@
 -- Take over: "(journal, key, N) returns the state, or a number, the index of the entry from 0 and the unopened state".
-use Prim.Native.Nat.{ℕ, zero, suc, _+_}
-use mathlib.Core.Bool.{Bool, cond, not, _&&_, _||_}
+use Prim.Native.Nat.{ℕ, zero, suc, _+_, _≤_}
+use mathlib.Core.Path.{_≡_}
+use mathlib.Core.Bool.{Bool, true, cond, not, _&&_, _||_}
 use mathlib.Core.List.{List, [], _∷_}
 use lib.Dec.{leb}
 use lib.IntN.{ℤ}
@@ -16,9 +17,10 @@ use Rattle.receipt.specs.Compact.{noEntry, readEntry}
 use Rattle.receipt.specs.declared.payload.PayloadFields.{PayloadFields}
 use Rattle.receipt.specs.declared.entry.Entry.{Entry}
 use Rattle.receipt.specs.declared.entry.Found.{Found}
-use Rattle.journal.specs.State.{unopened, settingsNow, countPlaceNow}
-use Rattle.journal.specs.Head.{headSettings, headGood, entryText, there, textAt}
-use Rattle.journal.specs.Step.{fresh, soundAlone, sound, numberAbove, firstGood, newCounter, next}
+use Rattle.journal.specs.State.{unopened, serialsGood, settingsNow, countPlaceNow}
+use Rattle.journal.specs.Head.{headSettings, headGood, entryText, there, textAt, serialAt, startThere}
+use Rattle.journal.specs.Step.{fresh, soundAlone, sound, numberAbove, firstGood, newCounter, next, renewed}
+use Rattle.journal.specs.Changing.{serialNumber}
 use Rattle.primitives.specs.Questions.{ask, ifZero}
 use Rattle.journal.specs.declared.state.State.{State}
 use Rattle.journal.specs.declared.state.TakenOver.{TakenOver}
@@ -38,7 +40,7 @@ unfoldable pub counterRight : List (List ℕ) → State → PayloadFields → Bo
 counterRight schedule st f =
     newCounter st (f .details) .fits
     && (not (standard (f .details .kind))
-    || equal (decryptedCounter schedule (settingsNow st .id) (f .details .number) (st .width) (f .counter)) (newCounter st (f .details) .counter))
+    || equal (decryptedCounter schedule (st .id) (f .details .number) (st .width) (f .counter)) (newCounter st (f .details) .counter))
 
 -- 17: "Number above the last?" 18: "First one standard with five zeros?" 19: "Chain field right?" 20
 unfoldable pub contextNumber : List (List ℕ) → State → PayloadFields → ℕ
@@ -54,7 +56,7 @@ textNumber schedule st text = ask (found st text .ok) 16 (contextNumber schedule
 unfoldable pub after : State → List ℕ → State
 after st text = next st (found st text .entry .fields .details) text
 
--- ---- one step: the state's journal length is the place, its receipts issued are the index
+-- ---- one step: an entry, the start of a pair, or nothing. The state's journal length is the place, its receipts issued are the index
 
 -- 15 to 20, asked of the entry at the state's place
 unfoldable pub entryNumber : List (List ℕ) → State → List ℕ → ℕ
@@ -74,16 +76,33 @@ textChecked schedule st text = checked (textNumber schedule st text) st text
 unfoldable pub placeChecked : List (List ℕ) → State → List ℕ → Checked
 placeChecked schedule st j = checked (entryNumber schedule st j) st (textAt j (st .length))
 
--- "After the last: no byte left? 21"
-unfoldable pub endChecked : State → List ℕ → Checked
-endChecked st j = stopped (ask (leb (length j) (st .length)) 21 0) st
+-- ---- after the last entry of a section
 
--- as many entries have been read as the receipts count says
+-- "21 for bytes that start no good serial with a whole receipts count", then 30 and 31
+unfoldable pub startNumber : State → List ℕ → ℕ
+startNumber st j = ask (startThere j (st .length)) 21 (serialNumber st (serialAt j (st .length)) 0)
+
+-- the start of a pair: no entry is read, and its serial is the newest
+unfoldable pub startChecked : State → List ℕ → Checked
+startChecked st j = ifZero (startNumber st j) (stopped 0 (renewed st (serialAt j (st .length)))) (stopped (startNumber st j) st)
+
+-- "reads such pairs to the end": no byte left, or the start of a pair
+unfoldable pub endChecked : State → List ℕ → Checked
+endChecked st j = cond (leb (length j) (st .length)) (stopped 0 st) (startChecked st j)
+
+-- the open section has as many entries as its count says
 unfoldable pub full : State → List ℕ → Bool
-full st j = leb (countAt j (countPlaceNow st) 4) (st .issued)
+full st j = leb (countAt j (countPlaceNow st) 4) (st .section)
 
 unfoldable pub oneStep : List (List ℕ) → State → List ℕ → Checked
 oneStep schedule st j = cond (full st j) (endChecked st j) (placeChecked schedule st j)
+
+-- what the states of a take-over keep, so that no step traps
+pub record Steady (st : State) (j : List ℕ) : Type 0 where
+  pub serials : serialsGood (st .serials) ≡ true
+  pub issued : st .issued ≤ st .last
+  pub section : st .section ≤ st .issued
+  pub place : st .place + 4 ≤ length j
 
 -- n steps, up to the first that is refused: its number, and the state before it
 unfoldable pub steps : List (List ℕ) → ℕ → State → List ℕ → Step
@@ -101,7 +120,7 @@ refused number index = record { number = number; index = index; state = unopened
 unfoldable pub accepted : State → TakenOver
 accepted st = record { number = 0; index = 0; state = st }
 
--- the index of a refusal is that of its entry: the number of receipts before it
+-- "Every index counts all receipts before it."
 unfoldable pub lastAnswer : Step → TakenOver
 lastAnswer s = ifZero (s .number) (accepted (s .state)) (refused (s .number) (s .state .issued))
 
@@ -109,7 +128,7 @@ lastAnswer s = ifZero (s .number) (accepted (s .state)) (refused (s .number) (s 
 unfoldable pub headNumber : List ℕ → ℕ → ℕ
 headNumber j n = ask (widthGood n) 4 (ask (headGood j) 14 0)
 
--- an entry takes at least two bytes, so as many steps as the journal has bytes cover all of it
+-- an entry takes at least two bytes and the start of a pair nine, so as many steps as the journal has bytes cover all of it
 unfoldable pub takeOver : List ℕ → List ℕ → ℕ → TakenOver
 takeOver j key n =
     ifZero (headNumber j n) (lastAnswer (steps (keySchedule key) (length j) (fresh (headSettings j) n key) j)) (refused (headNumber j n) 0)
@@ -126,9 +145,10 @@ entryChecked schedule st text = cond (entryReady st text) (textChecked schedule 
 unfoldable pub stepChecked : List (List ℕ) → State → List ℕ → Checked
 stepChecked schedule st j = cond (sound st (length j)) (oneStep schedule st j) (stopped 6 st)
 
--- the entries that these steps read, up to the first step that reads nothing
+-- the entries that these steps read; a step that is refused, that starts a pair or that finds the end reads none
 unfoldable pub readBySteps : List (List ℕ) → ℕ → State → List ℕ → List Entry
 readBySteps schedule zero st j = []
 readBySteps schedule (suc n) st j =
     cond (stepChecked schedule st j .found .ok)
-    (stepChecked schedule st j .found .entry ∷ readBySteps schedule n (stepChecked schedule st j .state) j) []
+    (stepChecked schedule st j .found .entry ∷ readBySteps schedule n (stepChecked schedule st j .state) j)
+    (readBySteps schedule n (stepChecked schedule st j .state) j)

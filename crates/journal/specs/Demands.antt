@@ -1,7 +1,7 @@
 -- What must hold of journals and calls, as statements; the proofs are in proofs/.
 use Prim.Native.Nat.{ℕ, _+_, _≤_, _<_}
 use mathlib.Core.Path.{_≡_}
-use mathlib.Core.List.{List, _∷_, _++_}
+use mathlib.Core.List.{List, [], _∷_, _++_}
 use lib.ListN.{length, take, drop, replicate, getD}
 use Rattle.primitives.specs.Bytes.{AllBytes}
 use Rattle.primitives.specs.Place.{overwrite}
@@ -10,20 +10,22 @@ use Rattle.receipt.specs.Chain.{hashInput}
 use Rattle.receipt.specs.Form.{secondDot}
 use Rattle.receipt.specs.Compact.{compact}
 use Rattle.receipt.specs.LineLaws.{LineOf}
+use Rattle.receipt.specs.declared.settings.Name.{Name}
 use Rattle.receipt.specs.declared.settings.Settings.{Settings}
 use Rattle.receipt.specs.declared.details.Details.{Details}
 use Rattle.receipt.specs.declared.entry.Entry.{Entry}
-use Rattle.journal.specs.Head.{headLength, countPlace, entryText, there, textAt}
+use Rattle.journal.specs.Head.{section, entryText, there, textAt}
 use Rattle.journal.specs.State.{unopened, countPlaceNow}
-use Rattle.receipt.specs.Settings.{TypedSettings}
+use Rattle.receipt.specs.Settings.{nameText, TypedSettings}
 use Rattle.journal.specs.Opening.{openNumber, opened, openBuffer}
 use Rattle.journal.specs.Issuing.{textOf, issueNumber, issued, issueBuffer}
+use Rattle.journal.specs.Changing.{changed, changeBuffer}
 use Rattle.journal.specs.Preparing.{preparedText, prepareNumber, prepareAnswer, prepareBuffer}
 use Rattle.journal.specs.Checking.{refused, accepted, takeOver, full, stepChecked, entryChecked, readBySteps}
 use Rattle.journal.specs.Receipts.{receiptsIn, sum}
-use Rattle.journal.specs.Valid.{Valid, texts, stateAfter}
+use Rattle.journal.specs.Valid.{Owner, Pair, Placed, pairTexts, ownerText, journalText, allPlaced, entriesIn, stateAfter, Valid, headOf}
 use Rattle.journal.specs.FirstNo.{NoAt}
-use Rattle.journal.specs.Calls.{Call, TypedCalls, Register, journalOf, opening, calls, numbersOf, receiptsOf, callsOf}
+use Rattle.journal.specs.Calls.{Call, TypedCalls, Register, journalOf, opening, calls, numbersOf, receiptsOf, Section, sectionsFrom, sectionsIn, callsOf}
 use Rattle.journal.specs.declared.state.State.{State}
 use Rattle.journal.specs.Step.{fresh, sound}
 use Rattle.primitives.specs.Aes.{keySchedule}
@@ -34,23 +36,25 @@ abbrev pub AcceptedIsValid : Type 0
 AcceptedIsValid =
     (j key : List ℕ) (n : ℕ) → AllBytes j → (takeOver j key n .number ≡ 0 → Valid j key n) × (Valid j key n → takeOver j key n .number ≡ 0)
 
--- the state that it returns is the one of the journal's head and entries
+-- the state that it returns is the one of the journal's pairs
 abbrev pub StateOfJournal : Type 0
-StateOfJournal = (j key : List ℕ) (n : ℕ) (v : Valid j key n) → takeOver j key n ≡ accepted (stateAfter (v .settings) key n (v .entries))
+StateOfJournal = (j key : List ℕ) (n : ℕ) (v : Valid j key n) → takeOver j key n ≡ accepted (stateAfter (v .owner) key n (v .pairs))
 
--- a journal is valid with only one head and one list of entries
+-- a journal is valid with only one CSP, one ID and one list of pairs
 abbrev pub OneReading : Type 0
-OneReading = (j key : List ℕ) (n : ℕ) (v w : Valid j key n) → (v .settings ≡ w .settings) × (v .entries ≡ w .entries)
+OneReading = (j key : List ℕ) (n : ℕ) (v w : Valid j key n) → (v .owner ≡ w .owner) × (v .pairs ≡ w .pairs)
 
 -- ---- demand 3: lists of calls
 
--- what holds after the calls cs from the register g on
-pub record Written (key : List ℕ) (n : ℕ) (g : Register) (cs : List Call) : Type 0 where
+-- what holds after the calls cs from the register g on, whose open section is x
+pub record Written (key : List ℕ) (n : ℕ) (g : Register) (x : Section) (cs : List Call) : Type 0 where
   -- the journal is accepted, with the register's own state
   pub taken : takeOver (journalOf (calls g cs)) key n ≡ accepted (calls g cs .state)
   -- its receipts are those of the calls that were not refused, in order
   pub valid : Valid (journalOf (calls g cs)) key n
-  pub receipts : (v : Valid (journalOf (calls g cs)) key n) → receiptsIn (v .entries) ≡ receiptsOf g cs
+  pub receipts : (v : Valid (journalOf (calls g cs)) key n) → receiptsIn (entriesIn (v .pairs)) ≡ receiptsOf g cs
+  -- and each is under the serial that was the newest when it was issued
+  pub sections : (v : Valid (journalOf (calls g cs)) key n) → sectionsIn (v .pairs) ≡ sectionsFrom g x cs
   -- the counter is the sum of their amounts
   pub counter : calls g cs .state .counter ≡ sum (receiptsOf g cs)
 
@@ -58,25 +62,25 @@ pub record Written (key : List ℕ) (n : ℕ) (g : Register) (cs : List Call) : 
 abbrev pub WrittenIsAccepted : Type 0
 WrittenIsAccepted =
     (s : Settings) (key : List ℕ) (shared : Bool) (n : ℕ) (buf : List ℕ) → TypedSettings s → AllBytes key → openNumber s shared n (length buf) ≡ 0
-    → (cs : List Call) → TypedCalls cs → Written key n (opening s key shared n buf) cs
+    → (cs : List Call) → TypedCalls cs → Written key n (opening s key shared n buf) (record { serial = s .serial; receipts = [] }) cs
 
 -- what holds if a valid journal is written again, into a buffer
-pub record Again (j key : List ℕ) (n : ℕ) (v : Valid j key n) (buf : List ℕ) : Type 0 where
+pub record Again (j key : List ℕ) (n : ℕ) (s : Settings) (ps : List Pair) (buf : List ℕ) : Type 0 where
   -- "Open with the CSP, ID and serial of its head, the key and N under which it was accepted", "an unmarked Open": not refused
-  pub opened : openNumber (v .settings) false n (length buf) ≡ 0
-  -- one call for each entry, within the code's types: none is refused
-  pub typed : TypedCalls (callsOf (v .entries))
-  pub none : numbersOf (opening (v .settings) key false n buf) (callsOf (v .entries)) ≡ replicate (length (v .entries)) 0
+  pub opened : openNumber s false n (length buf) ≡ 0
+  -- an Issue for each entry and a Change for each later pair, within the code's types: none is refused
+  pub typed : TypedCalls (callsOf ps)
+  pub none : numbersOf (opening s key false n buf) (callsOf ps) ≡ replicate (length (callsOf ps)) 0
   -- the buffer is the journal, byte by byte
-  pub journal : calls (opening (v .settings) key false n buf) (callsOf (v .entries)) .buf ≡ j
+  pub journal : calls (opening s key false n buf) (callsOf ps) .buf ≡ j
   -- the state is the one that Take over gave
-  pub state : calls (opening (v .settings) key false n buf) (callsOf (v .entries)) .state ≡ takeOver j key n .state
-  pub counter : takeOver j key n .state .counter ≡ sum (receiptsIn (v .entries))
+  pub state : calls (opening s key false n buf) (callsOf ps) .state ≡ takeOver j key n .state
+  pub counter : takeOver j key n .state .counter ≡ sum (receiptsIn (entriesIn ps))
 
 -- for every accepted journal, "and any buffer of its length"
 abbrev pub AcceptedIsWritten : Type 0
 AcceptedIsWritten =
-    (j key : List ℕ) (n : ℕ) → AllBytes key → (v : Valid j key n) (buf : List ℕ) → length buf ≡ length j → Again j key n v buf
+    (j key : List ℕ) (n : ℕ) → AllBytes key → (v : Valid j key n) (buf : List ℕ) → length buf ≡ length j → Again j key n (headOf (v .owner) (v .pairs)) (v .pairs) buf
 
 -- demand 3 as one theorem: what the writer writes is accepted with its receipts and their sum, and the writer can write again what is accepted
 pub record WritingAndCheckingAgree : Type 0 where
@@ -87,32 +91,39 @@ pub record WritingAndCheckingAgree : Type 0 where
 
 -- ---- journals
 
--- a journal that is valid with these entries
-pub record ValidWith (j key : List ℕ) (n : ℕ) (es : List Entry) : Type 0 where
+-- a journal that is valid with these pairs
+pub record ValidWith (j key : List ℕ) (n : ℕ) (o : Owner) (ps : List Pair) : Type 0 where
   pub valid : Valid j key n
-  pub entries : valid .entries ≡ es
+  pub owner : valid .owner ≡ o
+  pub pairs : valid .pairs ≡ ps
 
--- "Dropping last entries and lowering the count leaves a valid journal."
+-- what stands before the count of a pair with this serial, after the pairs ps
+abbrev pub beforeCount : Owner → ℕ → List Pair → Name → List ℕ
+beforeCount o n ps serial = ownerText o ++ (pairTexts o n ps ++ section (nameText serial))
+
+-- "Dropping last entries and lowering the count leaves a valid journal", and so does dropping whole last pairs with them
 abbrev pub Dropping : Type 0
 Dropping =
-    (j key : List ℕ) (n : ℕ) (v : Valid j key n) (kept dropped : List Entry) → v .entries ≡ kept ++ dropped
-    → ValidWith (overwrite (take (headLength (v .settings) + length (texts (v .settings) n kept)) j) (countPlace (v .settings)) (bytesOf 4 (length kept))) key n kept
+    (j key : List ℕ) (n : ℕ) (v : Valid j key n) (before : List Pair) (serial : Name) (kept dropped : List Entry) (later : List Pair)
+    → v .pairs ≡ before ++ (record { serial = serial; entries = kept ++ dropped } ∷ later)
+    → ValidWith (overwrite (take (length (journalText (v .owner) n (before ++ (record { serial = serial; entries = kept } ∷ [])))) j)
+    (length (beforeCount (v .owner) n before serial)) (bytesOf 4 (length kept))) key n (v .owner) (before ++ (record { serial = serial; entries = kept } ∷ []))
 
--- "Within one journal rising numbers make every hash input for an IV different."
+-- "Within one journal rising numbers make every hash input for an IV different", across its pairs
 abbrev pub InputsDiffer : Type 0
 InputsDiffer =
-    (j key : List ℕ) (n : ℕ) (v : Valid j key n) (a b c : List Entry) (e f : Entry) → v .entries ≡ a ++ (e ∷ (b ++ (f ∷ c)))
-    → hashInput (v .settings .id) (e .fields .details .number) ≡ hashInput (v .settings .id) (f .fields .details .number) → ⊥
+    (j key : List ℕ) (n : ℕ) (v : Valid j key n) (a b c : List Entry) (e f : Entry) → entriesIn (v .pairs) ≡ a ++ (e ∷ (b ++ (f ∷ c)))
+    → hashInput (v .owner .id) (e .fields .details .number) ≡ hashInput (v .owner .id) (f .fields .details .number) → ⊥
 
 -- every receipt of a valid journal has an optical line: Code makes its code, the line is made of that, and is turned back into it
 abbrev pub EveryReceiptHasLine : Type 0
 EveryReceiptHasLine =
-    (j key : List ℕ) (n : ℕ) (v : Valid j key n) (before : List Entry) (e : Entry) (later : List Entry) → v .entries ≡ before ++ (e ∷ later)
-    → LineOf (compact (v .settings) n e)
+    (j key : List ℕ) (n : ℕ) (v : Valid j key n) (before : List Placed) (x : Placed) (later : List Placed) → allPlaced (v .owner) (v .pairs) ≡ before ++ (x ∷ later)
+    → LineOf (compact (x .settings) n (x .entry))
 
 -- ---- Issue
 
--- "appends an entry, rewrites the receipts count, and touches no other byte"
+-- "appends an entry, rewrites the receipts count", that of the open section, "and touches no other byte"
 abbrev pub TouchesNoOther : Type 0
 TouchesNoOther =
     (st : State) (d : Details) (sig buf : List ℕ) (i : ℕ) → (countPlaceNow st ≤ i → i < countPlaceNow st + 4 → ⊥)
@@ -133,6 +144,8 @@ pub record RefusedChangesNothing : Type 0 where
       → (opened s key shared n (length buf) .state ≡ unopened) × (openBuffer s shared n buf ≡ buf)
   pub issues : (st : State) (d : Details) (sig buf : List ℕ) → (issued st d sig (length buf) .number ≡ 0 → ⊥)
       → (issued st d sig (length buf) .state ≡ st) × (issueBuffer st d sig buf ≡ buf)
+  pub changes : (st : State) (serial : Name) (buf : List ℕ) → (changed st serial (length buf) .number ≡ 0 → ⊥)
+      → (changed st serial (length buf) .state ≡ st) × (changeBuffer st serial buf ≡ buf)
   pub prepares : (st : State) (d : Details) (out : List ℕ) → (prepareAnswer st d (length out) .number ≡ 0 → ⊥)
       → (prepareAnswer st d (length out) .length ≡ 0) × (prepareBuffer st d out ≡ out)
   pub takes : (j key : List ℕ) (n : ℕ) → (takeOver j key n .number ≡ 0 → ⊥) → takeOver j key n .state ≡ unopened
@@ -160,11 +173,11 @@ FirstNo =
 
 -- ---- steps for other readers
 
--- from the fresh state on, the steps over a valid journal read its entries, in order, and then nothing
+-- from the fresh state on, as many steps as a valid journal has bytes read its entries, pair after pair and in order
 abbrev pub StepsReadEntries : Type 0
 StepsReadEntries =
-    (j key : List ℕ) (n : ℕ) (v : Valid j key n) (m : ℕ) → length (v .entries) ≤ m
-    → readBySteps (keySchedule key) m (fresh (v .settings) n key) j ≡ v .entries
+    (j key : List ℕ) (n : ℕ) (v : Valid j key n) (m : ℕ) → length j ≤ m
+    → readBySteps (keySchedule key) m (fresh (headOf (v .owner) (v .pairs)) n key) j ≡ entriesIn (v .pairs)
 
 -- if an entry is left to read and is complete, the step in the journal is that of the entry's bytes
 abbrev pub StepIsItsEntry : Type 0

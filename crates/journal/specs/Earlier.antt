@@ -11,26 +11,25 @@ use Rattle.receipt.specs.Settings.{TypedSettings}
 use Rattle.receipt.specs.Details.{amountsWithin}
 use Rattle.receipt.specs.declared.settings.Settings.{Settings}
 use Rattle.receipt.specs.declared.details.Details.{Details}
-use Rattle.receipt.specs.declared.entry.Entry.{Entry}
 use Rattle.journal.specs.Opening.{openNumber}
 use Rattle.journal.specs.Issuing.{issueNumberWithin, issued, issuedWithin, issueBuffer, issueBufferWithin}
 use Rattle.journal.specs.Checking.{accepted, takeOver}
-use Rattle.journal.specs.Valid.{Valid, ValidWithin, stateAfter}
+use Rattle.journal.specs.Valid.{Placed, allPlaced, Valid, ValidWithin, stateAfter}
 use Rattle.journal.specs.Calls.{Call, TypedCalls, journalOf, opening, callsWithin}
 use Rattle.journal.specs.declared.state.State.{State}
 
--- a journal that was valid under a limit is valid, with the same head and the same entries, and Take over gives their state
+-- a journal that was valid under a limit is valid, with the same CSP, ID and pairs, and Take over gives their state
 pub record StaysAccepted (limit : ℕ) (j key : List ℕ) (n : ℕ) (v : ValidWithin limit j key n) : Type 0 where
   pub valid : Valid j key n
-  pub settings : valid .settings ≡ v .settings
-  pub entries : valid .entries ≡ v .entries
-  pub taken : takeOver j key n ≡ accepted (stateAfter (v .settings) key n (v .entries))
+  pub owner : valid .owner ≡ v .owner
+  pub pairs : valid .pairs ≡ v .pairs
+  pub taken : takeOver j key n ≡ accepted (stateAfter (v .owner) key n (v .pairs))
 
 -- every old journal is accepted as before
 pub record OldJournalsStayAccepted : Type 0 where
   -- "each from -9,999,999,999 to 9,999,999,999": the former limit is one of these
   pub former : 9999999999 ≤ amountLimit
-  -- a journal that was valid, with number and index 0 and the state that its head and entries give
+  -- a journal that was valid, with number and index 0 and the state that its pairs give
   pub valid : (limit : ℕ) → limit ≤ amountLimit → (j key : List ℕ) (n : ℕ) (v : ValidWithin limit j key n) → StaysAccepted limit j key n v
   -- a journal that a register wrote by any list of calls, refused ones among them, with the state that this register has
   pub written : (limit : ℕ) → limit ≤ amountLimit → (s : Settings) (key : List ℕ) (shared : Bool) (n : ℕ) (buf : List ℕ) → TypedSettings s → AllBytes key
@@ -51,5 +50,6 @@ pub record OldCallsStay : Type 0 where
 abbrev pub OnlyTheLimitMoved : Type 0
 OnlyTheLimitMoved =
     (limit : ℕ) (j key : List ℕ) (n : ℕ) (v : Valid j key n)
-    → ((before : List Entry) (e : Entry) (later : List Entry) → v .entries ≡ before ++ (e ∷ later) → amountsWithin limit (e .fields .details .amounts) ≡ true)
+    → ((before : List Placed) (x : Placed) (later : List Placed) → allPlaced (v .owner) (v .pairs) ≡ before ++ (x ∷ later)
+    → amountsWithin limit (x .entry .fields .details .amounts) ≡ true)
     → ValidWithin limit j key n

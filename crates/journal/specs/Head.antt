@@ -1,12 +1,14 @@
 -- The layout of a journal: "four sections, each after its count in four bytes, big-endian: CSP (count 3), ID, serial (both counts in bytes),
--- receipts (count of entries). The first three with all four counts are the head".
+-- receipts (count of entries). The first three with all four counts are the head". A change of the certificate "appends a new serial section
+-- and an empty receipts section": serial and receipts sections come in pairs.
 use Prim.Native.Nat.{ℕ, _+_, _-_}
 use mathlib.Core.Bool.{Bool, _&&_}
 use mathlib.Core.List.{List, _++_}
 use lib.Dec.{leb, eqb}
 use lib.ListN.{length, take, drop}
 use Rattle.primitives.specs.Number.{bytesOf, countAt}
-use Rattle.receipt.specs.Settings.{nameText, nameOf, settingsGood}
+use Rattle.receipt.specs.Settings.{nameText, nameOf, serialGood, settingsGood}
+use Rattle.receipt.specs.declared.settings.Name.{Name}
 use Rattle.receipt.specs.declared.settings.Settings.{Settings}
 
 -- ---- a section
@@ -22,6 +24,20 @@ sectionText j at = take (countAt j at 4) (drop (at + 4) j)
 unfoldable pub sectionEnd : List ℕ → ℕ → ℕ
 sectionEnd j at = at + 4 + countAt j at 4
 
+-- ---- a pair
+
+-- its start: the section of its serial, and the count of its entries
+unfoldable pub pairStart : Name → ℕ → List ℕ
+pairStart serial count = section (nameText serial) ++ bytesOf 4 count
+
+-- the serial in the section at a place
+unfoldable pub serialAt : List ℕ → ℕ → Name
+serialAt j at = nameOf (sectionText j at)
+
+-- 21: "a good serial with a whole receipts count" stands at a place
+unfoldable pub startThere : List ℕ → ℕ → Bool
+startThere j at = leb (sectionEnd j at + 4) (length j) && serialGood (serialAt j at)
+
 -- ---- the head, written
 
 -- what stands before the receipts count
@@ -36,7 +52,7 @@ head s count = front s ++ bytesOf 4 count
 unfoldable pub headLength : Settings → ℕ
 headLength s = 19 + s .id .len + s .serial .len
 
--- the place of the receipts count, at the end of the head
+-- the place of the first receipts count, at the end of the head
 unfoldable pub countPlace : Settings → ℕ
 countPlace s = headLength s - 4
 
@@ -50,7 +66,7 @@ unfoldable pub countPlaceIn : List ℕ → ℕ
 countPlaceIn j = sectionEnd j (serialPlace j)
 
 unfoldable pub headSettings : List ℕ → Settings
-headSettings j = record { csp = sectionText j 0; id = nameOf (sectionText j 7); serial = nameOf (sectionText j (serialPlace j)) }
+headSettings j = record { csp = sectionText j 0; id = nameOf (sectionText j 7); serial = serialAt j (serialPlace j) }
 
 -- 14: "Head whole and good by 1 to 3?"
 unfoldable pub headGood : List ℕ → Bool

@@ -1,4 +1,6 @@
 pub mod Calls
+pub mod Certificates
+pub mod Changing
 pub mod Checking
 pub mod Demands
 pub mod Earlier

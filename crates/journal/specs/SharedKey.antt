@@ -18,7 +18,7 @@ use Rattle.journal.specs.State.{unopened}
 use Rattle.journal.specs.Step.{fresh}
 use Rattle.journal.specs.Opening.{openNumber, opened, openBuffer}
 use Rattle.journal.specs.Checking.{accepted, takeOver}
-use Rattle.journal.specs.Valid.{Valid}
+use Rattle.journal.specs.Valid.{entriesIn, Valid}
 use Rattle.journal.specs.Calls.{Call, TypedCalls, Register, journalOf, calls}
 
 -- ---- what is promised
@@ -33,11 +33,11 @@ SharedKeyNeverRepeats =
 abbrev pub JournalsNeverRepeat : Type 0
 JournalsNeverRepeat =
     (j k key other : List ℕ) (n m : ℕ) (v : Valid j key n) (w : Valid k other m)
-    → endsInDigit (v .settings .id) ≡ false → endsInDigit (w .settings .id) ≡ false
-    → (before later : List Entry) (e : Entry) → v .entries ≡ before ++ (e ∷ later)
-    → (first rest : List Entry) (f : Entry) → w .entries ≡ first ++ (f ∷ rest)
-    → hashInput (v .settings .id) (e .fields .details .number) ≡ hashInput (w .settings .id) (f .fields .details .number)
-    → (v .settings .id ≡ w .settings .id) × (e .fields .details .number ≡ f .fields .details .number)
+    → endsInDigit (v .owner .id) ≡ false → endsInDigit (w .owner .id) ≡ false
+    → (before later : List Entry) (e : Entry) → entriesIn (v .pairs) ≡ before ++ (e ∷ later)
+    → (first rest : List Entry) (f : Entry) → entriesIn (w .pairs) ≡ first ++ (f ∷ rest)
+    → hashInput (v .owner .id) (e .fields .details .number) ≡ hashInput (w .owner .id) (f .fields .details .number)
+    → (v .owner .id ≡ w .owner .id) × (e .fields .details .number ≡ f .fields .details .number)
 
 -- ---- what is asked
 

@@ -1,26 +1,27 @@
--- One more receipt: what is asked of the state and of the details, the fields that the receipt gets, and the state after it.
--- Writing and checking both build on this.
+-- One step of a register: what is asked of the state and of the details, the fields that a receipt gets, and the state after a receipt
+-- or after the start of a pair. Writing and checking both build on this.
 use Prim.Native.Nat.{ℕ, _+_}
 use mathlib.Core.Bool.{Bool, true, cond, _&&_}
-use mathlib.Core.List.{List}
+use mathlib.Core.List.{List, [], _∷_}
 use lib.Dec.{ltb, leb, eqb}
 use lib.IntN.{pos}
 use lib.ListN.{length, replicate}
 use Rattle.primitives.specs.Questions.{ask}
 use Rattle.primitives.specs.Counter.{widthGood, counterFits}
 use Rattle.primitives.specs.Aes.{keySchedule}
-use Rattle.receipt.specs.Settings.{nameText, settingsGood}
+use Rattle.receipt.specs.Settings.{nameText, cspGood, idGood}
 use Rattle.receipt.specs.DateTime.{dateGood}
 use Rattle.receipt.specs.Amount.{amountLimit}
 use Rattle.receipt.specs.Details.{standard, amountsWithin, startGood, counterAfter}
 use Rattle.receipt.specs.Chain.{chainValue, encryptedCounter}
+use Rattle.receipt.specs.declared.settings.Name.{Name}
 use Rattle.receipt.specs.declared.settings.Settings.{Settings}
 use Rattle.receipt.specs.declared.details.Details.{Details}
 use Rattle.receipt.specs.declared.details.After.{After}
 use Rattle.receipt.specs.declared.payload.PayloadFields.{PayloadFields}
-use Rattle.journal.specs.Head.{headLength, entryText}
+use Rattle.journal.specs.Head.{headLength, countPlace, entryText}
 use Rattle.journal.specs.declared.state.State.{State}
-use Rattle.journal.specs.State.{settingsNow, headLengthNow}
+use Rattle.journal.specs.State.{inEight, added, serialsGood, headLengthNow}
 
 -- ---- the state of a register without receipts
 
@@ -28,7 +29,9 @@ use Rattle.journal.specs.State.{settingsNow, headLengthNow}
 unfoldable pub fresh : Settings → ℕ → List ℕ → State
 fresh s n key =
     record {
-      settings = s;
+      csp = s .csp;
+      id = s .id;
+      serials = inEight (s .serial ∷ []);
       width = n;
       key = key;
       counter = pos 0;
@@ -36,16 +39,25 @@ fresh s n key =
       issued = 0;
       chain = chainValue (nameText (s .id));
       length = headLength s;
+      section = 0;
+      place = countPlace s;
     }
 
 -- ---- the questions
 
--- 6, without its part about the buffer: "settings meet 1 to 4, counter fits N bytes, receipts issued no more than last number, head length ≤ journal length"
+-- "that count to end within the journal length"
+unfoldable pub countWithin : State → Bool
+countWithin st = leb (st .place + 4) (st .length)
+
+-- 6, without its part about the buffer: "settings meet 1 to 4, counter fits N bytes, receipts issued no more than last number, head length ≤ journal
+-- length"; "takes the head by the first serial and also wants one to eight good serials with zeros behind, no more receipts in the open section than
+-- issued, and that count to end within the journal length"
 unfoldable pub soundAlone : State → Bool
 soundAlone st =
-    settingsGood (settingsNow st)
+    (cspGood (st .csp) && (idGood (st .id) && serialsGood (st .serials)))
     && (widthGood (st .width)
-    && (counterFits (st .width) (st .counter) && (leb (st .issued) (st .last) && leb (headLengthNow st) (st .length))))
+    && (counterFits (st .width) (st .counter)
+    && ((leb (st .issued) (st .last) && leb (st .section) (st .issued)) && (countWithin st && leb (headLengthNow st) (st .length)))))
 
 -- 6: and "journal length ≤ buffer length"
 unfoldable pub sound : State → ℕ → Bool
@@ -84,7 +96,7 @@ fieldsOf st d =
       details = d;
       counter =
           cond (standard (d .kind))
-          (encryptedCounter (keySchedule (st .key)) (settingsNow st .id) (d .number) (st .width) (newCounter st d .counter)) (replicate 8 0);
+          (encryptedCounter (keySchedule (st .key)) (st .id) (d .number) (st .width) (newCounter st d .counter)) (replicate 8 0);
       chain = st .chain;
     }
 
@@ -94,7 +106,9 @@ fieldsOf st d =
 unfoldable pub next : State → Details → List ℕ → State
 next st d text =
     record {
-      settings = st .settings;
+      csp = st .csp;
+      id = st .id;
+      serials = st .serials;
       width = st .width;
       key = st .key;
       counter = newCounter st d .counter;
@@ -102,4 +116,24 @@ next st d text =
       issued = st .issued + 1;
       chain = chainValue text;
       length = st .length + length (entryText text);
+      section = st .section + 1;
+      place = st .place;
+    }
+
+-- the state after the start of a pair with this serial: "Counter, numbers and chain run on."
+unfoldable pub renewed : State → Name → State
+renewed st serial =
+    record {
+      csp = st .csp;
+      id = st .id;
+      serials = added (st .serials) serial;
+      width = st .width;
+      key = st .key;
+      counter = st .counter;
+      last = st .last;
+      issued = st .issued;
+      chain = st .chain;
+      length = st .length + 8 + serial .len;
+      section = 0;
+      place = st .length + 4 + serial .len;
     }

@@ -1,16 +1,19 @@
 // Taking over a journal: its head, then step by step.
+use super::changing::serial_number;
 use super::head::count_at;
 use super::head::head_settings;
 use super::head::head_whole;
+use super::head::serial_at;
+use super::head::start_there;
 use super::head::there;
 use super::state::State;
 use super::state::TakenOver;
 use super::state::settings_now;
 use super::state::unopened;
-use super::step::count_place_now;
 use super::step::first_good;
 use super::step::fresh;
 use super::step::next;
+use super::step::renewed;
 use super::step::sound;
 use super::step::sound_alone;
 use receipt::Found;
@@ -21,10 +24,9 @@ ghost use mathlib.Core.Bool.{true, false};
 ghost use Prim.Native.Nat.{_+_, _≤_, _<_};
 ghost use lib.ListN.{length};
 ghost use Rattle.primitives.specs.Bytes.{same};
-ghost use Rattle.receipt.specs.Settings.{settingsGood};
 ghost use Rattle.receipt.specs.Chain.{decryptedCounter};
-ghost use Rattle.journal.specs.Checking.{equal, counterRight, contextNumber, full, stopped, textChecked, placeChecked, endChecked, oneStep, steps, refused, lastAnswer, takeOver, entryReady, entryChecked, stepChecked};
-ghost use Rattle.journal.specs.State.{settingsNow, headLengthNow};
+ghost use Rattle.journal.specs.Checking.{equal, counterRight, contextNumber, full, stopped, textChecked, placeChecked, startChecked, endChecked, Steady, oneStep, steps, refused, lastAnswer, takeOver, entryReady, entryChecked, stepChecked};
+ghost use Rattle.journal.specs.State.{serialsGood};
 
 // ---- one entry
 
@@ -39,10 +41,9 @@ fn chain_right(st: State, f: PayloadFields) -> bool
 
 // The decrypted counter equals z.
 fn decrypts_to(schedule: &[[u8; 4]; 60], st: State, f: PayloadFields, z: i64) -> bool
-    ensures { λ r. ⌜ r ≡ equal (decryptedCounter (now (schedule .entry)) (settingsNow st .id) (f .details .number) (st .width) (f .counter)) z ⌝ }
+    ensures { λ r. ⌜ r ≡ equal (decryptedCounter (now (schedule .entry)) (st .id) (f .details .number) (st .width) (f .counter)) z ⌝ }
 {
-    let settings = settings_now(st);
-    let id = settings.id;
+    let id = st.id;
     let d = f.details;
     let bytes = f.counter;
     receipt::decrypt_counter(schedule, id, d.number, st.width, bytes) == z
@@ -85,8 +86,8 @@ fn context_number(schedule: &[[u8; 4]; 60], st: State, f: PayloadFields) -> u32
     0
 }
 
-// The answer of a step: the number of the question answered "no" and the state that it was given; or 0, what it read and the state after it.
-// After the last entry nothing is read, and the state stays as it was.
+// The answer of a step: the number of the question answered "no" and the state that it was given; or 0 and the state after it.
+// A step that reads an entry says what it read. One that starts a pair reads no entry. At the end of the journal the state stays as it was.
 pub struct Checked {
     pub number: u32,
     pub found: Found,
@@ -107,7 +108,7 @@ fn stopped(number: u32, st: State) -> Checked
 
 // Questions 16 to 20, asked of the bytes of one entry.
 fn check_text(schedule: &[[u8; 4]; 60], st: State, text: &[u8]) -> Checked
-    requires { ⌜ (st .issued ≤ st .last) × (st .length + 2 + length (now text) < 18446744073709551616) ⌝ }
+    requires { ⌜ (st .issued ≤ st .last) × (st .section ≤ st .issued) × (st .length + 2 + length (now text) < 18446744073709551616) ⌝ }
     ensures { λ r. ⌜ r ≡ textChecked (now (schedule .entry)) st (now (text .entry)) ⌝ }
 {
     let settings = settings_now(st);
@@ -132,7 +133,7 @@ fn check_text(schedule: &[[u8; 4]; 60], st: State, text: &[u8]) -> Checked
 
 // Questions 15 to 20, asked of the entry at the state's place.
 fn check_place(schedule: &[[u8; 4]; 60], st: State, j: &[u8]) -> Checked
-    requires { ⌜ st .issued ≤ st .last ⌝ }
+    requires { ⌜ (st .issued ≤ st .last) × (st .section ≤ st .issued) ⌝ }
     ensures { λ r. ⌜ r ≡ placeChecked (now (schedule .entry)) st (now (j .entry)) ⌝ }
 {
     let at = st.length;
@@ -146,28 +147,46 @@ fn check_place(schedule: &[[u8; 4]; 60], st: State, j: &[u8]) -> Checked
 
 // ---- one step
 
-// As many entries have been read as the receipts count says.
+// The open section has as many entries as its count says.
 fn full(st: State, j: &[u8]) -> bool
-    requires { ⌜ (settingsGood (settingsNow st) ≡ true) × (headLengthNow st ≤ length (now j)) ⌝ }
+    requires { ⌜ st .place + 4 ≤ length (now j) ⌝ }
     ensures { λ r. ⌜ r ≡ full st (now (j .entry)) ⌝ }
 {
-    let place = count_place_now(st);
-    count_at(j, place, 4) <= st.issued as usize
+    count_at(j, st.place, 4) <= st.section as usize
 }
 
-// After the last entry: no byte left? 21.
-fn check_end(st: State, j: &[u8]) -> Checked
-    ensures { λ r. ⌜ r ≡ endChecked st (now (j .entry)) ⌝ }
+// Questions 21, 30 and 31, asked of the start of a pair at the state's place.
+fn check_start(st: State, j: &[u8]) -> Checked
+    requires { ⌜ serialsGood (st .serials) ≡ true ⌝ }
+    ensures { λ r. ⌜ r ≡ startChecked st (now (j .entry)) ⌝ }
 {
-    if st.length < j.len() {
+    let at = st.length;
+    if !start_there(j, at) {
         return stopped(21, st);
     }
-    stopped(0, st)
+    let serial = serial_at(j, at);
+    let number = serial_number(st, serial);
+    if number != 0 {
+        return stopped(number, st);
+    }
+    let state = renewed(st, serial);
+    stopped(0, state)
 }
 
-// Checks the next entry if the count says that there is one, else the end.
+// After the last entry of a section: no byte left, or the start of a pair.
+fn check_end(st: State, j: &[u8]) -> Checked
+    requires { ⌜ serialsGood (st .serials) ≡ true ⌝ }
+    ensures { λ r. ⌜ r ≡ endChecked st (now (j .entry)) ⌝ }
+{
+    if j.len() <= st.length {
+        return stopped(0, st);
+    }
+    check_start(st, j)
+}
+
+// Checks the next entry if the count says that there is one, else what follows the section.
 fn take_step(schedule: &[[u8; 4]; 60], st: State, j: &[u8]) -> Checked
-    requires { ⌜ (st .issued ≤ st .last) × (settingsGood (settingsNow st) ≡ true) × (headLengthNow st ≤ length (now j)) ⌝ }
+    requires { ⌜ Steady st (now j) ⌝ }
     ensures { λ r. ⌜ r ≡ oneStep (now (schedule .entry)) st (now (j .entry)) ⌝ }
 {
     if full(st, j) {
@@ -186,7 +205,7 @@ struct Step {
 
 // Takes n steps, up to the first that is refused. Once a step reads nothing, neither does any step after it.
 fn steps(schedule: &[[u8; 4]; 60], n: usize, start: State, j: &[u8]) -> Step
-    requires { ⌜ (start .issued ≤ start .last) × (settingsGood (settingsNow start) ≡ true) × (headLengthNow start ≤ length (now j)) ⌝ }
+    requires { ⌜ Steady start (now j) ⌝ }
     ensures { λ r. ⌜ r ≡ steps (now (schedule .entry)) n start (now (j .entry)) ⌝ }
 {
     let mut st = start;
@@ -199,14 +218,14 @@ fn steps(schedule: &[[u8; 4]; 60], n: usize, start: State, j: &[u8]) -> Step
                 state: st,
             };
         }
-        let found = s.found;
-        if !found.ok {
+        let after = s.state;
+        if after.length == st.length {
             return Step {
                 number: 0,
                 state: st,
             };
         }
-        st = s.state;
+        st = after;
         left -= 1;
     }
     Step {
@@ -242,7 +261,7 @@ fn last_answer(s: Step) -> TakenOver
     }
 }
 
-// The state after a journal; or the number of the first question answered no, the index of its entry and the unopened state.
+// The state after a journal; or the number of the first question answered no, the number of receipts before it and the unopened state.
 pub fn take_over(j: &[u8], key: [u8; 32], n: usize) -> TakenOver
     ensures { λ r. ⌜ r ≡ takeOver (now (j .entry)) key n ⌝ }
 {
@@ -283,7 +302,8 @@ pub fn check_entry(schedule: &[[u8; 4]; 60], st: State, text: &[u8]) -> Checked
     check_text(schedule, st, text)
 }
 
-// One step of a take-over, from the state's place in a journal. State sound for this journal? 6. Then questions 15 to 20, or 21 after the last entry.
+// One step of a take-over, from the state's place in a journal. State sound for this journal? 6. Then questions 15 to 20, or 21, 30 and 31 after
+// the last entry of a section.
 pub fn check_step(schedule: &[[u8; 4]; 60], st: State, j: &[u8]) -> Checked
     ensures { λ r. ⌜ r ≡ stepChecked (now (schedule .entry)) st (now (j .entry)) ⌝ }
 {

@@ -1,4 +1,5 @@
 // The layout of a journal: sections and the head, written and read, and an entry at a place.
+use receipt::Name;
 use receipt::Number;
 use receipt::Settings;
 ghost use mathlib.Core.Path.{_≡_};
@@ -8,8 +9,8 @@ ghost use lib.Dec.{leb, eqb};
 ghost use lib.ListN.{length};
 ghost use Rattle.primitives.specs.Place.{overwrite};
 ghost use Rattle.primitives.specs.Number.{bytesOf, countAt};
-ghost use Rattle.receipt.specs.Settings.{settingsGood};
-ghost use Rattle.journal.specs.Head.{section, head, headLength, countPlace, sectionEnd, countPlaceIn, headSettings, there};
+ghost use Rattle.receipt.specs.Settings.{settingsGood, serialGood};
+ghost use Rattle.journal.specs.Head.{section, pairStart, head, headLength, countPlace, sectionEnd, countPlaceIn, serialAt, startThere, headSettings, there};
 
 // The length of the head: 19 bytes, ID and serial.
 pub(crate) fn head_length(s: Settings) -> usize
@@ -48,7 +49,18 @@ pub(crate) fn put_count(place: usize, count: u32, buf: &mut [u8])
     let _ = receipt::put_number(buf, place, 4, count as u64);
 }
 
-// Writes the head of a journal without receipts.
+// Writes the start of a pair without receipts: the section of its serial, and the count 0.
+pub(crate) fn put_start(serial: Name, buf: &mut [u8], at: usize)
+    requires { ⌜ (serialGood serial ≡ true) × (at + 8 + serial .len ≤ length (now buf)) ⌝ }
+    ensures { λ _. ⌜ now (buf .exit) ≡ overwrite (now (buf .entry)) at (pairStart serial 0) ⌝ }
+{
+    let bytes = serial.bytes;
+    let n = serial.len;
+    put_section(&bytes[0..n], buf, at);
+    put_count(at + 4 + n, 0, buf);
+}
+
+// Writes the head of a journal without receipts: the sections of CSP and ID, and the start of the first pair.
 pub(crate) fn put_head(s: Settings, buf: &mut [u8])
     requires { ⌜ (settingsGood s ≡ true) × (headLength s ≤ length (now buf)) ⌝ }
     ensures { λ _. ⌜ now (buf .exit) ≡ overwrite (now (buf .entry)) 0 (head s 0) ⌝ }
@@ -56,15 +68,11 @@ pub(crate) fn put_head(s: Settings, buf: &mut [u8])
     let csp = s.csp;
     let id = s.id;
     let serial = s.serial;
-    let i = id.bytes;
+    let bytes = id.bytes;
     let n = id.len;
-    let j = serial.bytes;
-    let m = serial.len;
     put_section(&csp, buf, 0);
-    put_section(&i[0..n], buf, 7);
-    put_section(&j[0..m], buf, 11 + n);
-    let place = count_place(s);
-    put_count(place, 0, buf);
+    put_section(&bytes[0..n], buf, 7);
+    put_start(serial, buf, 11 + n);
 }
 
 // ---- reading
@@ -107,21 +115,44 @@ pub(crate) fn head_whole(j: &[u8]) -> bool
     serial <= len - 19 - id
 }
 
+// The serial in a complete section.
+pub(crate) fn serial_at(j: &[u8], at: usize) -> Name
+    requires { ⌜ sectionEnd (now j) at ≤ length (now j) ⌝ }
+    ensures { λ r. ⌜ r ≡ serialAt (now (j .entry)) at ⌝ }
+{
+    let a = at + 4;
+    let b = section_end(j, at);
+    receipt::name_of(&j[a..b])
+}
+
 // The settings in a complete head.
 pub(crate) fn head_settings(j: &[u8]) -> Settings
     requires { ⌜ (countAt (now j) 0 4 ≡ 3) × (countPlaceIn (now j) + 4 ≤ length (now j)) ⌝ }
     ensures { λ r. ⌜ r ≡ headSettings (now (j .entry)) ⌝ }
 {
     let a = section_end(j, 7);
-    let b = section_end(j, a);
-    let c = a + 4;
     let id = receipt::name_of(&j[11..a]);
-    let serial = receipt::name_of(&j[c..b]);
+    let serial = serial_at(j, a);
     Settings {
         csp: [j[4], j[5], j[6]],
         id: id,
         serial: serial,
     }
+}
+
+// 21: the bytes at a place start a pair: a good serial and a complete count.
+pub(crate) fn start_there(j: &[u8], at: usize) -> bool
+    ensures { λ r. ⌜ r ≡ startThere (now (j .entry)) at ⌝ }
+{
+    let len = j.len();
+    if !receipt::has_room(len, at, 8) {
+        return false;
+    }
+    if len - at - 8 < count_at(j, at, 4) {
+        return false;
+    }
+    let serial = serial_at(j, at);
+    receipt::serial_good(serial)
 }
 
 // 15: the entry's length and bytes are complete.

@@ -3,7 +3,6 @@ use super::head::put_count;
 use super::state::Issued;
 use super::state::State;
 use super::state::settings_now;
-use super::step::count_place_now;
 use super::step::details_number;
 use super::step::fields_of;
 use super::step::next;
@@ -93,7 +92,6 @@ fn append(st: State, d: Details, signature: &[u8], buf: &mut [u8]) -> Issued
     ensures { λ r. let given : _ = now (signature .entry) in
         ⌜ (r ≡ issued st d given (length (now (buf .entry)))) × (now (buf .exit) ≡ issueBuffer st d given (now (buf .entry))) ⌝ }
 {
-    let place = count_place_now(st);
     let at = st.length;
     let e = entry_of(st, d, signature);
     let end = put_entry(st, e, buf);
@@ -105,7 +103,7 @@ fn append(st: State, d: Details, signature: &[u8], buf: &mut [u8]) -> Issued
     }
     let start = at + 2;
     let state = next(st, d, &buf[start..end]);
-    put_count(place, st.issued + 1, buf);
+    put_count(st.place, st.section + 1, buf);
     Issued { number: 0, state }
 }
 
@@ -126,7 +124,7 @@ fn issue_number(st: State, d: Details, signature: &[u8], room: usize) -> u32
     0
 }
 
-// Appends a receipt to the journal in the buffer and rewrites the count; a refused call changes nothing.
+// Appends a receipt to the journal in the buffer and rewrites the count of the open section; a refused call changes nothing.
 pub fn issue(st: State, d: Details, signature: &[u8], buf: &mut [u8]) -> Issued
     ensures { λ r. let given : _ = now (signature .entry) in
         ⌜ (r ≡ issued st d given (length (now (buf .entry)))) × (now (buf .exit) ≡ issueBuffer st d given (now (buf .entry))) ⌝ }

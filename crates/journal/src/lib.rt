@@ -1,4 +1,5 @@
-// The journal of a register: opened, written receipt by receipt, and taken over.
+// The journal of a register: opened, written receipt by receipt and certificate by certificate, and taken over.
+mod changing;
 mod checking;
 mod head;
 mod issuing;
@@ -7,6 +8,7 @@ mod preparing;
 mod state;
 mod step;
 
+pub use changing::change;
 pub use checking::Checked;
 pub use checking::check_entry;
 pub use checking::check_step;
@@ -14,8 +16,10 @@ pub use checking::take_over;
 pub use issuing::issue;
 pub use opening::open;
 pub use preparing::prepare;
+pub use state::Changed;
 pub use state::Issued;
 pub use state::Opened;
 pub use state::State;
 pub use state::TakenOver;
 pub use state::unopened;
+pub use state::used_count;

@@ -1,23 +1,29 @@
-// One more receipt: what is asked of the state and of the details, the fields that the receipt gets, and the state after it.
+// One step of a register: what is asked of the state and of the details, the fields that a receipt gets, and the state after a receipt
+// or after the start of a pair.
 use super::head::count_place;
 use super::head::head_length;
 use super::state::State;
-use super::state::settings_now;
+use super::state::added;
+use super::state::no_name;
+use super::state::serials_good;
+use super::state::settings_first;
 use receipt::After;
 use receipt::Details;
 use receipt::Kind;
+use receipt::Name;
 use receipt::PayloadFields;
 use receipt::Settings;
 ghost use mathlib.Core.Path.{_≡_};
-ghost use mathlib.Core.Bool.{true};
+ghost use mathlib.Core.Bool.{true, _&&_};
 ghost use Prim.Native.Nat.{_+_, _<_};
+ghost use lib.Dec.{leb};
 ghost use lib.ListN.{length};
 ghost use Rattle.primitives.specs.Counter.{counterFits};
 ghost use Rattle.primitives.specs.Aes.{keySchedule};
-ghost use Rattle.receipt.specs.Settings.{settingsGood, nameText};
+ghost use Rattle.receipt.specs.Settings.{cspGood, idGood, settingsGood, nameText};
 ghost use Rattle.receipt.specs.Chain.{chainValue, encryptedCounter};
-ghost use Rattle.journal.specs.Step.{fresh, soundAlone, sound, firstGood, newCounter, detailsNumber, fieldsOf, next};
-ghost use Rattle.journal.specs.State.{settingsNow, headLengthNow, countPlaceNow};
+ghost use Rattle.journal.specs.Step.{fresh, countWithin, soundAlone, sound, firstGood, newCounter, detailsNumber, fieldsOf, next, renewed};
+ghost use Rattle.journal.specs.State.{used, serialsGood, settingsFirst, headLengthNow};
 
 // ---- the state of a register without receipts
 
@@ -37,10 +43,19 @@ pub(crate) fn fresh(s: Settings, n: usize, key: [u8; 32]) -> State
     requires { ⌜ settingsGood s ≡ true ⌝ }
     ensures { λ r. ⌜ r ≡ fresh s n key ⌝ }
 {
+    let csp = s.csp;
+    let id = s.id;
+    let serial = s.serial;
+    let none = no_name();
+    let mut serials = [none; 8];
+    serials[0] = serial;
     let chain = first_chain(s);
     let length = head_length(s);
+    let place = count_place(s);
     State {
-        settings: s,
+        csp: csp,
+        id: id,
+        serials: serials,
         width: n,
         key: key,
         counter: 0,
@@ -48,27 +63,9 @@ pub(crate) fn fresh(s: Settings, n: usize, key: [u8; 32]) -> State
         issued: 0,
         chain: chain,
         length: length,
+        section: 0,
+        place: place,
     }
-}
-
-// ---- the head of a state's journal
-
-// The length of the head.
-fn head_length_now(st: State) -> usize
-    requires { ⌜ settingsGood (settingsNow st) ≡ true ⌝ }
-    ensures { λ r. ⌜ r ≡ headLengthNow st ⌝ }
-{
-    let settings = settings_now(st);
-    head_length(settings)
-}
-
-// The place of the receipts count.
-pub(crate) fn count_place_now(st: State) -> usize
-    requires { ⌜ settingsGood (settingsNow st) ≡ true ⌝ }
-    ensures { λ r. ⌜ r ≡ countPlaceNow st ⌝ }
-{
-    let settings = settings_now(st);
-    count_place(settings)
 }
 
 // ---- the questions
@@ -80,12 +77,56 @@ fn counter_good(st: State) -> bool
     receipt::counter_fits(st.width, st.counter)
 }
 
+// CSP, ID and serials are good.
+fn names_good(st: State) -> bool
+    ensures { λ r. ⌜ r ≡ (cspGood (st .csp) && (idGood (st .id) && serialsGood (st .serials))) ⌝ }
+{
+    let csp = st.csp;
+    if !receipt::csp_good(csp) {
+        return false;
+    }
+    let id = st.id;
+    if !receipt::id_good(id) {
+        return false;
+    }
+    let slots = st.serials;
+    serials_good(slots)
+}
+
+// No more receipts in the open section than issued, and no more issued than the last number.
+fn counts_good(st: State) -> bool
+    ensures { λ r. ⌜ r ≡ (leb (st .issued) (st .last) && leb (st .section) (st .issued)) ⌝ }
+{
+    if st.last < st.issued {
+        return false;
+    }
+    st.section <= st.issued
+}
+
+// The open section's count ends within the journal.
+fn count_within(st: State) -> bool
+    ensures { λ r. ⌜ r ≡ countWithin st ⌝ }
+{
+    if st.length < 4 {
+        return false;
+    }
+    st.place <= st.length - 4
+}
+
+// The head ends within the journal.
+fn head_within(st: State) -> bool
+    requires { ⌜ settingsGood (settingsFirst st) ≡ true ⌝ }
+    ensures { λ r. ⌜ r ≡ leb (headLengthNow st) (st .length) ⌝ }
+{
+    let settings = settings_first(st);
+    head_length(settings) <= st.length
+}
+
 // Question 6, without its part about the buffer.
 pub(crate) fn sound_alone(st: State) -> bool
     ensures { λ r. ⌜ r ≡ soundAlone st ⌝ }
 {
-    let settings = settings_now(st);
-    if !receipt::settings_good(settings) {
+    if !names_good(st) {
         return false;
     }
     if !receipt::width_good(st.width) {
@@ -94,10 +135,13 @@ pub(crate) fn sound_alone(st: State) -> bool
     if !counter_good(st) {
         return false;
     }
-    if st.last < st.issued {
+    if !counts_good(st) {
         return false;
     }
-    head_length_now(st) <= st.length
+    if !count_within(st) {
+        return false;
+    }
+    head_within(st)
 }
 
 // Question 6, with a buffer of this length.
@@ -156,10 +200,9 @@ pub(crate) fn details_number(st: State, d: Details) -> u32
 
 // The counter after a receipt, encrypted.
 fn encrypted(st: State, d: Details) -> [u8; 8]
-    ensures { λ r. ⌜ r ≡ encryptedCounter (keySchedule (st .key)) (settingsNow st .id) (d .number) (st .width) (newCounter st d .counter) ⌝ }
+    ensures { λ r. ⌜ r ≡ encryptedCounter (keySchedule (st .key)) (st .id) (d .number) (st .width) (newCounter st d .counter) ⌝ }
 {
-    let settings = settings_now(st);
-    let id = settings.id;
+    let id = st.id;
     let key = st.key;
     let after = new_counter(st, d);
     let schedule = receipt::counter_key(key);
@@ -194,15 +237,19 @@ pub(crate) fn fields_of(st: State, d: Details) -> PayloadFields
 
 // The state after a receipt with this compact form.
 pub(crate) fn next(st: State, d: Details, text: &[u8]) -> State
-    requires { ⌜ (st .issued + 1 < 4294967296) × (st .length + 2 + length (now text) < 18446744073709551616) ⌝ }
+    requires { ⌜ (st .issued + 1 < 4294967296) × (st .section + 1 < 4294967296) × (st .length + 2 + length (now text) < 18446744073709551616) ⌝ }
     ensures { λ r. ⌜ r ≡ next st d (now (text .entry)) ⌝ }
 {
-    let settings = st.settings;
+    let csp = st.csp;
+    let id = st.id;
+    let serials = st.serials;
     let key = st.key;
     let after = new_counter(st, d);
     let chain = receipt::chain_value(text);
     State {
-        settings: settings,
+        csp: csp,
+        id: id,
+        serials: serials,
         width: st.width,
         key: key,
         counter: after.counter,
@@ -210,5 +257,34 @@ pub(crate) fn next(st: State, d: Details, text: &[u8]) -> State
         issued: st.issued + 1,
         chain: chain,
         length: st.length + 2 + text.len(),
+        section: st.section + 1,
+        place: st.place,
+    }
+}
+
+// The state after the start of a pair with this serial.
+pub(crate) fn renewed(st: State, serial: Name) -> State
+    requires { ⌜ (serialsGood (st .serials) ≡ true) × (length (used (st .serials)) < 8) × (st .length + 8 + serial .len < 18446744073709551616) ⌝ }
+    ensures { λ r. ⌜ r ≡ renewed st serial ⌝ }
+{
+    let csp = st.csp;
+    let id = st.id;
+    let slots = st.serials;
+    let serials = added(slots, serial);
+    let key = st.key;
+    let chain = st.chain;
+    State {
+        csp: csp,
+        id: id,
+        serials: serials,
+        width: st.width,
+        key: key,
+        counter: st.counter,
+        last: st.last,
+        issued: st.issued,
+        chain: chain,
+        length: st.length + 8 + serial.len,
+        section: 0,
+        place: st.length + 4 + serial.len,
     }
 }

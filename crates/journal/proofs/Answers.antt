@@ -1,10 +1,10 @@
--- Lists of calls: the register's journal is the head and the entries of the calls that were not refused.
+-- What the yes answers to a call say, and that the entry of such a call is right.
 use Prim.Native.Nat.{ℕ, _+_, _≤_, _<_}
 use mathlib.Core.Path.{_≡_, refl, sym, ap, _∙_}
 use mathlib.Core.Bool.{Bool, true, false, cond, _||_}
 use mathlib.Core.List.{List, [], _∷_, _++_, append-assoc, append-nil}
 use native.Mathlib.Omega.{arith}
-use borrow.Author.Tests.{leb-true, le-leb, lt-ltb, eqb-true}
+use borrow.Author.Tests.{leb-true, le-leb, lt-ltb, ltb-true, eqb-true, not-true}
 use lib.Dec.{eqb}
 use lib.IntN.{_+ℤ_, +ℤ-idr}
 use lib.ListN.{length, take, replicate}
@@ -19,7 +19,8 @@ use Rattle.primitives.proofs.Cipher.{schedule-bytes}
 use Rattle.primitives.proofs.Numbers.{length-bytesOf}
 use Rattle.primitives.proofs.Over.{length-over, before-over, read-over}
 use Rattle.primitives.proofs.Rewrites.{take-after, over-middle}
-use Rattle.receipt.specs.Settings.{settingsGood}
+use Rattle.receipt.specs.Settings.{cspGood, idGood, serialGood, settingsGood}
+use Rattle.receipt.specs.declared.settings.Name.{Name}
 use Rattle.receipt.specs.Payload.{counterGood}
 use Rattle.receipt.specs.DateTime.{dateGood}
 use Rattle.receipt.specs.Details.{standard, amountsGood, counted}
@@ -37,38 +38,19 @@ use Rattle.receipt.proofs.Names.{good-sized}
 use Rattle.receipt.proofs.Chains.{length-chain, bytes-chain, length-encrypted, bytes-encrypted, after-encrypted, decrypt-back}
 use Rattle.journal.specs.Head.{head, entryText, front}
 use Rattle.primitives.specs.Questions.{ask, ifZero}
-use Rattle.journal.specs.Step.{soundAlone, sound, numberAbove, firstGood, newCounter, detailsNumber, detailsNumberWithin, fieldsOf, next}
+use Rattle.journal.specs.Changing.{serialNumber, changeNumber}
+use Rattle.journal.specs.Step.{countWithin, soundAlone, sound, numberAbove, firstGood, newCounter, detailsNumber, detailsNumberWithin, fieldsOf, next}
 use Rattle.journal.specs.Issuing.{signatureSized, givenSignature, entryOf, textOf, entryFits, issueNumber, issueNumberWithin, issued}
 use Rattle.journal.specs.Receipts.{receiptsIn, sum}
 use Rattle.journal.specs.Valid.{texts}
-use Rattle.journal.specs.Calls.{Call, TypedCall, none, more}
+use Rattle.journal.specs.Calls.{Order, TypedOrder}
 use Rattle.journal.specs.declared.state.State.{State}
 use Rattle.receipt.proofs.Entries.{spellable-yes, after-counter, none-counter, failed-zero, signed-zero}
-use Rattle.journal.proofs.Heads.{head-front}
-use Rattle.journal.proofs.Check as check
-use Rattle.journal.proofs.Check.{RightAt, textIn, step, AllRight, run, run-length, step-counter, step-sum, above-true, first-true, new-fits, new-is}
-use Rattle.journal.specs.State.{settingsNow, headLengthNow}
+use Rattle.journal.proofs.Serials.{newest-good}
+use Rattle.journal.proofs.Check.{RightAt, above-true, first-true, new-fits, new-is}
+use Rattle.journal.specs.State.{used, newest, isIn, serialsGood, settingsNow, headLengthNow}
 
--- ---- one more entry at the end
-
-pub run-snoc : (es : List Entry) (st : State) (e : Entry) → run st (es ++ (e ∷ [])) ≡ step (run st es) e
-unfolding run
-run-snoc [] st e = refl
-run-snoc (x ∷ es) st e = run-snoc es (step st x) e
-
-pub texts-snoc : (s : Settings) (n : ℕ) (es : List Entry) (e : Entry) → texts s n (es ++ (e ∷ [])) ≡ texts s n es ++ entryText (compact s n e)
-unfolding texts
-texts-snoc s n [] e = append-nil _
-texts-snoc s n (x ∷ es) e =
-    ap (λ (l : List ℕ). entryText (compact s n x) ++ l) (texts-snoc s n es e)
-    ∙ sym (append-assoc (entryText (compact s n x)) (texts s n es) (entryText (compact s n e)))
-
-pub right-snoc : (es : List Entry) (st : State) (e : Entry) → AllRight st es → RightAt (run st es) e → AllRight st (es ++ (e ∷ []))
-unfolding run
-right-snoc [] st e check.none h = check.more h check.none
-right-snoc (x ∷ es) st e (check.more q qs) h = check.more q (right-snoc es (step st x) e qs h)
-
--- ---- what a run keeps
+-- ---- chain bytes
 
 -- eight bytes
 pub record Eight (xs : List ℕ) : Type 0 where
@@ -78,97 +60,55 @@ pub record Eight (xs : List ℕ) : Type 0 where
 pub chain-eight : (text : List ℕ) → Eight (chainValue text)
 chain-eight text = record { long = length-chain text; bytes = bytes-chain text }
 
-pub record Kept (st st′ : State) (es : List Entry) : Type 0 where
-  pub settings : st′ .settings ≡ st .settings
-  pub width : st′ .width ≡ st .width
-  pub key : st′ .key ≡ st .key
-  pub issued : st′ .issued ≡ st .issued + length es
-  pub length : st′ .length ≡ st .length + length (texts (settingsNow st) (st .width) es)
-  pub chain : Eight (st .chain) → Eight (st′ .chain)
-
-pub kept : (es : List Entry) (st : State) → Kept st (run st es) es
-unfolding run texts next
-kept [] st = record { settings = refl; width = refl; key = refl; issued = omega arith; length = run-length [] st; chain = λ e. e }
-kept (e ∷ es) st =
-    let k = kept es (step st e) in
-    record {
-      settings = k .settings;
-      width = k .width;
-      key = k .key;
-      issued = k .issued ∙ omega arith;
-      length = run-length (e ∷ es) st;
-      chain = λ q. k .chain (chain-eight (textIn st e));
-    }
-
--- the counter is the sum
-pub run-sum : (es : List Entry) (st : State) → AllRight st es → run st es .counter ≡ st .counter +ℤ sum (receiptsIn es)
-unfolding run sum receiptsIn
-run-sum [] st check.none = sym (+ℤ-idr (st .counter))
-run-sum (e ∷ es) st (check.more h hs) = run-sum es (step st e) hs ∙ step-sum st e es h
-
--- what right entries keep within bounds
-pub record Bounds (st : State) : Type 0 where
-  pub issued : st .issued ≤ st .last
-  pub last : st .last < 4294967296
-  pub counter : counterFits (st .width) (st .counter) ≡ true
-
-pub bounds : (es : List Entry) (st : State) → AllRight st es → Bounds st → Bounds (run st es)
-unfolding run next
-bounds [] st check.none b = b
-bounds (e ∷ es) st (check.more h hs) b =
-    let c = b .issued in
-    let a = h .above in
-    bounds es (step st e) hs (record { issued = omega arith; last = h .typed .fields .number; counter = ap (counterFits (st .width)) (step-counter st e h) ∙ h .counter .fits })
-
--- ---- the buffer after an accepted call
-
-module _ (s : Settings) (k : ℕ) (t e buf : List ℕ) (len place : ℕ) (at : length (front s) ≡ place) (room : len + length e ≤ length buf)
-    (size : len ≡ place + 4 + length t) (was : take len buf ≡ head s k ++ t) where
-  -- what stands before the end of the entry
-  appended : take (len + length e) (overwrite buf len e) ≡ front s ++ (bytesOf 4 k ++ (t ++ e))
-  appended =
-      take-add len (length e) (overwrite buf len e)
-      ∙ (λ i. before-over buf len e (omega arith) i ++ read-over buf len e room i)
-      ∙ ap (λ (l : List ℕ). l ++ e) (was ∙ ap (λ (l : List ℕ). l ++ t) (head-front s k))
-      ∙ simp append-assoc
-
-  long : length (overwrite buf len e) ≡ length buf
-  long = length-over buf len e room
-
-  pub written-bytes : take (len + length e) (overwrite (overwrite buf len e) place (bytesOf 4 (k + 1))) ≡ head s (k + 1) ++ (t ++ e)
-  written-bytes =
-      let l = length-bytesOf 4 (k + 1) in
-      let m : length (bytesOf 4 k) ≡ length (bytesOf 4 (k + 1)) = length-bytesOf 4 k ∙ sym l in
-      take-after (overwrite buf len e) place (bytesOf 4 (k + 1)) (len + length e) (omega arith) (omega (arith, long))
-      ∙ (λ i. overwrite (appended i) (sym at i) (bytesOf 4 (k + 1)))
-      ∙ over-middle (front s) (bytesOf 4 k) (t ++ e) (bytesOf 4 (k + 1)) m
-      ∙ sym (append-assoc (front s) (bytesOf 4 (k + 1)) (t ++ e))
-      ∙ ap (λ (l : List ℕ). l ++ (t ++ e)) (sym (head-front s (k + 1)))
-
-  pub written-length : length (overwrite (overwrite buf len e) place (bytesOf 4 (k + 1))) ≡ length buf
-  written-length = length-over (overwrite buf len e) place (bytesOf 4 (k + 1)) (omega (arith, length-bytesOf 4 (k + 1), long)) ∙ long
-
 -- ---- what the yes answers say
 
 pub record Sound (st : State) : Type 0 where
-  pub settings : settingsGood (st .settings) ≡ true
+  pub csp : cspGood (st .csp) ≡ true
+  pub id : idGood (st .id) ≡ true
+  pub serials : serialsGood (st .serials) ≡ true
   pub width : widthGood (st .width) ≡ true
   pub counter : counterFits (st .width) (st .counter) ≡ true
   pub issued : st .issued ≤ st .last
+  pub section : st .section ≤ st .issued
+  pub place : st .place + 4 ≤ st .length
   pub head : headLengthNow st ≤ st .length
 
 pub sound-true : (st : State) → soundAlone st ≡ true → Sound st
-unfolding soundAlone
+unfolding soundAlone countWithin
 sound-true st e =
     let p₁ = both _ _ e in
+    let n₁ = both _ _ (p₁ .0) in
+    let n₂ = both _ _ (n₁ .1) in
     let p₂ = both _ _ (p₁ .1) in
     let p₃ = both _ _ (p₂ .1) in
     let p₄ = both _ _ (p₃ .1) in
-    record { settings = p₁ .0; width = p₂ .0; counter = p₃ .0; issued = leb-true _ _ (p₄ .0); head = leb-true _ _ (p₄ .1) }
+    let c = both _ _ (p₄ .0) in
+    let p₅ = both _ _ (p₄ .1) in
+    record {
+      csp = n₁ .0;
+      id = n₂ .0;
+      serials = n₂ .1;
+      width = p₂ .0;
+      counter = p₃ .0;
+      issued = leb-true _ _ (c .0);
+      section = leb-true _ _ (c .1);
+      place = leb-true _ _ (p₅ .0);
+      head = leb-true _ _ (p₅ .1);
+    }
 
 pub sound-yes : (st : State) → Sound st → soundAlone st ≡ true
-unfolding soundAlone
-sound-yes st s = rw (s .settings, s .width, s .counter, le-leb _ _ (s .issued), le-leb _ _ (s .head))
+unfolding soundAlone countWithin
+sound-yes st s =
+    rw (s .csp, s .id, s .serials, s .width, s .counter, le-leb _ _ (s .issued), le-leb _ _ (s .section), le-leb _ _ (s .place), le-leb _ _ (s .head))
+
+pub settings-three : (csp : List ℕ) (id serial : Name) → cspGood csp ≡ true → idGood id ≡ true → serialGood serial ≡ true
+    → settingsGood (record { csp = csp; id = id; serial = serial }) ≡ true
+unfolding settingsGood
+settings-three csp id serial a b c = rw (a, b, c)
+
+-- the settings in force and those of the head are good
+pub sound-settings : (st : State) → Sound st → settingsGood (settingsNow st) ≡ true
+sound-settings st s = settings-three (st .csp) (st .id) (newest (st .serials)) (s .csp) (s .id) (newest-good (st .serials) (s .serials))
 
 -- 7 to 11
 pub record Detailed (st : State) (d : Details) : Type 0 where
@@ -304,7 +244,7 @@ module _ (st : State) (d : Details) (sig : List ℕ) (s : Sound st) (a : Detaile
   unfolding entryOf fieldsOf
   call-spellable =
       spellable-yes (settingsNow st) (st .width) (entryOf st d sig) (record {
-        sized = good-sized (settingsNow st) (s .settings);
+        sized = good-sized (settingsNow st) (sound-settings st s);
         width = s .width;
         number = omega (arith, a .above);
         date = a .date;
@@ -325,7 +265,7 @@ module _ (st : State) (d : Details) (sig : List ℕ) (s : Sound st) (a : Detaile
         signatureBytes = p .bytes;
       }
 
-pub right-call : (st : State) (c : Call) (room : ℕ) → AllBytes (st .key) → Eight (st .chain) → TypedCall c → Answered st (c .details) (c .signature) room
+pub right-call : (st : State) (c : Order) (room : ℕ) → AllBytes (st .key) → Eight (st .chain) → TypedOrder c → Answered st (c .details) (c .signature) room
     → RightAt st (entryOf st (c .details) (c .signature))
 unfolding entryOf fieldsOf
 right-call st c room b chain tc a =
@@ -338,3 +278,39 @@ right-call st c room b chain tc a =
       chained = refl;
       counter = record { fits = new-fits st d (a .details .counter) .fits; decrypted = counter-decrypted st d (a .details .counter) };
     }
+
+-- ---- a Change that is not refused
+
+pub record Changeable (st : State) (s : Name) (room : ℕ) : Type 0 where
+  pub sound : Sound st
+  pub within : st .length ≤ room
+  pub good : serialGood s ≡ true
+  pub new : isIn s (used (st .serials)) ≡ false
+  pub few : length (used (st .serials)) < 8
+  pub fits : st .length + (8 + s .len) ≤ room
+
+pub serial-zero : (st : State) (s : Name) (rest : ℕ) → serialNumber st s rest ≡ 0 → (isIn s (used (st .serials)) ≡ false) × (length (used (st .serials)) < 8) × (rest ≡ 0)
+unfolding serialNumber
+serial-zero st s rest z =
+    let p = ask-zero _ _ _ z in
+    let q = ask-zero _ _ _ (p .1) in
+    (not-true _ (p .0), ltb-true _ _ (q .0), q .1)
+
+pub serial-yes : (st : State) (s : Name) (rest : ℕ) → isIn s (used (st .serials)) ≡ false → length (used (st .serials)) < 8 → serialNumber st s rest ≡ rest
+unfolding serialNumber ask
+serial-yes st s rest n f = rw (n, lt-ltb _ _ f)
+
+pub change-zero : (st : State) (s : Name) (room : ℕ) → changeNumber st s room ≡ 0 → Changeable st s room
+unfolding changeNumber sound
+change-zero st s room z =
+    let p = ask-zero _ _ _ z in
+    let q = both _ _ (p .0) in
+    let r = ask-zero _ _ _ (p .1) in
+    let t = serial-zero st s _ (r .1) in
+    let u = ask-zero _ _ _ (t .2) in
+    record { sound = sound-true st (q .0); within = leb-true _ _ (q .1); good = r .0; new = t .0; few = t .1; fits = leb-true _ _ (u .0) }
+
+pub change-yes : (st : State) (s : Name) (room : ℕ) → Changeable st s room → changeNumber st s room ≡ 0
+unfolding changeNumber sound ask
+change-yes st s room a =
+    rw (sound-yes st (a .sound), le-leb _ _ (a .within), a .good, serial-yes st s _ (a .new) (a .few), le-leb _ _ (a .fits))

@@ -1,0 +1,113 @@
+-- Changing the certificate: what Change asks, writes and leaves, and that journals with one certificate are checked as before.
+use Prim.Native.Nat.{ℕ, zero, suc, _+_, _≤_, _<_}
+use mathlib.Core.Path.{_≡_}
+use mathlib.Core.Bool.{true, false, cond}
+use mathlib.Core.List.{List, [], _∷_, _++_}
+use lib.Dec.{leb}
+use lib.ListN.{length, take, getD}
+use Rattle.primitives.specs.Aes.{keySchedule}
+use Rattle.primitives.specs.Questions.{ask, ifZero}
+use Rattle.receipt.specs.Settings.{serialGood}
+use Rattle.receipt.specs.declared.settings.Name.{Name}
+use Rattle.journal.specs.Head.{headSettings, pairStart}
+use Rattle.journal.specs.State.{noName, used, inEight, serialsGood, settingsNow, TypedName}
+use Rattle.journal.specs.Step.{fresh, sound}
+use Rattle.journal.specs.Changing.{changeNumber, changed, changeBuffer}
+use Rattle.journal.specs.Checking.{stopped, placeChecked, full, refused, headNumber, lastAnswer, takeOver}
+use Rattle.journal.specs.Valid.{Pair, Valid}
+use Rattle.journal.specs.declared.state.State.{State}
+use Rattle.journal.specs.declared.state.TakenOver.{TakenOver}
+use Rattle.journal.specs.declared.checking.Checked.{Checked}
+use Rattle.journal.specs.declared.checking.Step.{Step}
+
+-- ---- the serials of a state
+
+-- every name of a list is a good serial
+abbrev pub EachGood : List Name → Type 0
+EachGood ns = (i : ℕ) → i < length ns → serialGood (getD ns i noName) ≡ true
+
+-- "one to eight good serials with zeros behind": eight places are good exactly if they hold such serials, which are then those used
+pub record GoodSerials (slots ns : List Name) : Type 0 where
+  pub some : 0 < length ns
+  pub most : length ns ≤ 8
+  pub good : EachGood ns
+  pub places : slots ≡ inEight ns
+
+pub record SerialsGoodExactly : Type 0 where
+  pub only : (slots : List Name) → length slots ≡ 8 → ((i : ℕ) → i < 8 → TypedName (getD slots i noName)) → serialsGood slots ≡ true → GoodSerials slots (used slots)
+  pub always : (slots ns : List Name) → GoodSerials slots ns → (serialsGood slots ≡ true) × (used slots ≡ ns)
+
+-- ---- what Change asks
+
+-- a name is at a place of a list
+abbrev pub OneOf : Name → List Name → Type 0
+OneOf s ns = (((before : List Name) (n : Name) (later : List Name) → ns ≡ before ++ (n ∷ later) → n ≡ s → ⊥) → ⊥)
+
+-- 30 for a good serial that a sound state has had, and for nothing else
+pub record UsedSerialGets30 : Type 0 where
+  pub only : (st : State) (serial : Name) (room : ℕ) → changeNumber st serial room ≡ 30
+      → (sound st room ≡ true) × (serialGood serial ≡ true) × OneOf serial (used (st .serials))
+  pub always : (st : State) (serial : Name) (room : ℕ) → sound st room ≡ true → serialGood serial ≡ true → OneOf serial (used (st .serials))
+      → changeNumber st serial room ≡ 30
+
+-- 31 for a good serial that a sound state with eight serials has not had, and for nothing else
+pub record NinthSerialGets31 : Type 0 where
+  pub only : (st : State) (serial : Name) (room : ℕ) → changeNumber st serial room ≡ 31
+      → (sound st room ≡ true) × (serialGood serial ≡ true) × (OneOf serial (used (st .serials)) → ⊥) × (8 ≤ length (used (st .serials)))
+  pub always : (st : State) (serial : Name) (room : ℕ) → sound st room ≡ true → serialGood serial ≡ true → (OneOf serial (used (st .serials)) → ⊥)
+      → 8 ≤ length (used (st .serials)) → changeNumber st serial room ≡ 31
+
+-- ---- what Change writes and leaves
+
+-- not refused, the journal is longer by the section of the serial and an empty receipts section
+abbrev pub ChangeAppends : Type 0
+ChangeAppends =
+    (st : State) (serial : Name) (buf : List ℕ) → length (serial .bytes) ≡ 32 → changeNumber st serial (length buf) ≡ 0
+    → take (changed st serial (length buf) .state .length) (changeBuffer st serial buf) ≡ take (st .length) buf ++ pairStart serial 0
+
+-- no other byte is touched
+abbrev pub ChangeTouchesNoOther : Type 0
+ChangeTouchesNoOther =
+    (st : State) (serial : Name) (buf : List ℕ) (i : ℕ) → length (serial .bytes) ≡ 32 → (st .length ≤ i → i < st .length + 8 + serial .len → ⊥)
+    → getD (changeBuffer st serial buf) i 0 ≡ getD buf i 0
+
+-- from then on the new serial is in force: Prepare and Issue spell it
+abbrev pub ChangedSerialIsSpelled : Type 0
+ChangedSerialIsSpelled =
+    (st : State) (serial : Name) (room : ℕ) → changeNumber st serial room ≡ 0
+    → settingsNow (changed st serial room .state) ≡ record { csp = st .csp; id = st .id; serial = serial }
+
+-- "Counter, numbers and chain run on."
+pub record RunsOn (before after : State) : Type 0 where
+  pub counter : after .counter ≡ before .counter
+  pub last : after .last ≡ before .last
+  pub issued : after .issued ≡ before .issued
+  pub chain : after .chain ≡ before .chain
+
+abbrev pub ChangeRunsOn : Type 0
+ChangeRunsOn = (st : State) (serial : Name) (room : ℕ) → RunsOn st (changed st serial room .state)
+
+-- ---- Take over from before there were pairs
+
+-- a step: after the last entry there must be no byte left
+unfoldable pub oneStepBefore : List (List ℕ) → State → List ℕ → Checked
+oneStepBefore schedule st j = cond (full st j) (stopped (ask (leb (length j) (st .length)) 21 0) st) (placeChecked schedule st j)
+
+unfoldable pub stepsBefore : List (List ℕ) → ℕ → State → List ℕ → Step
+stepsBefore schedule zero st j = record { number = 0; state = st }
+stepsBefore schedule (suc n) st j =
+    ifZero (oneStepBefore schedule st j .number) (stepsBefore schedule n (oneStepBefore schedule st j .state) j)
+    (record { number = oneStepBefore schedule st j .number; state = st })
+
+unfoldable pub takeOverBefore : List ℕ → List ℕ → ℕ → TakenOver
+takeOverBefore j key n =
+    ifZero (headNumber j n) (lastAnswer (stepsBefore (keySchedule key) (length j) (fresh (headSettings j) n key) j)) (refused (headNumber j n) 0)
+
+-- a journal of one pair is accepted exactly as before, and no answer but 21 has changed
+pub record OneSectionAsBefore : Type 0 where
+  -- every answer but 21 is the same: number, index and state
+  pub answers : (j key : List ℕ) (n : ℕ) → (takeOverBefore j key n .number ≡ 21 → ⊥) → takeOver j key n ≡ takeOverBefore j key n
+  -- a journal of one pair has the same answer
+  pub pair : (j key : List ℕ) (n : ℕ) (v : Valid j key n) (p : Pair) → v .pairs ≡ p ∷ [] → takeOver j key n ≡ takeOverBefore j key n
+  -- and what was accepted before has one pair
+  pub one : (j key : List ℕ) (n : ℕ) (v : Valid j key n) → takeOverBefore j key n .number ≡ 0 → length (v .pairs) ≡ 1
