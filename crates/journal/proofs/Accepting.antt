@@ -39,7 +39,7 @@ use Rattle.journal.proofs.Stepping.{after-within, full-true, full-false
 use Rattle.journal.proofs.Starting.{StartAt, start-at}
 use Rattle.journal.proofs.Placing.{Core, startCore, stepCore, runCore, RightFor, AllRight, all-each, each-all, Begun, Names, names-each, each-names, names-length}
 use Rattle.journal.proofs.Placing as placing
-use Rattle.journal.proofs.Passing.{coreOf, Base, At, typed-for, good-for, under, at-settings, at-typed, at-schedule, right-there, text-is, at-next, renewed-length, renewed-place, renewed-section, at-renewed, run, runPairs, stepsOf, pair-split, passed-pairs}
+use Rattle.journal.proofs.Passing.{state-of, coreOf, Base, At, typed-for, good-for, under, at-settings, at-typed, at-schedule, right-there, text-is, at-next, renewed-length, renewed-place, renewed-section, at-renewed, run, runPairs, stepsOf, pair-split, passed-pairs}
 
 -- ---- what stands there if a step passes
 
@@ -148,10 +148,6 @@ steps-zero k n st j z = go (oneStep k st j .number) refl z
         → (oneStep k st j .number ≡ 0) × (steps k n (oneStep k st j .state) j .number ≡ 0)
     go zero e q = (e, q)
     go (suc m) e q = absurd (omega (arith, e, q))
-
-state-of : (m : ℕ) (st : State) → stopped m st .state ≡ st
-unfolding stopped
-state-of m st = refl
 
 sound-case : {st : State} {o : Owner} {k : List ℕ} {n : ℕ} {s : Name} {c : Core} {us : List Name} (m : ℕ) (j : List ℕ) → At st o k n s c us → AllBytes j → st .length ≤ length j
     → length j < suc m + st .length → st .section ≤ countAt j (st .place) 4 → steps (keySchedule k) m (oneStep (keySchedule k) st j .state) j .number ≡ 0 → Case (keySchedule k) st j
@@ -299,13 +295,13 @@ journal-head o n p ps =
     ∙ (sym (append-assoc (ownerText o) b t) ∙ ap (λ (l : List ℕ). l ++ t) (sym (head-pair o (p .serial) (length (p .entries)))))
 
 -- no step is without a byte
-entries-size : (s : Settings) (n : ℕ) (es : List Entry) → length es ≤ length (texts s n es)
+pub entries-size : (s : Settings) (n : ℕ) (es : List Entry) → length es ≤ length (texts s n es)
 unfolding texts
 entries-size s n [] = omega arith
 entries-size s n (e ∷ es) =
     omega (arith, length-append (entryText (compact s n e)) (texts s n es), length-entry (compact s n e), entries-size s n es)
 
-pairs-size : (o : Owner) (n : ℕ) (ps : List Pair) → stepsOf ps ≤ length (pairTexts o n ps)
+pub pairs-size : (o : Owner) (n : ℕ) (ps : List Pair) → stepsOf ps ≤ length (pairTexts o n ps)
 unfolding pairTexts stepsOf pairText pairStart
 pairs-size o n [] = omega arith
 pairs-size o n (p ∷ ps) =
@@ -421,12 +417,25 @@ good-owner s t g =
       q .1,
     )
 
-place-count : (j : List ℕ) (b : AllBytes j) (h : headGood j ≡ true) {p : ℕ} → p ≡ countPlace (headSettings j) → countOf j ≡ countAt j p 4
-unfolding countOf
-place-count j b h e = ap (λ (x : ℕ). countAt j x 4) (sym (e ∙ read-place-is j b h))
+-- what the steps after a good head have read is a valid journal
+reads-valid : (j k : List ℕ) (n : ℕ) (s : Settings) (m : ℕ) → widthGood n ≡ true → GoodOwner (ownerIn s) → TypedName (s .serial) → serialGood (s .serial) ≡ true → m < 4294967296
+    → countAt j (countPlace s) 4 ≡ m → j ≡ head s m ++ drop (headLength s) j → Reads (ownerIn s) k n (s .serial) (startCore (ownerIn s)) (s .serial ∷ []) (fresh s n k) j → Valid j k n
+unfolding allPlaced isIn
+reads-valid j k n s m w g t h few c q r =
+    let o = ownerIn s in
+    let es = r .entries in
+    let x : Pair = record { serial = s .serial; entries = es } in
+    let count : m ≡ length es =
+    sym c ∙ (ap (λ (p : ℕ). countAt j p 4) (sym (fresh-place o k n (s .serial))) ∙ (r .count ∙ omega (arith, fresh-section o k n (s .serial)))) in
+    let d : drop (headLength s) j ≡ texts s n es ++ pairTexts o n (r .pairs) = ap (λ (y : ℕ). drop y j) (sym (fresh-length o k n (s .serial))) ∙ r .bytes in
+    let f : length es < 4294967296 = omega (arith, few, count) in
+    let first : length {A = Name} [] < 8 = omega arith in
+    let ns : Names [] (x ∷ r .pairs) = placing.more (record { typed = t; good = h; new = refl; room = first; few = f }) (r .names) in
+    let e : j ≡ journalText o n (x ∷ r .pairs) = q ∙ ((λ i. head s (count i) ++ d i) ∙ sym (journal-head o n x (r .pairs))) in
+    work-valid k n o (x ∷ r .pairs) j (record { width = w; good = g; some = omega arith; right = r .right; names = ns }) e
 
 pub accepted-valid : (j k : List ℕ) (n : ℕ) → AllBytes j → takeOver j k n .number ≡ 0 → Valid j k n
-unfolding takeOver allPlaced isIn
+unfolding takeOver countOf
 accepted-valid j k n b z =
     let p = head-number (headNumber j n) _ z in
     let q = head-answers j n (p .0) in
@@ -439,20 +448,6 @@ accepted-valid j k n b z =
     let lh = read-length j b h in
     let room = good-head j b h .room in
     let fl = fresh-length o k n (s .serial) in
-    let r = sound-from (length j) j (fresh-at o k n (s .serial) (g .0) (g .1) (g .2)) b (omega (arith, fl, lh, room)) (omega (arith, fl, lh)) (omega (arith, fresh-section o k n (s .serial))) sz in
-    let es = r .entries in
-    let count : countOf j ≡ length es =
-    place-count j b h (fresh-place o k n (s .serial)) ∙ (r .count ∙ omega (arith, fresh-section o k n (s .serial))) in
-    let d : drop (headLength s) j ≡ texts s n es ++ pairTexts o n (r .pairs) = ap (λ (x : ℕ). drop x j) (sym fl) ∙ r .bytes in
-    let x : Pair = record { serial = s .serial; entries = es } in
-    let few : length es < 4294967296 = omega (arith, read-few j b h, count) in
-    let first : length {A = Name} [] < 8 = omega arith in
-    work-valid k n o (x ∷ r .pairs) j
-    (record {
-      width = q .0;
-      good = g .0;
-      some = omega arith;
-      right = r .right;
-      names = placing.more (record { typed = g .1; good = g .2; new = refl; room = first; few = few }) (r .names);
-    })
-    (read-back j b h ∙ ((λ i. head s (count i) ++ d i) ∙ sym (journal-head o n x (r .pairs))))
+    let c : countAt j (countPlace s) 4 ≡ countOf j = ap (λ (x : ℕ). countAt j x 4) (read-place-is j b h) in
+    reads-valid j k n s (countOf j) (q .0) (g .0) (g .1) (g .2) (read-few j b h) c (read-back j b h)
+    (sound-from (length j) j (fresh-at o k n (s .serial) (g .0) (g .1) (g .2)) b (omega (arith, fl, lh, room)) (omega (arith, fl, lh)) (omega (arith, fresh-section o k n (s .serial))) sz)

@@ -188,7 +188,7 @@ ran (p ∷ ps) st o k n c us b h (placing.more g ns) =
 
 -- ---- the open pair
 
-last-text : (o : Owner) (n : ℕ) (p : Pair) → pairTexts o n (p ∷ []) ≡ pairStart (p .serial) (length (p .entries)) ++ texts (settingsFor o (p .serial)) n (p .entries)
+pub last-text : (o : Owner) (n : ℕ) (p : Pair) → pairTexts o n (p ∷ []) ≡ pairStart (p .serial) (length (p .entries)) ++ texts (settingsFor o (p .serial)) n (p .entries)
 unfolding pairTexts pairText
 last-text o n p = append-nil (pairStart (p .serial) (length (p .entries)) ++ texts (settingsFor o (p .serial)) n (p .entries))
 

@@ -14,7 +14,7 @@ use Rattle.receipt.specs.Compact.{compact}
 use Rattle.receipt.specs.declared.settings.Name.{Name}
 use Rattle.receipt.specs.declared.settings.Settings.{Settings}
 use Rattle.receipt.specs.declared.entry.Entry.{Entry}
-use Rattle.journal.specs.Head.{entryText, textAt, pairStart, serialAt}
+use Rattle.journal.specs.Head.{entryText, textAt, pairStart, serialAt, startThere}
 use Rattle.journal.specs.State.{used, newest, isIn, settingsNow, TypedName}
 use Rattle.journal.specs.Step.{next, renewed}
 use Rattle.journal.specs.Checking.{found, after, entryNumber, stopped, startNumber, full, oneStep, steps}
@@ -28,7 +28,7 @@ use Rattle.journal.proofs.Serials.{used-added, newest-added}
 use Rattle.journal.proofs.Answers.{settings-three, serial-yes}
 use Rattle.journal.proofs.Stepping.{full-yes, full-no, entry-passed, start-passed, passed-step}
 use Rattle.journal.proofs.Starting.{serial-read, count-read, start-there, length-start}
-use Rattle.journal.proofs.Placing.{Core, stepCore, runCore, run-append, RightFor, AllRight, right-split, Begun, Names}
+use Rattle.journal.proofs.Placing.{Core, stepCore, runCore, run-append, RightFor, AllRight, right-split, Startable, Names}
 use Rattle.journal.proofs.Placing as placing
 
 -- ---- what a state stands for
@@ -211,16 +211,14 @@ module _ {st : State} {o : Owner} {k : List ℕ} {n : ℕ} {s : Name} {c : Core}
       let x : after st (textAt j (st .length)) ≡ step st e = ap (λ (l : List ℕ). after st (textAt l (st .length))) q₁ ∙ after-is st e p rest at ts h in
       entry-passed (keySchedule k) st j (full-no st j less) z ∙ (λ i. record { number = 0; found = f i; state = x i })
 
--- the start of a pair is read
-pub start-step : {st : State} {o : Owner} {k : List ℕ} {n : ℕ} {c : Core} {us : List Name} → Base st o k n c us → (x : Pair) (p rest j : List ℕ) → length p ≡ st .length
-    → Begun us x → j ≡ p ++ (pairStart (x .serial) (length (x .entries)) ++ rest) → countAt j (st .place) 4 ≤ st .section
-    → oneStep (keySchedule k) st j ≡ stopped 0 (renewed st (x .serial))
+-- the start of a pair with the serial s and the count m is read
+pub start-step : {st : State} {o : Owner} {k : List ℕ} {n : ℕ} {c : Core} {us : List Name} → Base st o k n c us → (s : Name) (m : ℕ) (p rest j : List ℕ) → length p ≡ st .length
+    → Startable us s m → j ≡ p ++ (pairStart s m ++ rest) → countAt j (st .place) 4 ≤ st .section
+    → oneStep (keySchedule k) st j ≡ stopped 0 (renewed st s)
 unfolding startNumber
-start-step {st} {k = k} b x p rest j at g q most =
-    let s = x .serial in
-    let m = length (x .entries) in
+start-step {st} {k = k} b s m p rest j at g q most =
     let sr : serialAt j (st .length) ≡ s = ap (λ (l : List ℕ). serialAt l (st .length)) q ∙ serial-read s (g .typed) (g .good) p m rest (st .length) at (g .few) in
-    let th = ap (λ (l : List ℕ). Rattle.journal.specs.Head.startThere l (st .length)) q ∙ start-there s (g .typed) (g .good) p m rest (st .length) at (g .few) in
+    let th = ap (λ (l : List ℕ). startThere l (st .length)) q ∙ start-there s (g .typed) (g .good) p m rest (st .length) at (g .few) in
     let sz : startNumber st j ≡ 0 =
     ask-yes 21 _ th ∙ serial-yes st (serialAt j (st .length)) 0 (rw (sr, b .serials) (g .new)) (rw (b .serials) (g .room)) in
     let l = length-append p (pairStart s m ++ rest) in
@@ -230,11 +228,11 @@ start-step {st} {k = k} b x p rest j at g q most =
 
 -- ---- steps
 
-number-of : (m : ℕ) (st : State) → stopped m st .number ≡ m
+pub number-of : (m : ℕ) (st : State) → stopped m st .number ≡ m
 unfolding stopped
 number-of m st = refl
 
-state-of : (m : ℕ) (st : State) → stopped m st .state ≡ st
+pub state-of : (m : ℕ) (st : State) → stopped m st .state ≡ st
 unfolding stopped
 state-of m st = refl
 
@@ -282,20 +280,18 @@ unfolding pairText
 pair-split o n x rest = append-assoc (pairStart (x .serial) (length (x .entries))) (texts (settingsFor o (x .serial)) n (x .entries)) rest
 
 -- the state after the start of a pair, at its place
-module _ {st : State} {o : Owner} {k : List ℕ} {n : ℕ} {c : Core} {us : List Name} (b : Base st o k n c us) (x : Pair) (p rest j : List ℕ) (at : length p ≡ st .length)
-    (g : Begun us x) (q : j ≡ p ++ (pairStart (x .serial) (length (x .entries)) ++ rest)) where
-  pub start-place : length (p ++ pairStart (x .serial) (length (x .entries))) ≡ renewed st (x .serial) .length
-  start-place =
-      length-append p (pairStart (x .serial) (length (x .entries)))
-      ∙ omega (arith, at, length-start (x .serial) (g .typed) (g .good) (length (x .entries)), renewed-length st (x .serial))
+module _ {st : State} {o : Owner} {k : List ℕ} {n : ℕ} {c : Core} {us : List Name} (b : Base st o k n c us) (s : Name) (m : ℕ) (p rest j : List ℕ) (at : length p ≡ st .length)
+    (g : Startable us s m) (q : j ≡ p ++ (pairStart s m ++ rest)) where
+  pub start-place : length (p ++ pairStart s m) ≡ renewed st s .length
+  start-place = length-append p (pairStart s m) ∙ omega (arith, at, length-start s (g .typed) (g .good) m, renewed-length st s)
 
-  pub start-bytes : j ≡ (p ++ pairStart (x .serial) (length (x .entries))) ++ rest
-  start-bytes = q ∙ sym (append-assoc p (pairStart (x .serial) (length (x .entries))) rest)
+  pub start-bytes : j ≡ (p ++ pairStart s m) ++ rest
+  start-bytes = q ∙ sym (append-assoc p (pairStart s m) rest)
 
-  pub start-count : countAt j (renewed st (x .serial) .place) 4 ≡ renewed st (x .serial) .section + length (x .entries)
+  pub start-count : countAt j (renewed st s .place) 4 ≡ renewed st s .section + m
   start-count =
-      (λ i. countAt (q i) (renewed-place st (x .serial) i) 4)
-      ∙ (count-read (x .serial) (g .typed) (g .good) p (length (x .entries)) rest (st .length) at (g .few) ∙ omega (arith, renewed-section st (x .serial)))
+      (λ i. countAt (q i) (renewed-place st s i) 4)
+      ∙ (count-read s (g .typed) (g .good) p m rest (st .length) at (g .few) ∙ omega (arith, renewed-section st s))
 
 pub passed-pairs : {st : State} {o : Owner} {k : List ℕ} {n : ℕ} {s : Name} {c : Core} {us : List Name} (ps : List Pair) (es : List Entry) (m : ℕ) (p j rest : List ℕ)
     → At st o k n s c us → length p ≡ st .length → AllRight k n c (placed (settingsFor o s) es ++ allPlaced o ps) → Names us ps
@@ -325,11 +321,11 @@ passed-pairs {st} {o} {k} {n} {s} {c} {us} (x ∷ ps) es m p j rest a at h (plac
     let t = tx ++ (pairTexts o n ps ++ rest) in
     let q₂ : j ≡ p₂ ++ (b₃ ++ t) =
     q ∙ (sym (append-assoc p (texts sf n es) r) ∙ ap (λ (l : List ℕ). p₂ ++ l) (append-assoc (pairText o n x) (pairTexts o n ps) rest ∙ pair-split o n x (pairTexts o n ps ++ rest))) in
-    let w = start-step (a₂ .base) x p₂ t j l₂ g q₂ (omega arith) in
+    let w = start-step (a₂ .base) (x .serial) (length (x .entries)) p₂ t j l₂ g q₂ (omega arith) in
     let st₃ = renewed st₂ (x .serial) in
     let e : suc (length (x .entries) + stepsOf ps) + m ≡ suc (length (x .entries) + (stepsOf ps + m)) = omega arith in
-    let y = passed-pairs ps (x .entries) m (p₂ ++ b₃) j rest (at-renewed (x .serial) (g .typed) (g .good) (a₂ .base)) (start-place (a₂ .base) x p₂ t j l₂ g q₂) (hs .1) ns
-    (start-bytes (a₂ .base) x p₂ t j l₂ g q₂) (start-count (a₂ .base) x p₂ t j l₂ g q₂) in
+    let y = passed-pairs ps (x .entries) m (p₂ ++ b₃) j rest (at-renewed (x .serial) (g .typed) (g .good) (a₂ .base)) (start-place (a₂ .base) (x .serial) (length (x .entries)) p₂ t j l₂ g q₂) (hs .1) ns
+    (start-bytes (a₂ .base) (x .serial) (length (x .entries)) p₂ t j l₂ g q₂) (start-count (a₂ .base) (x .serial) (length (x .entries)) p₂ t j l₂ g q₂) in
     let split : p ++ (texts sf n es ++ (pairText o n x ++ pairTexts o n ps)) ≡ (p₂ ++ b₃) ++ (tx ++ pairTexts o n ps) =
     ap (λ (l : List ℕ). p ++ (texts sf n es ++ l)) (pair-split o n x (pairTexts o n ps))
     ∙ (sym (append-assoc p (texts sf n es) (b₃ ++ (tx ++ pairTexts o n ps))) ∙ sym (append-assoc p₂ b₃ (tx ++ pairTexts o n ps))) in (

@@ -135,13 +135,17 @@ module _ (key : List ℕ) (n : ℕ) where
 
 -- ---- serials
 
--- a pair is right after serials used
-pub record Begun (us : List Name) (p : Pair) : Type 0 where
-  pub typed : TypedName (p .serial)
-  pub good : serialGood (p .serial) ≡ true
-  pub new : isIn (p .serial) us ≡ false
+-- a serial with this count is right after serials used
+pub record Startable (us : List Name) (s : Name) (m : ℕ) : Type 0 where
+  pub typed : TypedName s
+  pub good : serialGood s ≡ true
+  pub new : isIn s us ≡ false
   pub room : length us < 8
-  pub few : length (p .entries) < 4294967296
+  pub few : m < 4294967296
+
+-- a pair is right after serials used
+abbrev pub Begun : List Name → Pair → Type 0
+Begun us p = Startable us (p .serial) (length (p .entries))
 
 pub data Names : List Name → List Pair → Type 0 where
   none : {us : List Name} → Names us []

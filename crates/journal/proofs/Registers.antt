@@ -155,7 +155,7 @@ pub open-eight : {k : List ℕ} {n : ℕ} {o : Owner} {ps : List Pair} {p : Pair
 open-eight {k} {n} {o} {ps} {p} q =
     subst (λ (c : Core). Eight (c .chain)) (sym (q .at .base .core)) (run-eight n (startCore o) (allPlaced o (ps ++ (p ∷ []))) (start-eight o))
 
-some-snoc : (ps : List Pair) (p : Pair) → 0 < length (ps ++ (p ∷ []))
+pub some-snoc : (ps : List Pair) (p : Pair) → 0 < length (ps ++ (p ∷ []))
 some-snoc ps p = omega (arith, length-append ps (p ∷ []))
 
 -- an Issue whose entry is right
@@ -414,7 +414,7 @@ open-zero s shared n room z =
     let p = settings-zero s shared n _ z in
     (p .0, p .1, leb-true (headLength s) room (ask-zero _ _ _ (p .2) .0), p .3)
 
-fresh-holds : (o : Owner) (k : List ℕ) (n : ℕ) (s : Name) → fresh (settingsFor o s) n k ≡ runPairs (blank o k n) (emptyPair s ∷ [])
+pub fresh-holds : (o : Owner) (k : List ℕ) (n : ℕ) (s : Name) → fresh (settingsFor o s) n k ≡ runPairs (blank o k n) (emptyPair s ∷ [])
 unfolding runPairs run
 fresh-holds o k n s = fresh-is o k n s
 
@@ -422,7 +422,7 @@ head-journal : (o : Owner) (n : ℕ) (s : Name) → head (settingsFor o s) 0 ≡
 unfolding journalText pairTexts
 head-journal o n s = head-pair o s 0 ∙ sym (journal-empty o n [] s ∙ ap (λ (l : List ℕ). l ++ pairStart s 0) (append-nil (ownerText o)))
 
-empty-work : (k : List ℕ) (n : ℕ) (s : Settings) → TypedSettings s → settingsGood s ≡ true → widthGood n ≡ true → Work k n (ownerIn s) (emptyPair (s .serial) ∷ [])
+pub empty-work : (k : List ℕ) (n : ℕ) (s : Settings) → TypedSettings s → settingsGood s ≡ true → widthGood n ≡ true → Work k n (ownerIn s) (emptyPair (s .serial) ∷ [])
 unfolding allPlaced placed serialsOf isIn
 empty-work k n s ts good w =
     let g = good-owner s ts good in
