@@ -2,12 +2,12 @@
 use Prim.Native.Nat.{ℕ, zero, suc, _+_, _-_, _≤_, _<_}
 use mathlib.Core.Path.{_≡_, refl, sym, ap, _∙_, subst}
 use mathlib.Core.Bool.{Bool, true, false, cond, _&&_, _||_}
-use mathlib.Core.List.{List, [], _∷_, _++_, append-assoc}
+use mathlib.Core.List.{List, [], _∷_, _++_, map, append-assoc}
 use native.Mathlib.Omega.{arith}
 use native.Mathlib.Numerals.{add-one}
 use borrow.Author.Tests.{leb-true, le-leb, lt-leb, eqb-true, eq-eqb, ne-eqb}
 use lib.Dec.{leb, eqb}
-use lib.ListN.{length, drop, getD, set, replicate, length-append, length-drop, length-replicate, drop-of-length-le}
+use lib.ListN.{length, drop, getD, set, replicate, length-append, length-drop, length-map, length-replicate, drop-of-length-le}
 use lib.Seq.{drop-at, drop-cons, set-at}
 use Rattle.primitives.proofs.ByteLists.{same-refl, same-true}
 use Rattle.primitives.proofs.Rows.{both, and-no, and-yes, true-is-not-false}
@@ -333,6 +333,10 @@ module _ (slots : List Name) {k : ℕ} (e : k ≡ length (used slots)) where
     pub good-rest : {t : Bool} → allGood (used slots) ≡ true → t ≡ allEmpty (drop k slots) → t ≡ serialsGood slots
     unfolding serialsGood
     good-rest a q = and-yes _ _ _ some-used (and-yes _ _ _ a (q ∙ ap (λ (n : ℕ). allEmpty (drop n slots)) e))
+
+-- what the types say of the serials of a state stands at their image
+pub unmapped : (X Y : Type 0) (f : X → Y) (l : List X) (n : ℕ) → length (map f l) ≡ n → length l ≡ n
+unmapped X Y f l n e = sym (length-map l f) ∙ e
 
 -- the first, whatever an empty list would give
 pub first-any : (slots : List Name) (d : Name) → 0 < length slots → getD slots 0 d ≡ getD slots 0 noName

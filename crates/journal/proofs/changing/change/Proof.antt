@@ -1,35 +1,33 @@
+-- `changing::change` meets its contract.
+use Rattle.journal.proofs.ChangeCalls.{change-refused, change-room, change-serials, change-done}
 use borrow.Author.Needs.{needs}
+use native.Mathlib.Omega.{arith}
 use Rattle.journal.proofs.changing.change.Statement.{statement}
 use Rattle.journal.proofs.changing.change.Tie as tie
-use Rattle.journal.proofs.changing.change.Reads as reads
-use Rattle.journal.proofs.changing.change.Lts as lts
-use Rattle.journal.proofs.changing.change_number.Reads as change-number-reads
-use Rattle.journal.proofs.head.put_start.Reads as put-start-reads
-use Rattle.journal.proofs.step.renewed.Reads as renewed-reads
 
--- src/changing.rt:54:9
 change-number-requires : tie.Need-change-number-requires
 change-number-requires c κs = search needs
 
--- src/changing.rt:56:9
 returns : tie.Need-returns
-returns c = ?
+returns c = change-refused (c .before .before .before .args .st) (c .before .before .before .args .serial) (c .before .before .before .args .buf .now) (c .before .change-number .ensures) (c .if1 .taken)
 
--- src/changing.rt:58:5
 put-start-requires : tie.Need-put-start-requires
-put-start-requires c κs = ?
+put-start-requires c κs = change-room (c .before .before .before .before .args .st) (c .before .before .before .before .args .serial) (c .before .before .before .before .args .buf .now) (c .before .before .change-number .ensures) (c .before .if1 .left)
 
--- src/changing.rt:59:9
 renewed-requires : tie.Need-renewed-requires
-renewed-requires c κs = ?
+renewed-requires c κs =
+    let start = c .before .before .before .before .before .before .before in
+    let s = change-serials (start .args .st) (start .args .serial) (start .args .buf .now) (c .before .before .before .before .before .change-number .ensures) (c .before .before .before .before .if1 .left) in
+    let r = change-room (start .args .st) (start .args .serial) (start .args .buf .now) (c .before .before .before .before .before .change-number .ensures) (c .before .before .before .before .if1 .left) in
+    (s .0, s .1, omega (arith, r .1, start .good))
 
--- src/changing.rt:50:1
 same-length : tie.Need-same-length
 same-length c = search needs
 
--- src/changing.rt:50:1
 returns-2 : tie.Need-returns-2
-returns-2 c = ?
+returns-2 c =
+    let start = c .before .before .before .before .before .before .before .before in
+    change-done (start .args .st) (start .args .serial) (start .args .buf .now) (c .before .before .before .before .before .before .change-number .ensures) (c .before .before .before .before .before .if1 .left) (c .before .before .before .put-start .ensures) (c .renewed .ensures)
 
 pub change-spec : {M : Type 1} → statement M
 change-spec =

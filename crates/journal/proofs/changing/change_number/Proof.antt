@@ -1,52 +1,48 @@
+-- A row of questions.
+use Rattle.primitives.proofs.Questions.{yes, no}
+use Rattle.receipt.specs.declared.settings.Letters.the-variants.{Serial}
+use Rattle.receipt.proofs.Names.{good-name}
+use Rattle.journal.proofs.ChangeCalls.{change-unsound, change-bad, change-serial, change-full, change-none}
 use borrow.Author.Needs.{needs}
+use native.Mathlib.Omega.{arith}
 use Rattle.journal.proofs.changing.change_number.Statement.{statement}
 use Rattle.journal.proofs.changing.change_number.Tie as tie
-use Rattle.journal.proofs.changing.change_number.Reads as reads
-use Rattle.journal.proofs.changing.change_number.Lts as lts
-use Rattle.journal.proofs.changing.serial_number.Reads as serial-number-reads
-use Rattle.journal.proofs.step.sound.Reads as sound-reads
-use Rattle.primitives.proofs.has_room.Reads as has-room-reads
-use Rattle.receipt.proofs.serial_good.Reads as serial-good-reads
 
--- src/changing.rt:33:9
 sound-requires : tie.Need-sound-requires
 sound-requires c κs = search needs
 
--- src/changing.rt:34:9
 returns : tie.Need-returns
-returns c = ?
+returns c = change-unsound (c .before .before .args .st) (c .before .before .args .serial) _ (no (c .before .sound .ensures) (c .if1 .taken))
 
--- src/changing.rt:36:9
 serial-good-requires : tie.Need-serial-good-requires
 serial-good-requires c κs = search needs
 
--- src/changing.rt:37:9
 returns-2 : tie.Need-returns-2
-returns-2 c = ?
+returns-2 c = change-bad (c .before .before .before .before .args .st) (c .before .before .before .before .args .serial) _ (yes (c .before .before .before .sound .ensures) (c .before .before .if1 .left)) (no (c .before .serial-good .ensures) (c .if2 .taken))
 
--- src/changing.rt:39:9
 serial-number-requires : tie.Need-serial-number-requires
 serial-number-requires c κs = search needs
 
--- src/changing.rt:41:9
 returns-3 : tie.Need-returns-3
-returns-3 c = ?
+returns-3 c =
+    let s = c .before .before .before .before .before .before .args in
+    change-serial (s .st) (s .serial) _ (yes (c .before .before .before .before .before .sound .ensures) (c .before .before .before .before .if1 .left)) (yes (c .before .before .before .serial-good .ensures) (c .before .before .if2 .left)) (c .before .serial-number .ensures) (c .if3 .taken)
 
--- src/changing.rt:43:44
 add-has-room : tie.Need-add-has-room
-add-has-room c = ?
+add-has-room c = omega (arith, good-name Serial (c .before .before .before .before .before .before .before .args .serial) (yes (c .before .before .before .before .serial-good .ensures) (c .before .before .before .if2 .left)) .most)
 
--- src/changing.rt:43:9
 has-room-requires : tie.Need-has-room-requires
 has-room-requires c κs = search needs
 
--- src/changing.rt:44:9
 returns-4 : tie.Need-returns-4
-returns-4 c = ?
+returns-4 c =
+    let s = c .before .before .before .before .before .before .before .before .before .args in
+    change-full (s .st) (s .serial) (s .room) (yes (c .before .before .before .before .before .before .before .before .sound .ensures) (c .before .before .before .before .before .before .before .if1 .left)) (yes (c .before .before .before .before .before .before .serial-good .ensures) (c .before .before .before .before .before .if2 .left)) (c .before .before .before .before .serial-number .ensures) (c .before .before .before .if3 .left) (no (c .before .has-room .ensures) (c .if4 .taken))
 
--- src/changing.rt:30:1
 returns-5 : tie.Need-returns-5
-returns-5 c = ?
+returns-5 c =
+    let s = c .before .before .before .before .before .before .before .before .before .args in
+    change-none (s .st) (s .serial) (s .room) (yes (c .before .before .before .before .before .before .before .before .sound .ensures) (c .before .before .before .before .before .before .before .if1 .left)) (yes (c .before .before .before .before .before .before .serial-good .ensures) (c .before .before .before .before .before .if2 .left)) (c .before .before .before .before .serial-number .ensures) (c .before .before .before .if3 .left) (yes (c .before .has-room .ensures) (c .if4 .left))
 
 pub change-number-spec : {M : Type 1} → statement M
 change-number-spec =
