@@ -1,6 +1,6 @@
 -- What the functions of a Change show at their returns, over plain variables.
-use Prim.Native.Nat.{ℕ, zero, suc, _+_, _≤_, _<_}
-use mathlib.Core.Path.{_≡_, refl, sym, ap, _∙_}
+use Prim.Native.Nat.{ℕ, _+_, _≤_, _<_}
+use mathlib.Core.Path.{_≡_, refl, sym, _∙_}
 use mathlib.Core.Bool.{Bool, true, false, not}
 use mathlib.Core.List.{List}
 use native.Mathlib.Omega.{arith}
@@ -97,5 +97,7 @@ module _ (st : State) (s : Name) (b : List ℕ) {k : ℕ} (e : k ≡ changeNumbe
         → (record { number = 0; state = x } ≡ changed st s (length b)) × (b₁ ≡ changeBuffer st s b)
     unfolding changed changeBuffer
     change-done w q =
-        let m : changeNumber st s (length b) ≡ 0 = sym e ∙ z in
-        ((λ i. record { number = sym m i; state = (q ∙ sym (ifZero-yes (renewed st s) st m)) i }), w ∙ sym (ifZero-yes (overwrite b (st .length) (pairStart s 0)) b m))
+        let m : changeNumber st s (length b) ≡ 0 = sym e ∙ z in (
+          (λ i. record { number = sym m i; state = (q ∙ sym (ifZero-yes (renewed st s) st m)) i }),
+          w ∙ sym (ifZero-yes (overwrite b (st .length) (pairStart s 0)) b m),
+        )

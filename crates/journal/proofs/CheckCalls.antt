@@ -182,7 +182,8 @@ module _ (st : State) (j : List ℕ) where
   unfolding startChecked startNumber
   start-missing h q =
       let n = ask-no 21 (serialNumber st (serialAt j (st .length)) 0) h in
-      q ∙ (ap (λ (m : ℕ). stopped m st) (sym n) ∙ sym (ifZero-no (ask (startThere j (st .length)) 21 (serialNumber st (serialAt j (st .length)) 0)) _ _ (λ z. omega (arith, n, z))))
+      let k = ask (startThere j (st .length)) 21 (serialNumber st (serialAt j (st .length)) 0) in
+      q ∙ (ap (λ (m : ℕ). stopped m st) (sym n) ∙ sym (ifZero-no k _ _ (λ z. omega (arith, n, z))))
 
   module _ (h : startThere j (st .length) ≡ true) {s : Name} (e : s ≡ serialAt j (st .length)) {n : ℕ} (q : n ≡ serialNumber st s 0) where
     start-number : startNumber st j ≡ n
@@ -205,13 +206,13 @@ module _ (st : State) (j : List ℕ) where
       unfolding startChecked
       start-made f p = p ∙ (ap (stopped 0) (f ∙ ap (renewed st) e) ∙ sym (ifZero-yes _ _ (start-number ∙ z)))
 
-  pub end-none : {c : Checked} → length j ≤ st .length → c ≡ stopped 0 st → c ≡ endChecked st j
+  pub none-left : {c : Checked} → length j ≤ st .length → c ≡ stopped 0 st → c ≡ endChecked st j
   unfolding endChecked
-  end-none h q = q ∙ sym (rw (le-leb (length j) (st .length) h))
+  none-left h q = q ∙ sym (rw (le-leb (length j) (st .length) h))
 
-  pub end-start : {c : Checked} → st .length < length j → c ≡ startChecked st j → c ≡ endChecked st j
+  pub some-left : {c : Checked} → st .length < length j → c ≡ startChecked st j → c ≡ endChecked st j
   unfolding endChecked
-  end-start h q = q ∙ sym (rw (lt-leb (length j) (st .length) h))
+  some-left h q = q ∙ sym (rw (lt-leb (length j) (st .length) h))
 
 -- ---- one step
 
@@ -240,7 +241,8 @@ module _ (k : List (List ℕ)) (st : State) (j : List ℕ) where
     unfolding steps
     turn-no left some h =
         let l : left ≡ suc (left - 1) = omega arith in
-        ap (λ (m : ℕ). steps k m st j) l ∙ (ifZero-no (oneStep k st j .number) _ _ (λ z. h (sym number-of ∙ z)) ∙ (λ i. record { number = number-of i; state = st }))
+        ap (λ (m : ℕ). steps k m st j) l
+        ∙ (ifZero-no (oneStep k st j .number) _ _ (λ z. h (sym number-of ∙ z)) ∙ (λ i. record { number = number-of i; state = st }))
 
     module _ (z : c .number ≡ 0) where
       pub turn-stays : (left : ℕ) → c .state .length ≡ st .length → steps k left st j ≡ record { number = 0; state = st }

@@ -11,10 +11,9 @@ use Rattle.primitives.specs.Counter.{widthGood}
 use Rattle.primitives.proofs.Numbers.{length-bytesOf}
 use Rattle.primitives.proofs.Over.{length-over, placed-room, then}
 use Rattle.receipt.specs.Settings.{nameText, serialGood, settingsGood, idAllowed, SettingsLengths, settingsNumberFor}
-use Rattle.receipt.specs.declared.settings.Letters.the-variants.{Serial}
 use Rattle.receipt.specs.declared.settings.Name.{Name}
 use Rattle.receipt.specs.declared.settings.Settings.{Settings}
-use Rattle.receipt.proofs.Names.{good-name, good-settings, length-text, settings-zero, settings-pass, settings-stop}
+use Rattle.receipt.proofs.Names.{good-settings, length-text, settings-zero, settings-pass, settings-stop}
 use Rattle.receipt.proofs.Entries.{lent-name, settings-all}
 use Rattle.journal.specs.Head.{head, headLength, front, section, pairStart}
 use Rattle.journal.specs.State.{unopened}
@@ -22,7 +21,7 @@ use Rattle.journal.specs.Step.{fresh}
 use Rattle.journal.specs.Opening.{openNumber, opened, openBuffer}
 use Rattle.journal.specs.declared.state.State.{State}
 use Rattle.primitives.proofs.Rows.{ifZero-yes, ifZero-no, ask-zero, ask-yes, ask-no}
-use Rattle.journal.proofs.Sections.{length-section}
+use Rattle.journal.proofs.Sections.{length-section, serial-long, length-serial, length-start}
 use Rattle.primitives.specs.Questions.{ask}
 use borrow.Author.Tests.{leb-true, le-leb, lt-leb}
 use lib.Dec.{leb}
@@ -55,28 +54,19 @@ put-section text b at h e₁ e₂ =
     then-placed b (bytesOf 4 (length text)) text at (at + 4) (e₁ ∙ placed-room b at (bytesOf 4 (length text)) (omega arith)) e₂ (omega arith) (omega arith)
 
 -- the start of a pair
-module _ (serial : Name) (long : length (serial .bytes) ≡ 32) (good : serialGood serial ≡ true) where
-  text-long : length (nameText serial) ≡ serial .len
-  text-long = length-text serial long (good-name Serial serial good .most)
+module _ (s : Name) (long : length (s .bytes) ≡ 32) (g : serialGood s ≡ true) (b : List ℕ) (at : ℕ) (h : at + 8 + s .len ≤ length b) where
+  -- what is lent of the name
+  pub lent-room : at + 4 + length (take (s .len - 0) (s .bytes)) ≤ length b
+  lent-room = omega (arith, ap length (lent-name s), serial-long s long g)
 
-  pub length-start : (k : ℕ) → length (pairStart serial k) ≡ 8 + serial .len
+  pub put-start : {b₁ b₂ : List ℕ} → b₁ ≡ overwrite b at (section (take (s .len - 0) (s .bytes)))
+      → b₂ ≡ overwrite b₁ (at + 4 + s .len) (bytesOf 4 0) → b₂ ≡ overwrite b at (pairStart s 0)
   unfolding pairStart
-  length-start k =
-      length-append (section (nameText serial)) (bytesOf 4 k) ∙ omega (arith, length-section (nameText serial), text-long, length-bytesOf 4 k)
-
-  module _ (b : List ℕ) (at : ℕ) (h : at + 8 + serial .len ≤ length b) where
-    -- what is lent of the name
-    pub lent-room : at + 4 + length (take (serial .len - 0) (serial .bytes)) ≤ length b
-    lent-room = omega (arith, ap length (lent-name serial), text-long)
-
-    pub put-start : {b₁ b₂ : List ℕ} → b₁ ≡ overwrite b at (section (take (serial .len - 0) (serial .bytes)))
-        → b₂ ≡ overwrite b₁ (at + 4 + serial .len) (bytesOf 4 0) → b₂ ≡ overwrite b at (pairStart serial 0)
-    unfolding pairStart
-    put-start e₁ e₂ =
-        let n = section (nameText serial) in
-        let l : length n ≡ 4 + serial .len = length-section (nameText serial) ∙ ap (λ (k : ℕ). 4 + k) text-long in
-        let l4 = length-bytesOf 4 0 in
-        then b n (bytesOf 4 0) at (at + 4 + serial .len) (e₁ ∙ ap (λ (t : List ℕ). overwrite b at (section t)) (lent-name serial)) e₂ (omega arith) (omega arith)
+  put-start e₁ e₂ =
+      let n = section (nameText s) in
+      let l : length n ≡ 4 + s .len = length-serial s long g in
+      let l4 = length-bytesOf 4 0 in
+      then b n (bytesOf 4 0) at (at + 4 + s .len) (e₁ ∙ ap (λ (t : List ℕ). overwrite b at (section t)) (lent-name s)) e₂ (omega arith) (omega arith)
 
 module _ (s : Settings) (t : SettingsLengths s) (b : List ℕ) (good : settingsGood s ≡ true) (h : headLength s ≤ length b) where
   id-long : length (nameText (s .id)) ≡ s .id .len
@@ -106,7 +96,8 @@ module _ (s : Settings) (t : SettingsLengths s) (b : List ℕ) (good : settingsG
       let lp = length-start (s .serial) (t .serial) (settings-all s good .serial) 0 in
       let r = room in
       let w₂ = then b c i 0 7 e₁ (e₂ ∙ ap (λ (l : List ℕ). overwrite b₁ 7 (section l)) (lent-name (s .id))) (omega arith) (omega arith) in
-      then b (c ++ i) (pairStart (s .serial) 0) 0 (11 + s .id .len) w₂ e₃ (omega arith) (omega arith) ∙ ap (overwrite b 0) (head-is s)
+      then b (c ++ i) (pairStart (s .serial) 0) 0 (11 + s .id .len) w₂ e₃ (omega arith) (omega arith)
+      ∙ ap (overwrite b 0) (head-is s)
 
 pub put-count : (place count : ℕ) (b : List ℕ) {b₁ : List ℕ} → place + 4 ≤ length b → b₁ ≡ placed b place (bytesOf 4 count) → b₁ ≡ overwrite b place (bytesOf 4 count)
 put-count place count b h q =

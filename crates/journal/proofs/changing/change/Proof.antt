@@ -9,10 +9,14 @@ change-number-requires : tie.Need-change-number-requires
 change-number-requires c κs = search needs
 
 returns : tie.Need-returns
-returns c = change-refused (c .before .before .before .args .st) (c .before .before .before .args .serial) (c .before .before .before .args .buf .now) (c .before .change-number .ensures) (c .if1 .taken)
+returns c =
+    change-refused (c .before .before .before .args .st) (c .before .before .before .args .serial) (c .before .before .before .args .buf .now)
+    (c .before .change-number .ensures) (c .if1 .taken)
 
 put-start-requires : tie.Need-put-start-requires
-put-start-requires c κs = change-room (c .before .before .before .before .args .st) (c .before .before .before .before .args .serial) (c .before .before .before .before .args .buf .now) (c .before .before .change-number .ensures) (c .before .if1 .left)
+put-start-requires c κs =
+    change-room (c .before .before .before .before .args .st) (c .before .before .before .before .args .serial)
+    (c .before .before .before .before .args .buf .now) (c .before .before .change-number .ensures) (c .before .if1 .left)
 
 renewed-requires : tie.Need-renewed-requires
 renewed-requires c κs =
@@ -27,7 +31,9 @@ same-length c = search needs
 returns-2 : tie.Need-returns-2
 returns-2 c =
     let start = c .before .before .before .before .before .before .before .before in
-    change-done (start .args .st) (start .args .serial) (start .args .buf .now) (c .before .before .before .before .before .before .change-number .ensures) (c .before .before .before .before .before .if1 .left) (c .before .before .before .put-start .ensures) (c .renewed .ensures)
+    change-done (start .args .st) (start .args .serial) (start .args .buf .now)
+    (c .before .before .before .before .before .before .change-number .ensures) (c .before .before .before .before .before .if1 .left)
+    (c .before .before .before .put-start .ensures) (c .renewed .ensures)
 
 pub change-spec : {M : Type 1} → statement M
 change-spec =

@@ -17,16 +17,21 @@ is-used-requires : tie.Need-is-used-requires
 is-used-requires c κs = search needs
 
 returns : tie.Need-returns
-returns c = serial-used (c .before .before .before .args .st) (c .before .before .before .args .serial) 0 (sym (c .before .is-used .ensures) ∙ c .if1 .taken)
+returns c =
+    serial-used (c .before .before .before .args .st) (c .before .before .before .args .serial) 0 (sym (c .before .is-used .ensures) ∙ c .if1 .taken)
 
 used-count-requires : tie.Need-used-count-requires
 used-count-requires c κs = search needs
 
 returns-2 : tie.Need-returns-2
-returns-2 c = serial-ninth (c .before .before .before .before .before .args .st) (c .before .before .before .before .before .args .serial) 0 (new (c .before .before)) (omega (arith, c .before .used-count .ensures, c .if2 .taken))
+returns-2 c =
+    serial-ninth (c .before .before .before .before .before .args .st) (c .before .before .before .before .before .args .serial) 0
+    (new (c .before .before)) (omega (arith, c .before .used-count .ensures, c .if2 .taken))
 
 returns-3 : tie.Need-returns-3
-returns-3 c = sym (serial-yes (c .before .before .before .before .before .args .st) (c .before .before .before .before .before .args .serial) 0 (new (c .before .before)) (omega (arith, c .before .used-count .ensures, c .if2 .left)))
+returns-3 c =
+    sym
+    (serial-yes (c .before .before .before .before .before .args .st) (c .before .before .before .before .before .args .serial) 0 (new (c .before .before)) (omega (arith, c .before .used-count .ensures, c .if2 .left)))
 
 pub serial-number-spec : {M : Type 1} → statement M
 serial-number-spec =

@@ -21,7 +21,9 @@ stopped-requires : tie.Need-stopped-requires
 stopped-requires c κs = search needs
 
 returns : tie.Need-returns
-returns c = start-missing (c .before .before .before .before .args .st) (c .before .before .before .before .args .j .now) (no (c .before .before .start-there .ensures) (c .before .if1 .taken)) (c .stopped .ensures)
+returns c =
+    start-missing (c .before .before .before .before .args .st) (c .before .before .before .before .args .j .now)
+    (no (c .before .before .start-there .ensures) (c .before .if1 .taken)) (c .stopped .ensures)
 
 serial-at-requires : tie.Need-serial-at-requires
 serial-at-requires c κs = start-section (c .before .before .before .args .j .now) _ (whole c)
@@ -33,7 +35,10 @@ stopped-requires-2 : tie.Need-stopped-requires-2
 stopped-requires-2 c κs = search needs
 
 returns-2 : tie.Need-returns-2
-returns-2 c = start-stopped (c .before .before .before .before .before .before .before .args .st) (c .before .before .before .before .before .before .before .args .j .now) (whole (c .before .before .before .before)) (c .before .before .before .serial-at .ensures) (c .before .before .serial-number .ensures) (c .before .if2 .taken) (c .stopped2 .ensures)
+returns-2 c =
+    start-stopped (c .before .before .before .before .before .before .before .args .st)
+    (c .before .before .before .before .before .before .before .args .j .now) (whole (c .before .before .before .before))
+    (c .before .before .before .serial-at .ensures) (c .before .before .serial-number .ensures) (c .before .if2 .taken) (c .stopped2 .ensures)
 
 renewed-requires : tie.Need-renewed-requires
 renewed-requires c κs =
@@ -46,7 +51,10 @@ stopped-requires-3 c κs = search needs
 
 returns-3 : tie.Need-returns-3
 returns-3 c =
-    start-made (c .before .before .before .before .before .before .before .before .args .st) (c .before .before .before .before .before .before .before .before .args .j .now) (whole (c .before .before .before .before .before)) (c .before .before .before .before .serial-at .ensures) (c .before .before .before .serial-number .ensures) (c .before .before .if2 .left) (c .before .renewed .ensures) (c .stopped3 .ensures)
+    start-made (c .before .before .before .before .before .before .before .before .args .st)
+    (c .before .before .before .before .before .before .before .before .args .j .now) (whole (c .before .before .before .before .before))
+    (c .before .before .before .before .serial-at .ensures) (c .before .before .before .serial-number .ensures) (c .before .before .if2 .left)
+    (c .before .renewed .ensures) (c .stopped3 .ensures)
 
 pub check-start-spec : {M : Type 1} → statement M
 check-start-spec =

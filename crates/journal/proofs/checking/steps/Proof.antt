@@ -30,12 +30,14 @@ take-step-requires c κs = c .before .loop .inv .steady
 returns : tie.Need-returns Inv-loop μ-loop
 returns c =
     let l = c .before .before .before .before .loop in
-    sym (l .inv .same ∙ turn-no _ (l .st) (c .before .before .before .before .before .before .args .j .now) (c .before .before .take-step .ensures) (l .left) (c .before .before .before .loop-test .taken) (c .if1 .taken))
+    sym
+    (l .inv .same ∙ turn-no _ (l .st) (c .before .before .before .before .before .before .args .j .now) (c .before .before .take-step .ensures) (l .left) (c .before .before .before .loop-test .taken) (c .if1 .taken))
 
 returns-2 : tie.Need-returns-2 Inv-loop μ-loop
 returns-2 c =
     let l = c .before .before .before .before .before .before .before .before .loop in
-    sym (l .inv .same ∙ turn-stays _ (l .st) (c .before .before .before .before .before .before .before .before .before .before .args .j .now) (c .before .before .before .before .before .before .take-step .ensures) (c .before .before .before .before .if1 .left) (l .left) (c .if2 .taken))
+    sym
+    (l .inv .same ∙ turn-stays _ (l .st) (c .before .before .before .before .before .before .before .before .before .before .args .j .now) (c .before .before .before .before .before .before .take-step .ensures) (c .before .before .before .before .if1 .left) (l .left) (c .if2 .taken))
 
 sub-left : tie.Need-sub-left Inv-loop μ-loop
 sub-left c = search needs
@@ -55,7 +57,9 @@ loop-again c =
     }
 
 returns-3 : tie.Need-returns-3 Inv-loop μ-loop
-returns-3 c = sym (c .before .loop .inv .same ∙ steps-none _ (c .before .loop .left) (c .before .loop .st) (c .before .before .before .args .j .now) (omega (arith, c .loop-test .left)))
+returns-3 c =
+    sym
+    (c .before .loop .inv .same ∙ steps-none _ (c .before .loop .left) (c .before .loop .st) (c .before .before .before .args .j .now) (omega (arith, c .loop-test .left)))
 
 pub steps-spec : {M : Type 1} → statement M
 steps-spec =

@@ -11,13 +11,17 @@ check-end-requires : tie.Need-check-end-requires
 check-end-requires c κs = c .before .before .before .pre .serials
 
 returns : tie.Need-returns
-returns c = c .check-end .ensures ∙ sym (step-end _ (c .before .before .before .before .args .st) (c .before .before .before .before .args .j .now) (sym (c .before .before .full .ensures) ∙ c .before .if1 .taken))
+returns c =
+    c .check-end .ensures ∙ sym
+    (step-end _ (c .before .before .before .before .args .st) (c .before .before .before .before .args .j .now) (sym (c .before .before .full .ensures) ∙ c .before .if1 .taken))
 
 check-place-requires : tie.Need-check-place-requires
 check-place-requires c κs = (c .before .before .before .pre .issued, c .before .before .before .pre .section)
 
 returns-2 : tie.Need-returns-2
-returns-2 c = c .check-place .ensures ∙ sym (step-entry _ (c .before .before .before .before .args .st) (c .before .before .before .before .args .j .now) (sym (c .before .before .full .ensures) ∙ c .before .if1 .left))
+returns-2 c =
+    c .check-place .ensures ∙ sym
+    (step-entry _ (c .before .before .before .before .args .st) (c .before .before .before .before .args .j .now) (sym (c .before .before .full .ensures) ∙ c .before .if1 .left))
 
 pub take-step-spec : {M : Type 1} → statement M
 take-step-spec =

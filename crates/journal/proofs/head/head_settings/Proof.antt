@@ -27,7 +27,9 @@ name-of-requires : tie.Need-name-of-requires
 name-of-requires c κs = search needs
 
 serial-at-requires : tie.Need-serial-at-requires
-serial-at-requires c κs = second-room (c .before .before .before .before .args .j .now) (c .before .before .before .before .pre .0) (c .before .before .before .before .pre .1) (c .before .before .section-end .ensures)
+serial-at-requires c κs =
+    second-room (c .before .before .before .before .args .j .now) (c .before .before .before .before .pre .0)
+    (c .before .before .before .before .pre .1) (c .before .before .section-end .ensures)
 
 shared-slice-read-t10 : tie.Need-shared-slice-read-t10
 shared-slice-read-t10 c = omega (arith, ends (c .before .before .before .before))
@@ -39,7 +41,12 @@ shared-slice-read-t14 : tie.Need-shared-slice-read-t14
 shared-slice-read-t14 c = omega (arith, ends (c .before .before .before .before .before .before))
 
 returns : tie.Need-returns
-returns c = settings-read (c .before .before .before .before .before .before .before .before .args .j .now) (c .before .before .before .before .before .before .before .before .pre .0) (c .before .before .before .before .before .before .before .before .pre .1) (c .before .before .before .before .before .before .section-end .ensures) (c .before .before .before .before .name-of .ensures) (c .before .before .before .serial-at .ensures)
+returns c =
+    settings-read (c .before .before .before .before .before .before .before .before .args .j .now)
+    (c .before .before .before .before .before .before .before .before .pre .0)
+    (c .before .before .before .before .before .before .before .before .pre .1)
+    (c .before .before .before .before .before .before .section-end .ensures) (c .before .before .before .before .name-of .ensures)
+    (c .before .before .before .serial-at .ensures)
 
 pub head-settings-spec : {M : Type 1} → statement M
 head-settings-spec =

@@ -26,20 +26,26 @@ part-put-section-start : tie.Need-part-put-section-start
 part-put-section-start c = search needs
 
 part-put-section-end : tie.Need-part-put-section-end
-part-put-section-end c = omega (arith, typed (c .before .before .before .before .before .before .before .before .before .before .before) .id, good-settings _ (c .before .before .before .before .before .before .before .before .before .before .before .pre .0) .id .most)
+part-put-section-end c =
+    omega
+    (arith, typed (c .before .before .before .before .before .before .before .before .before .before .before) .id, good-settings _ (c .before .before .before .before .before .before .before .before .before .before .before .pre .0) .id .most)
 
 put-section-requires-2 : tie.Need-put-section-requires-2
 put-section-requires-2 c κs =
     let start = c .before .before .before .before .before .before .before .before .before .before .before .before .before in
-    id-room (start .args .s) (typed start) (start .args .buf .now) (start .pre .0) (start .pre .1) (c .before .before .before .before .before .put-section .last .1 .0) (search needs)
+    id-room (start .args .s) (typed start) (start .args .buf .now) (start .pre .0) (start .pre .1)
+    (c .before .before .before .before .before .put-section .last .1 .0) (search needs)
 
 add-put-start : tie.Need-add-put-start
-add-put-start c = omega (arith, good-settings _ (c .before .before .before .before .before .before .before .before .before .before .before .before .before .before .before .before .before .pre .0) .id .most)
+add-put-start c =
+    omega
+    (arith, good-settings _ (c .before .before .before .before .before .before .before .before .before .before .before .before .before .before .before .before .before .pre .0) .id .most)
 
 put-start-requires : tie.Need-put-start-requires
 put-start-requires c κs =
     let start = c .before .before .before .before .before .before .before .before .before .before .before .before .before .before .before .before .before in
-    pair-room (start .args .s) (typed start) (start .args .buf .now) (start .pre .0) (start .pre .1) (c .before .before .before .put-section2 .last .1 .0) (search needs)
+    pair-room (start .args .s) (typed start) (start .args .buf .now) (start .pre .0) (start .pre .1)
+    (c .before .before .before .put-section2 .last .1 .0) (search needs)
 
 same-length : tie.Need-same-length
 same-length c = search needs
@@ -47,7 +53,9 @@ same-length c = search needs
 returns : tie.Need-returns
 returns c =
     let start = c .before .before .before .before .before .before .before .before .before .before .before .before .before .before .before .before .before .before .before .before in
-    put-head (start .args .s) (typed start) (start .args .buf .now) (start .pre .0) (start .pre .1) (c .before .before .before .before .before .before .before .before .before .before .before .before .put-section .ensures) (c .before .before .before .before .before .before .put-section2 .ensures) (c .before .before .put-start .ensures)
+    put-head (start .args .s) (typed start) (start .args .buf .now) (start .pre .0) (start .pre .1)
+    (c .before .before .before .before .before .before .before .before .before .before .before .before .put-section .ensures)
+    (c .before .before .before .before .before .before .put-section2 .ensures) (c .before .before .put-start .ensures)
 
 pub put-head-spec : {M : Type 1} → statement M
 put-head-spec =

@@ -28,10 +28,14 @@ put-section-requires c κs =
     lent-room (start .args .serial) (long start) (start .pre .0) (start .args .buf .now) _ (start .pre .1)
 
 add-put-count : tie.Need-add-put-count
-add-put-count c = omega (arith, c .before .before .before .before .before .before .before .before .pre .1, c .before .before .before .before .before .before .before .before .good)
+add-put-count c =
+    omega
+    (arith, c .before .before .before .before .before .before .before .before .pre .1, c .before .before .before .before .before .before .before .before .good)
 
 add-put-count-2 : tie.Need-add-put-count-2
-add-put-count-2 c = omega (arith, c .before .before .before .before .before .before .before .before .pre .1, c .before .before .before .before .before .before .before .before .good)
+add-put-count-2 c =
+    omega
+    (arith, c .before .before .before .before .before .before .before .before .pre .1, c .before .before .before .before .before .before .before .before .good)
 
 put-count-requires : tie.Need-put-count-requires
 put-count-requires c κs = search needs
@@ -42,7 +46,8 @@ same-length c = search needs
 returns : tie.Need-returns
 returns c =
     let start = c .before .before .before .before .before .before .before .before .before .before .before .before in
-    put-start (start .args .serial) (long start) (start .pre .0) (start .args .buf .now) _ (start .pre .1) (c .before .before .before .before .before .before .put-section .ensures) (c .before .before .put-count .ensures)
+    put-start (start .args .serial) (long start) (start .pre .0) (start .args .buf .now) _ (start .pre .1)
+    (c .before .before .before .before .before .before .put-section .ensures) (c .before .before .put-count .ensures)
 
 pub put-start-spec : {M : Type 1} → statement M
 put-start-spec =

@@ -24,7 +24,9 @@ name-of-requires : tie.Need-name-of-requires
 name-of-requires c κs = search needs
 
 returns : tie.Need-returns
-returns c = serial-is (c .before .before .before .before .args .j .now) _ (c .before .before .before .before .pre) (c .before .before .section-end .ensures) (c .name-of .ensures)
+returns c =
+    serial-is (c .before .before .before .before .args .j .now) _ (c .before .before .before .before .pre) (c .before .before .section-end .ensures)
+    (c .name-of .ensures)
 
 pub serial-at-spec : {M : Type 1} → statement M
 serial-at-spec =

@@ -10,7 +10,8 @@ use Rattle.journal.proofs.head.start_there.Tie as tie
 
 -- there is room for both counts
 room : (c : tie.Else1) → c .before .before .before .args .at + 8 ≤ length (c .before .before .before .args .j .now)
-room c = at-most (c .before .before .before .args .at + 8) (length (c .before .before .before .args .j .now)) (c .before .has-room .ensures) (c .if1 .left)
+room c =
+    at-most (c .before .before .before .args .at + 8) (length (c .before .before .before .args .j .now)) (c .before .has-room .ensures) (c .if1 .left)
 
 has-room-requires : tie.Need-has-room-requires
 has-room-requires c κs = search needs
@@ -28,16 +29,21 @@ count-at-requires : tie.Need-count-at-requires
 count-at-requires c κs = (omega arith, omega (arith, room c))
 
 returns-2 : tie.Need-returns-2
-returns-2 c = start-long (c .before .before .before .before .before .args .j .now) _ (room (c .before .before)) (c .before .count-at .ensures .0) (c .if2 .taken)
+returns-2 c =
+    start-long (c .before .before .before .before .before .args .j .now) _ (room (c .before .before)) (c .before .count-at .ensures .0)
+    (c .if2 .taken)
 
 serial-at-requires : tie.Need-serial-at-requires
-serial-at-requires c κs = start-room (c .before .before .before .before .before .args .j .now) _ (room (c .before .before)) (c .before .count-at .ensures .0) (c .if2 .left)
+serial-at-requires c κs =
+    start-room (c .before .before .before .before .before .args .j .now) _ (room (c .before .before)) (c .before .count-at .ensures .0) (c .if2 .left)
 
 serial-good-requires : tie.Need-serial-good-requires
 serial-good-requires c κs = search needs
 
 returns-3 : tie.Need-returns-3
-returns-3 c = start-is (c .before .before .before .before .before .before .before .args .j .now) _ (room (c .before .before .before .before)) (c .before .before .before .count-at .ensures .0) (c .before .before .if2 .left) (c .before .serial-at .ensures) (c .serial-good .ensures)
+returns-3 c =
+    start-is (c .before .before .before .before .before .before .before .args .j .now) _ (room (c .before .before .before .before))
+    (c .before .before .before .count-at .ensures .0) (c .before .before .if2 .left) (c .before .serial-at .ensures) (c .serial-good .ensures)
 
 pub start-there-spec : {M : Type 1} → statement M
 start-there-spec =

@@ -24,7 +24,10 @@ counts c = append-count _ _ _ (c .args .buf .now) (asked c) (below c)
 
 -- what is known where there was room
 made : (c : tie.Else1) → Made (c .before .before .before .before .before .before .before .before .args .st) (c .before .before .before .before .before .before .before .before .args .buf .now) (c .before .before .before .put-entry .last .1 .1 .0) (c .before .before .before .put-entry .result)
-made c = append-made _ _ _ (c .before .before .before .before .before .before .before .before .args .buf .now) (asked (c .before .before .before .before .before .before .before .before)) (c .before .before .before .before .before .entry-of .ensures) (c .before .before .before .put-entry .ensures) (c .if1 .left)
+made c =
+    append-made _ _ _ (c .before .before .before .before .before .before .before .before .args .buf .now)
+    (asked (c .before .before .before .before .before .before .before .before)) (c .before .before .before .before .before .entry-of .ensures)
+    (c .before .before .before .put-entry .ensures) (c .if1 .left)
 
 entry-of-requires : tie.Need-entry-of-requires
 entry-of-requires c κs = search needs
@@ -40,7 +43,10 @@ same-length : tie.Need-same-length
 same-length c = search needs
 
 returns : tie.Need-returns
-returns c = append-refused _ _ _ (c .before .before .before .before .before .before .before .before .args .buf .now) (asked (c .before .before .before .before .before .before .before .before)) (c .before .before .before .before .before .entry-of .ensures) (c .before .before .before .put-entry .ensures) (c .if1 .taken)
+returns c =
+    append-refused _ _ _ (c .before .before .before .before .before .before .before .before .args .buf .now)
+    (asked (c .before .before .before .before .before .before .before .before)) (c .before .before .before .before .before .entry-of .ensures)
+    (c .before .before .before .put-entry .ensures) (c .if1 .taken)
 
 add-start : tie.Need-add-start
 add-start c =
@@ -78,7 +84,11 @@ same-length-2 c = search needs
 returns-2 : tie.Need-returns-2
 returns-2 c =
     let start = c .before .before .before .before .before .before .before .before .before .before .before .before .before .before .before .before in
-    append-done _ _ _ (start .args .buf .now) (asked start) (c .before .before .before .before .before .before .before .before .before .before .before .before .before .entry-of .ensures) (c .before .before .before .before .before .before .before .before .before .before .before .put-entry .ensures) (c .before .before .before .before .before .before .before .before .if1 .left) (c .before .before .before .before .before .next .ensures) (c .before .before .put-count .ensures)
+    append-done _ _ _ (start .args .buf .now) (asked start)
+    (c .before .before .before .before .before .before .before .before .before .before .before .before .before .entry-of .ensures)
+    (c .before .before .before .before .before .before .before .before .before .before .before .put-entry .ensures)
+    (c .before .before .before .before .before .before .before .before .if1 .left) (c .before .before .before .before .before .next .ensures)
+    (c .before .before .put-count .ensures)
 
 pub append-spec : {M : Type 1} → statement M
 append-spec =

@@ -1,9 +1,9 @@
 -- Place by place, from the place k on.
-use Prim.Native.Nat.{_-_, _≤_, _<_}
+use Prim.Native.Nat.{_-_, _<_}
 use mathlib.Core.Path.{_≡_, refl, sym, ap, _∙_}
 use lib.ListN.{length, drop}
 use Rattle.primitives.proofs.Questions.{yes, no}
-use Rattle.journal.specs.State.{noName, sameName, allEmpty}
+use Rattle.journal.specs.State.{sameName, allEmpty}
 use Rattle.journal.proofs.Serials.{empty-no, empty-later, empty-none}
 use borrow.Author.Needs.{needs}
 use native.Mathlib.Omega.{arith}

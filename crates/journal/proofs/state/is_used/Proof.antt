@@ -2,7 +2,6 @@
 use Prim.Native.Nat.{_-_, _≤_, _<_}
 use mathlib.Core.Path.{_≡_, refl, sym, ap, _∙_}
 use lib.ListN.{length, drop}
-use Rattle.receipt.specs.declared.settings.Name.{Name}
 use Rattle.journal.specs.State.{used, isIn, sameName}
 use Rattle.journal.proofs.Serials.{used-length, used-at, in-here, in-later, in-none}
 use borrow.Author.Needs.{needs}
@@ -42,7 +41,8 @@ returns : tie.Need-returns Inv-loop μ-loop
 returns c =
     let s = c .before .before .before .before .before .before .args in
     let l = c .before .before .before .before .loop in
-    let h : l .i < length (used (s .t2)) = omega (arith, c .before .before .before .before .before .used-count .ensures, c .before .before .before .loop-test .taken) in
+    let h : l .i < length (used (s .t2)) = omega
+    (arith, c .before .before .before .before .before .used-count .ensures, c .before .before .before .loop-test .taken) in
     let e = ap (sameName (s .serial)) (used-at (s .t2) (l .i) _ h) ∙ (sym (c .before .same-name .ensures) ∙ c .if1 .taken) in
     sym (l .inv ∙ in-here (used (s .t2)) (l .i) _ h (s .serial) e)
 
@@ -56,7 +56,8 @@ loop-again : tie.Need-loop-again Inv-loop μ-loop
 loop-again c =
     let s = c .before .before .before .before .before .before .args in
     let l = c .before .before .before .before .loop in
-    let h : l .i < length (used (s .t2)) = omega (arith, c .before .before .before .before .before .used-count .ensures, c .before .before .before .loop-test .taken) in
+    let h : l .i < length (used (s .t2)) = omega
+    (arith, c .before .before .before .before .before .used-count .ensures, c .before .before .before .loop-test .taken) in
     let e = ap (sameName (s .serial)) (used-at (s .t2) (l .i) _ h) ∙ (sym (c .before .same-name .ensures) ∙ c .if1 .left) in
     l .inv ∙ in-later (used (s .t2)) (l .i) _ h (s .serial) e
 

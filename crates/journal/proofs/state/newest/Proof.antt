@@ -35,7 +35,9 @@ array-copy-out-result : tie.Need-array-copy-out-result
 array-copy-out-result c = omega (arith, most (c .before), c .if1 .left)
 
 returns-2 : tie.Need-returns-2
-returns-2 c = newest-at (c .before .before .before .args .t1) (c .before .before .used-count .result) _ (c .before .before .used-count .ensures) (omega (arith, c .before .if1 .left))
+returns-2 c =
+    newest-at (c .before .before .before .args .t1) (c .before .before .used-count .result) _ (c .before .before .used-count .ensures)
+    (omega (arith, c .before .if1 .left))
 
 pub newest-spec : {M : Type 1} → statement M
 newest-spec =

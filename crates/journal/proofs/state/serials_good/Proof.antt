@@ -15,13 +15,17 @@ good-before-requires : tie.Need-good-before-requires
 good-before-requires c κs = search needs
 
 returns-2 : tie.Need-returns-2
-returns-2 c = good-bad (c .before .before .before .before .args .slots) (c .before .before .before .used-count .ensures) (c .before .before .if1 .left) (no (c .before .good-before .ensures) (c .if2 .taken))
+returns-2 c =
+    good-bad (c .before .before .before .before .args .slots) (c .before .before .before .used-count .ensures) (c .before .before .if1 .left)
+    (no (c .before .good-before .ensures) (c .if2 .taken))
 
 empty-from-requires : tie.Need-empty-from-requires
 empty-from-requires c κs = search needs
 
 returns-3 : tie.Need-returns-3
-returns-3 c = good-rest (c .before .before .before .before .before .args .slots) (c .before .before .before .before .used-count .ensures) (c .before .before .before .if1 .left) (yes (c .before .before .good-before .ensures) (c .before .if2 .left)) (c .empty-from .ensures)
+returns-3 c =
+    good-rest (c .before .before .before .before .before .args .slots) (c .before .before .before .before .used-count .ensures)
+    (c .before .before .before .if1 .left) (yes (c .before .before .good-before .ensures) (c .before .if2 .left)) (c .empty-from .ensures)
 
 pub serials-good-spec : {M : Type 1} → statement M
 serials-good-spec =

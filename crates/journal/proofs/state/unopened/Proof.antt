@@ -1,5 +1,4 @@
 -- `state::unopened` meets its contract.
-use mathlib.Core.Path.{refl}
 use Rattle.journal.specs.State.{unopened}
 use borrow.Author.Needs.{needs}
 use Rattle.journal.proofs.state.unopened.Statement.{statement}

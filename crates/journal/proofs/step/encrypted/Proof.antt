@@ -21,7 +21,8 @@ returns c =
     let s = c .before .before .before .before .before .before .before .args in
     let z = c .before .before .before .before .new-counter .result .counter in
     let f : SFits w64 z = search needs in
-    encrypted-is (s .st) (s .d) (c .before .before .before .counter-key .ensures) (c .before .before .before .before .new-counter .ensures) (toZ-ofZ w64 z f) (c .encrypt-counter .ensures)
+    encrypted-is (s .st) (s .d) (c .before .before .before .counter-key .ensures) (c .before .before .before .before .new-counter .ensures)
+    (toZ-ofZ w64 z f) (c .encrypt-counter .ensures)
 
 pub encrypted-spec : {M : Type 1} → statement M
 encrypted-spec =

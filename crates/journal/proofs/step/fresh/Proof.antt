@@ -22,7 +22,9 @@ count-place-requires c κs = search needs
 
 returns : tie.Need-returns
 unfolding fresh inEight
-returns c = rw (c .before .before .before .no-name .ensures, c .before .before .first-chain .ensures, c .before .head-length .ensures, c .count-place .ensures)
+returns c =
+    rw
+    (c .before .before .before .no-name .ensures, c .before .before .first-chain .ensures, c .before .head-length .ensures, c .count-place .ensures)
 
 pub fresh-spec : {M : Type 1} → statement M
 fresh-spec =

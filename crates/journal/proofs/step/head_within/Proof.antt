@@ -15,7 +15,9 @@ head-length-requires : tie.Need-head-length-requires
 head-length-requires c κs = ap settingsGood (c .settings-first .ensures) ∙ c .before .pre
 
 returns : tie.Need-returns
-returns c = ap (λ (n : ℕ). leb n (c .before .before .before .args .st .length)) (c .before .head-length .ensures ∙ ap headLength (c .before .before .settings-first .ensures))
+returns c =
+    ap (λ (n : ℕ). leb n (c .before .before .before .args .st .length))
+    (c .before .head-length .ensures ∙ ap headLength (c .before .before .settings-first .ensures))
 
 pub head-within-spec : {M : Type 1} → statement M
 head-within-spec = tie.close (tie.spec settings-first-requires head-length-requires returns)

@@ -15,14 +15,17 @@ id-good-requires : tie.Need-id-good-requires
 id-good-requires c κs = search needs
 
 returns-2 : tie.Need-returns-2
-returns-2 c = and-yes _ _ _ (yes (c .before .before .before .before .csp-good .ensures) (c .before .before .before .if1 .left)) (and-no _ _ (no (c .before .id-good .ensures) (c .if2 .taken)))
+returns-2 c =
+    and-yes _ _ _ (yes (c .before .before .before .before .csp-good .ensures) (c .before .before .before .if1 .left))
+    (and-no _ _ (no (c .before .id-good .ensures) (c .if2 .taken)))
 
 serials-good-requires : tie.Need-serials-good-requires
 serials-good-requires c κs = search needs
 
 returns-3 : tie.Need-returns-3
 returns-3 c =
-    and-yes _ _ _ (yes (c .before .before .before .before .before .before .csp-good .ensures) (c .before .before .before .before .before .if1 .left)) (and-yes _ _ _ (yes (c .before .before .before .id-good .ensures) (c .before .before .if2 .left)) (c .serials-good .ensures))
+    and-yes _ _ _ (yes (c .before .before .before .before .before .before .csp-good .ensures) (c .before .before .before .before .before .if1 .left))
+    (and-yes _ _ _ (yes (c .before .before .before .id-good .ensures) (c .before .before .if2 .left)) (c .serials-good .ensures))
 
 pub names-good-spec : {M : Type 1} → statement M
 names-good-spec =

@@ -30,7 +30,8 @@ returns c =
     let s = c .before .before .before .before .before .before .before .before .before .before .before .args in
     let z = c .before .before .before .before .before .new-counter .result .counter in
     let f : SFits w64 z = search needs in
-    rw (toZ-ofZ w64 z f) (next-is (s .st) (s .d) (s .text .now) (c .before .before .before .before .before .new-counter .ensures) (c .before .before .before .before .chain-value .ensures))
+    rw (toZ-ofZ w64 z f)
+    (next-is (s .st) (s .d) (s .text .now) (c .before .before .before .before .before .new-counter .ensures) (c .before .before .before .before .chain-value .ensures))
 
 pub next-spec : {M : Type 1} → statement M
 next-spec =

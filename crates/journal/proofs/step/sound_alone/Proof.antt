@@ -19,7 +19,9 @@ width-good-requires c κs = search needs
 
 returns-2 : tie.Need-returns-2
 unfolding soundAlone
-returns-2 c = and-yes _ _ _ (yes (c .before .before .before .names-good .ensures) (c .before .before .if1 .left)) (and-no _ _ (no (c .before .width-good .ensures) (c .if2 .taken)))
+returns-2 c =
+    and-yes _ _ _ (yes (c .before .before .before .names-good .ensures) (c .before .before .if1 .left))
+    (and-no _ _ (no (c .before .width-good .ensures) (c .if2 .taken)))
 
 counter-good-requires : tie.Need-counter-good-requires
 counter-good-requires c κs = search needs
@@ -36,7 +38,8 @@ counts-good-requires c κs = search needs
 returns-4 : tie.Need-returns-4
 unfolding soundAlone
 returns-4 c =
-    and-yes _ _ _ (yes (c .before .before .before .before .before .before .before .names-good .ensures) (c .before .before .before .before .before .before .if1 .left))
+    and-yes _ _ _
+    (yes (c .before .before .before .before .before .before .before .names-good .ensures) (c .before .before .before .before .before .before .if1 .left))
     (and-yes _ _ _ (yes (c .before .before .before .before .before .width-good .ensures) (c .before .before .before .before .if2 .left))
     (and-yes _ _ _ (yes (c .before .before .before .counter-good .ensures) (c .before .before .if3 .left)) (and-no _ _ (no (c .before .counts-good .ensures) (c .if4 .taken)))))
 
@@ -46,18 +49,22 @@ count-within-requires c κs = search needs
 returns-5 : tie.Need-returns-5
 unfolding soundAlone
 returns-5 c =
-    and-yes _ _ _ (yes (c .before .before .before .before .before .before .before .before .before .names-good .ensures) (c .before .before .before .before .before .before .before .before .if1 .left))
+    and-yes _ _ _
+    (yes (c .before .before .before .before .before .before .before .before .before .names-good .ensures) (c .before .before .before .before .before .before .before .before .if1 .left))
     (and-yes _ _ _ (yes (c .before .before .before .before .before .before .before .width-good .ensures) (c .before .before .before .before .before .before .if2 .left))
     (and-yes _ _ _ (yes (c .before .before .before .before .before .counter-good .ensures) (c .before .before .before .before .if3 .left))
     (and-yes _ _ _ (yes (c .before .before .before .counts-good .ensures) (c .before .before .if4 .left)) (and-no _ _ (no (c .before .count-within .ensures) (c .if5 .taken))))))
 
 head-within-requires : tie.Need-head-within-requires
-head-within-requires c κs = names-first (c .before .before .before .before .before .before .before .before .before .before .args .st) (yes (c .before .before .before .before .before .before .before .before .before .names-good .ensures) (c .before .before .before .before .before .before .before .before .if1 .left))
+head-within-requires c κs =
+    names-first (c .before .before .before .before .before .before .before .before .before .before .args .st)
+    (yes (c .before .before .before .before .before .before .before .before .before .names-good .ensures) (c .before .before .before .before .before .before .before .before .if1 .left))
 
 returns-6 : tie.Need-returns-6
 unfolding soundAlone
 returns-6 c =
-    and-yes _ _ _ (yes (c .before .before .before .before .before .before .before .before .before .before .names-good .ensures) (c .before .before .before .before .before .before .before .before .before .if1 .left))
+    and-yes _ _ _
+    (yes (c .before .before .before .before .before .before .before .before .before .before .names-good .ensures) (c .before .before .before .before .before .before .before .before .before .if1 .left))
     (and-yes _ _ _ (yes (c .before .before .before .before .before .before .before .before .width-good .ensures) (c .before .before .before .before .before .before .before .if2 .left))
     (and-yes _ _ _ (yes (c .before .before .before .before .before .before .counter-good .ensures) (c .before .before .before .before .before .if3 .left))
     (and-yes _ _ _ (yes (c .before .before .before .before .counts-good .ensures) (c .before .before .before .if4 .left))
