@@ -1,7 +1,7 @@
 -- What the yes answers to a call say, and that the entry of such a call is right.
 use Prim.Native.Nat.{ℕ, _+_, _≤_, _<_}
 use mathlib.Core.Path.{_≡_, refl, sym, ap, _∙_}
-use mathlib.Core.Bool.{Bool, true, false, cond, _||_}
+use mathlib.Core.Bool.{Bool, true, false, cond, _&&_, _||_}
 use mathlib.Core.List.{List, [], _∷_, _++_, append-assoc, append-nil}
 use native.Mathlib.Omega.{arith}
 use borrow.Author.Tests.{leb-true, le-leb, lt-ltb, ltb-true, eqb-true, not-true}
@@ -46,9 +46,9 @@ use Rattle.journal.specs.Valid.{texts}
 use Rattle.journal.specs.Calls.{Order, TypedOrder}
 use Rattle.journal.specs.declared.state.State.{State}
 use Rattle.receipt.proofs.Entries.{spellable-yes, after-counter, none-counter, failed-zero, signed-zero}
-use Rattle.journal.proofs.Serials.{newest-good}
+use Rattle.journal.proofs.Serials.{newest-good, first-good}
 use Rattle.journal.proofs.Check.{RightAt, above-true, first-true, new-fits, new-is}
-use Rattle.journal.specs.State.{used, newest, isIn, serialsGood, settingsNow, headLengthNow}
+use Rattle.journal.specs.State.{used, newest, isIn, serialsGood, settingsNow, settingsFirst, headLengthNow}
 
 -- ---- chain bytes
 
@@ -109,6 +109,12 @@ settings-three csp id serial a b c = rw (a, b, c)
 -- the settings in force and those of the head are good
 pub sound-settings : (st : State) → Sound st → settingsGood (settingsNow st) ≡ true
 sound-settings st s = settings-three (st .csp) (st .id) (newest (st .serials)) (s .csp) (s .id) (newest-good (st .serials) (s .serials))
+
+pub names-first : (st : State) → cspGood (st .csp) && (idGood (st .id) && serialsGood (st .serials)) ≡ true → settingsGood (settingsFirst st) ≡ true
+names-first st e =
+    let p = both _ _ e in
+    let q = both _ _ (p .1) in
+    settings-three (st .csp) (st .id) (settingsFirst st .serial) (p .0) (q .0) (first-good (st .serials) (q .1))
 
 -- 7 to 11
 pub record Detailed (st : State) (d : Details) : Type 0 where

@@ -1,8 +1,8 @@
 -- What the functions of a take-over show at their returns, over plain variables.
-use Prim.Native.Nat.{ℕ, suc, _+_, _-_, _≤_, _<_, zero}
+use Prim.Native.Nat.{ℕ, suc, _+_, _-_, _≤_, _<_}
 use mathlib.Core.Path.{_≡_, refl, sym, ap, _∙_, subst}
 use mathlib.Core.Bool.{Bool, true, false, not}
-use mathlib.Core.List.{List}
+use mathlib.Core.List.{List, [], _∷_}
 use native.Mathlib.Omega.{arith}
 use borrow.Author.Tests.{leb-true, le-leb, lt-leb, eqb-true, eq-eqb, leb-false}
 use lib.Dec.{leb, eqb}
@@ -20,15 +20,16 @@ use Rattle.receipt.specs.declared.details.Details.{Details}
 use Rattle.receipt.specs.declared.details.After.{After}
 use Rattle.receipt.specs.declared.payload.PayloadFields.{PayloadFields}
 use Rattle.receipt.specs.declared.entry.Found.{Found}
+use Rattle.receipt.specs.declared.settings.Name.{Name}
 use Rattle.receipt.specs.declared.settings.Settings.{Settings}
 use Rattle.primitives.proofs.Zlaws.{same-bits}
 use Rattle.primitives.proofs.Rows.{both, true-is-not-false, and-no, and-yes, not-yes, ask-zero, ask-yes, ask-no, ifZero-yes, ifZero-no}
-use Rattle.journal.specs.Step.{fresh, newCounter, next, soundAlone, sound}
+use Rattle.journal.specs.Step.{fresh, newCounter, next, renewed, soundAlone, sound}
 use Rattle.primitives.specs.Questions.{ask, ifZero}
 use Rattle.primitives.specs.Number.{countAt}
-use Rattle.journal.specs.Head.{headSettings, headGood, lengthAt, there, textAt, headLength, entryText}
-use Rattle.journal.proofs.Stepping.{step-end, step-entry, idle, passed-step}
-use Rattle.journal.specs.Checking.{headNumber, found, equal, counterRight, contextNumber, textNumber, after, entryNumber, refused, accepted, takeOver, checked, stopped, textChecked, placeChecked, endChecked, oneStep, steps, lastAnswer, entryReady, entryChecked, stepChecked, full}
+use Rattle.journal.specs.Head.{headSettings, headGood, lengthAt, there, textAt, headLength, countPlace, entryText, serialAt, startThere}
+use Rattle.journal.proofs.Stepping.{start-within, steady-step, passed-step, stays}
+use Rattle.journal.specs.Checking.{headNumber, found, equal, counterRight, contextNumber, textNumber, after, entryNumber, refused, accepted, takeOver, checked, stopped, textChecked, placeChecked, startNumber, startChecked, endChecked, oneStep, Steady, steps, lastAnswer, entryReady, entryChecked, stepChecked, full}
 use Rattle.journal.specs.declared.state.State.{State}
 use Rattle.journal.proofs.Equal.{equal-true, equal-refl}
 use Rattle.journal.specs.declared.state.TakenOver.{TakenOver}
@@ -37,9 +38,12 @@ use Rattle.journal.specs.declared.checking.Checked.{Checked}
 use Rattle.journal.specs.declared.checking.Step.{Step}
 use Rattle.journal.proofs.Places.{length-entry}
 use Rattle.receipt.specs.Settings.{settingsGood}
-use Rattle.journal.proofs.Answers.{sound-true}
-use Rattle.journal.specs.State.{settingsNow, headLengthNow, countPlaceNow}
-use Rattle.receipt.proofs.Entries.{none-found}
+use Rattle.journal.proofs.Answers.{sound-true, serial-zero}
+use Rattle.journal.proofs.OpenCalls.{head-least}
+use Rattle.journal.proofs.Serials.{eight-good}
+use Rattle.journal.specs.State.{used, allGood, settingsNow}
+use Rattle.journal.specs.Changing.{serialNumber}
+use Rattle.receipt.proofs.Entries.{settings-all}
 
 -- ---- the bytes of an entry
 
@@ -87,19 +91,12 @@ pub equal-yes : (a b : ℤ) → a ≡ b → equal a b ≡ true
 equal-yes a b e = ap (equal a) (sym e) ∙ equal-refl a
 
 -- a test of the bits of two numbers
-bits-equal : {x y z : ℤ} → SFits w64 x → SFits w64 y → x ≡ z → eqb (ofZ w64 x) (ofZ w64 y) ≡ equal z y
+pub bits-equal : {x y z : ℤ} → SFits w64 x → SFits w64 y → x ≡ z → eqb (ofZ w64 x) (ofZ w64 y) ≡ equal z y
 bits-equal {x} {y} {z} f g e = go (eqb (ofZ w64 x) (ofZ w64 y)) refl
   where
     go : (t : Bool) → eqb (ofZ w64 x) (ofZ w64 y) ≡ t → t ≡ equal z y
     go true q = sym (equal-yes z y (sym e ∙ same-bits x y f g (eqb-true (ofZ w64 x) (ofZ w64 y) q)))
     go false q = sym (equal-no z y (λ r. true-is-not-false (sym q ∙ eq-eqb (ofZ w64 x) (ofZ w64 y) (ap (ofZ w64) (e ∙ r)))))
-
--- the same for the counter decrypted with the settings in force
-pub decrypted-equal : (k : List (List ℕ)) (st : State) (f : PayloadFields) {s : Settings} {x y : ℤ} → s ≡ settingsNow st → SFits w64 x → SFits w64 y
-    → x ≡ decryptedCounter k (s .id) (f .details .number) (st .width) (f .counter)
-    → eqb (ofZ w64 x) (ofZ w64 y) ≡ equal (decryptedCounter k (settingsNow st .id) (f .details .number) (st .width) (f .counter)) y
-decrypted-equal k st f q a b e =
-    bits-equal a b (e ∙ ap (λ (s : Settings). decryptedCounter k (s .id) (f .details .number) (st .width) (f .counter)) q)
 
 -- the machine's number is the state's
 pub after-back : (st : State) (d : Details) {a : After} → SFits w64 (st .counter) → a ≡ counterAfter (st .width) (toZ w64 (ofZ w64 (st .counter))) d
@@ -124,12 +121,12 @@ module _ (k : List (List ℕ)) (st : State) (f : PayloadFields) {a : After} (e :
     counter-other q = and-yes _ _ _ fits (sym (rw q))
 
     pub counter-standard : {t : Bool} → standard (f .details .kind) ≡ true → SFits w64 (a .counter)
-        → t ≡ equal (decryptedCounter k (settingsNow st .id) (f .details .number) (st .width) (f .counter)) (toZ w64 (ofZ w64 (a .counter)))
+        → t ≡ equal (decryptedCounter k (st .id) (f .details .number) (st .width) (f .counter)) (toZ w64 (ofZ w64 (a .counter)))
         → t ≡ counterRight k st f
     unfolding counterRight
     counter-standard s g q =
         and-yes _ _ _ fits
-        (q ∙ ap (equal _) (toZ-ofZ g) ∙ (λ i. equal (decryptedCounter k (settingsNow st .id) (f .details .number) (st .width) (f .counter)) (new-is i .counter)) ∙ sym (rw s))
+        (q ∙ ap (equal _) (toZ-ofZ g) ∙ (λ i. equal (decryptedCounter k (st .id) (f .details .number) (st .width) (f .counter)) (new-is i .counter)) ∙ sym (rw s))
 
 pub above-of : (k : List (List ℕ)) (st : State) (f : PayloadFields) → contextNumber k st f ≡ 0 → st .last < f .details .number
 unfolding contextNumber
@@ -174,20 +171,48 @@ module _ (k : List (List ℕ)) (st : State) (text : List ℕ) {r : Found} (e : r
         (λ i. record { number = 0; found = found-is i; state = (p ∙ ap (λ (y : Found). next st (y .entry .fields .details) text) found-is) i })
         ∙ sym (ifZero-yes _ _ m)
 
--- ---- the end of a journal
+-- ---- after the last entry of a section
 
 module _ (st : State) (j : List ℕ) where
-  pub full-is : {count place : ℕ} → place ≡ countPlaceNow st → count ≡ countAt j place 4 → leb count (st .issued) ≡ full st j
+  pub full-is : {count : ℕ} → count ≡ countAt j (st .place) 4 → leb count (st .section) ≡ full st j
   unfolding full
-  full-is p q = ap (λ (n : ℕ). leb n (st .issued)) (q ∙ ap (λ (x : ℕ). countAt j x 4) p)
+  full-is q = ap (λ (n : ℕ). leb n (st .section)) q
 
-  pub end-left : {c : Checked} → st .length < length j → c ≡ stopped 21 st → c ≡ endChecked st j
-  unfolding endChecked
-  end-left h q = q ∙ ap (λ (n : ℕ). stopped n st) (sym (ask-no 21 0 (lt-leb (length j) (st .length) h)))
+  pub start-missing : {c : Checked} → startThere j (st .length) ≡ false → c ≡ stopped 21 st → c ≡ startChecked st j
+  unfolding startChecked startNumber
+  start-missing h q =
+      let n = ask-no 21 (serialNumber st (serialAt j (st .length)) 0) h in
+      let k = ask (startThere j (st .length)) 21 (serialNumber st (serialAt j (st .length)) 0) in
+      q ∙ (ap (λ (m : ℕ). stopped m st) (sym n) ∙ sym (ifZero-no k _ _ (λ z. omega (arith, n, z))))
 
-  pub end-none : {c : Checked} → length j ≤ st .length → c ≡ stopped 0 st → c ≡ endChecked st j
+  module _ (h : startThere j (st .length) ≡ true) {s : Name} (e : s ≡ serialAt j (st .length)) {n : ℕ} (q : n ≡ serialNumber st s 0) where
+    start-number : startNumber st j ≡ n
+    unfolding startNumber
+    start-number = ask-yes 21 _ h ∙ (ap (λ (x : Name). serialNumber st x 0) (sym e) ∙ sym q)
+
+    pub start-stopped : {c : Checked} → (n ≡ 0 → ⊥) → c ≡ stopped n st → c ≡ startChecked st j
+    unfolding startChecked
+    start-stopped g p =
+        p ∙ (ap (λ (m : ℕ). stopped m st) (sym start-number) ∙ sym (ifZero-no (startNumber st j) _ _ (λ z. g (sym start-number ∙ z))))
+
+    module _ (z : n ≡ 0) where
+      -- one more serial fits the state and the journal
+      pub start-fits : (length (used (st .serials)) < 8) × (st .length + 8 + s .len ≤ length j)
+      start-fits =
+          let w = start-within j (st .length) h .0 in
+          (serial-zero st s 0 (sym q ∙ z) .1, omega (arith, w, ap (λ (x : Name). x .len) e))
+
+      pub start-made : {x : State} {c : Checked} → x ≡ renewed st s → c ≡ stopped 0 x → c ≡ startChecked st j
+      unfolding startChecked
+      start-made f p = p ∙ (ap (stopped 0) (f ∙ ap (renewed st) e) ∙ sym (ifZero-yes _ _ (start-number ∙ z)))
+
+  pub none-left : {c : Checked} → length j ≤ st .length → c ≡ stopped 0 st → c ≡ endChecked st j
   unfolding endChecked
-  end-none h q = q ∙ ap (λ (n : ℕ). stopped n st) (sym (ask-yes 21 0 (le-leb (length j) (st .length) h)))
+  none-left h q = q ∙ sym (rw (le-leb (length j) (st .length) h))
+
+  pub some-left : {c : Checked} → st .length < length j → c ≡ startChecked st j → c ≡ endChecked st j
+  unfolding endChecked
+  some-left h q = q ∙ sym (rw (lt-leb (length j) (st .length) h))
 
 -- ---- one step
 
@@ -202,80 +227,34 @@ module _ (k : List (List ℕ)) (st : State) (j : List ℕ) where
   unfolding placeChecked textChecked entryNumber
   place-is h e q =
       q ∙ (ap (textChecked k st) e ∙ ap (λ (m : ℕ). checked m st (textAt j (st .length))) (sym (ask-yes 15 _ h)))
-      -- ---- a turn
 
-  -- a step that read an entry, or nothing
-  pub data Turned (c : Checked) : Type 0 where
-    nothing : c ≡ stopped 0 st → Turned c
-    an-entry : full st j ≡ false → entryNumber k st j ≡ 0 → c .state ≡ after st (textAt j (st .length)) → Turned c
-
-  zero-found : entryNumber k st j ≡ 0 → found st (textAt j (st .length)) .ok ≡ true
-  unfolding entryNumber textNumber
-  zero-found z = ask-zero _ _ _ (ask-zero _ _ _ z .1) .0
-
-  zero-fields : entryNumber k st j ≡ 0 → contextNumber k st (found st (textAt j (st .length)) .entry .fields) ≡ 0
-  unfolding entryNumber textNumber
-  zero-fields z = ask-zero _ _ _ (ask-zero _ _ _ z .1) .1
+  -- ---- a turn
 
   module _ {c : Checked} (e : c ≡ oneStep k st j) where
-    number-of : c .number ≡ oneStep k st j .number
-    number-of = ap (λ (x : Checked). x .number) e
+    number-of : oneStep k st j .number ≡ c .number
+    number-of = ap (λ (x : Checked). x .number) (sym e)
+
+    state-of : oneStep k st j .state ≡ c .state
+    state-of = ap (λ (x : Checked). x .state) (sym e)
 
     pub turn-no : (left : ℕ) → 0 < left → (c .number ≡ 0 → ⊥) → steps k left st j ≡ record { number = c .number; state = st }
     unfolding steps
     turn-no left some h =
         let l : left ≡ suc (left - 1) = omega arith in
-        ap (λ (m : ℕ). steps k m st j) l ∙ (ifZero-no (oneStep k st j .number) _ _ (λ z. h (number-of ∙ z)) ∙ (λ i. record { number = sym number-of i; state = st }))
-
-    -- what a step that is not refused has read
-    ended : full st j ≡ true → c .number ≡ 0 → (c ≡ stopped 0 st) × (c .found .ok ≡ false)
-    unfolding endChecked stopped
-    ended f z =
-        let q : c ≡ endChecked st j = e ∙ step-end k st j f in
-        let m : ask (leb (length j) (st .length)) 21 0 ≡ 0 = sym (ap (λ (x : Checked). x .number) q) ∙ z in
-        (q ∙ ap (λ (n : ℕ). stopped n st) m, ap (λ (x : Checked). x .found .ok) q ∙ none-found)
-
-    read : full st j ≡ false → c .number ≡ 0 → (entryNumber k st j ≡ 0) × (c .state ≡ after st (textAt j (st .length))) × (c .found .ok ≡ true)
-    unfolding placeChecked checked stopped
-    read f z = go (entryNumber k st j) refl
-      where
-        q : c ≡ placeChecked k st j
-        q = e ∙ step-entry k st j f
-
-        go : (n : ℕ) → entryNumber k st j ≡ n → (entryNumber k st j ≡ 0) × (c .state ≡ after st (textAt j (st .length))) × (c .found .ok ≡ true)
-        go zero y =
-            let p : c ≡ record { number = 0; found = found st (textAt j (st .length)); state = after st (textAt j (st .length)) } = q ∙ ifZero-yes _ _ y in
-            (y, ap (λ (x : Checked). x .state) p, ap (λ (x : Checked). x .found .ok) p ∙ zero-found y)
-        go (suc n) y =
-            let p : c ≡ stopped (entryNumber k st j) st = q ∙ ifZero-no (entryNumber k st j) _ _ (λ w. omega (arith, w, y)) in
-            absurd (omega (arith, ap (λ (x : Checked). x .number) p, z, y))
+        ap (λ (m : ℕ). steps k m st j) l
+        ∙ (ifZero-no (oneStep k st j .number) _ _ (λ z. h (sym number-of ∙ z)) ∙ (λ i. record { number = number-of i; state = st }))
 
     module _ (z : c .number ≡ 0) where
-      pub turn-idle : (left : ℕ) → c .found .ok ≡ false → steps k left st j ≡ record { number = 0; state = st }
-      turn-idle left o = go (full st j) refl
-        where
-          go : (t : Bool) → full st j ≡ t → steps k left st j ≡ record { number = 0; state = st }
-          go true f = idle k j left st (sym e ∙ ended f z .0)
-          go false f = true-is-not-false (sym o ∙ read f z .2)
+      pub turn-stays : (left : ℕ) → c .state .length ≡ st .length → steps k left st j ≡ record { number = 0; state = st }
+      turn-stays left l = stays k j left st (number-of ∙ z) (ap (λ (x : State). x .length) state-of ∙ l)
 
-      module _ (o : c .found .ok ≡ true) where
-        moved : (entryNumber k st j ≡ 0) × (c .state ≡ after st (textAt j (st .length)))
-        moved = go (full st j) refl
-          where
-            go : (t : Bool) → full st j ≡ t → (entryNumber k st j ≡ 0) × (c .state ≡ after st (textAt j (st .length)))
-            go true f = true-is-not-false (sym (ended f z .1) ∙ o)
-            go false f = let r = read f z in (r .0, r .1)
+      pub turn-yes : (left : ℕ) → 0 < left → steps k left st j ≡ steps k (left - 1) (c .state) j
+      turn-yes left some =
+          let l : left ≡ suc (left - 1) = omega arith in
+          ap (λ (m : ℕ). steps k m st j) l ∙ passed-step k j (left - 1) st (number-of ∙ z) state-of
 
-        pub turn-yes : (left : ℕ) → 0 < left → steps k left st j ≡ steps k (left - 1) (c .state) j
-        turn-yes left some =
-            let l : left ≡ suc (left - 1) = omega arith in
-            ap (λ (m : ℕ). steps k m st j) l ∙ passed-step k j (left - 1) st (sym number-of ∙ z) (ap (λ (x : Checked). x .state) (sym e))
-
-        pub turn-settings : c .state .settings ≡ st .settings
-        turn-settings = ap (λ (x : State). x .settings) (moved .1) ∙ after-settings st (textAt j (st .length))
-
-        pub turn-below : st .issued ≤ st .last → c .state .issued ≤ c .state .last
-        turn-below h = subst (λ (x : State). x .issued ≤ x .last) (sym (moved .1)) (after-below k st (textAt j (st .length)) (zero-fields (moved .0)) h)
+      pub turn-steady : Steady st j → Steady (c .state) j
+      turn-steady s = subst (λ (x : State). Steady x j) state-of (steady-step k st j (number-of ∙ z) s)
 
 -- ---- the journal
 
@@ -308,15 +287,19 @@ module _ (j key : List ℕ) (n : ℕ) (s : Settings) {st : State} (e : st ≡ fr
   over-read w h es ek ex er =
       er ∙ ap lastAnswer (ex ∙ (λ i. steps (ek i) (length j) ((e ∙ ap (λ (y : Settings). fresh y n key) es) i) j)) ∙ sym (over-yes j key n w h)
 
-  fresh-keeps : (fresh s n key .issued ≤ fresh s n key .last) × (fresh s n key .settings ≡ s)
-  unfolding fresh
-  fresh-keeps = (omega arith, refl)
+  fresh-keeps : settingsGood s ≡ true → headLength s ≤ length j → Steady (fresh s n key) j
+  unfolding fresh countPlace allGood
+  fresh-keeps g h =
+      let l : 19 ≤ headLength s = head-least s in
+      record {
+        serials = eight-good (s .serial ∷ []) (omega arith) (rw (settings-all s g .serial));
+        issued = omega arith;
+        section = omega arith;
+        place = omega arith;
+      }
 
-  pub fresh-starts : settingsGood s ≡ true → headLength s ≤ length j
-      → (st .issued ≤ st .last) × (settingsGood (settingsNow st) ≡ true) × (headLengthNow st ≤ length j)
-  fresh-starts g h =
-      let q : st .settings ≡ s = ap (λ (x : State). x .settings) e ∙ fresh-keeps .1 in
-      (subst (λ (x : State). x .issued ≤ x .last) (sym e) (fresh-keeps .0), ap settingsGood q ∙ g, subst (λ (x : Settings). headLength x ≤ length j) (sym q) h)
+  pub fresh-starts : settingsGood s ≡ true → headLength s ≤ length j → Steady st j
+  fresh-starts g h = subst (λ (x : State). Steady x j) (sym e) (fresh-keeps g h)
 
 -- ---- steps for other readers
 
@@ -333,13 +316,14 @@ module _ (st : State) (text : List ℕ) where
       go true w = sym (le-leb (st .length + length (entryText text)) 18446744073709551615 (omega (arith, length-entry text, leb-true (st .length + length text) 18446744073709551613 w)))
       go false w = sym (lt-leb (st .length + length (entryText text)) 18446744073709551615 (omega (arith, length-entry text, leb-false (st .length + length text) 18446744073709551613 w)))
 
-  pub ready-true : entryReady st text ≡ true → (st .issued ≤ st .last) × (st .length + 2 + length text < 18446744073709551616)
+  pub ready-true : entryReady st text ≡ true → (st .issued ≤ st .last) × (st .section ≤ st .issued) × (st .length + 2 + length text < 18446744073709551616)
   unfolding entryReady
   ready-true h =
       let p = both _ _ h in
+      let s = sound-true st (p .0) in
       let l = length-entry text in
       let m = leb-true (st .length + length (entryText text)) 18446744073709551615 (p .1) in
-      (sound-true st (p .0) .issued, omega arith)
+      (s .issued, s .section, omega arith)
 
   pub entry-asked : (k : List (List ℕ)) {c : Checked} → entryReady st text ≡ false → c ≡ stopped 6 st → c ≡ entryChecked k st text
   unfolding entryChecked
@@ -358,12 +342,13 @@ module _ (st : State) (j : List ℕ) where
   unfolding stepChecked
   step-checked k h q = q ∙ sym (rw h)
 
-  pub sound-step : sound st (length j) ≡ true → (st .issued ≤ st .last) × (settingsGood (settingsNow st) ≡ true) × (headLengthNow st ≤ length j)
+  pub sound-step : sound st (length j) ≡ true → Steady st j
   unfolding sound
   sound-step h =
       let p = both _ _ h in
       let s = sound-true st (p .0) in
-      (s .issued, s .settings, omega (arith, s .head, leb-true (st .length) (length j) (p .1)))
+      let l = leb-true (st .length) (length j) (p .1) in
+      record { serials = s .serials; issued = s .issued; section = s .section; place = omega (arith, s .place) }
 
 pub steps-none : (k : List (List ℕ)) (left : ℕ) (st : State) (j : List ℕ) → left ≡ 0 → steps k left st j ≡ record { number = 0; state = st }
 unfolding steps

@@ -17,7 +17,6 @@ use Rattle.primitives.specs.declared.base64.Alphabet.the-variants.{UrlSafe}
 use Rattle.primitives.proofs.Numbers.{length-bytesOf}
 use Rattle.primitives.proofs.Over.{length-over, read-over, over-over, placed-room, placed-full, after-room, after-full}
 use Rattle.primitives.proofs.Rewrites.{over-comm}
-use Rattle.receipt.specs.Settings.{settingsGood}
 use Rattle.receipt.specs.Details.{standard}
 use Rattle.receipt.specs.Chain.{chainValue, encryptedCounter}
 use Rattle.receipt.specs.Compact.{signatureText, compact, signingInput, prepared, spellable, spelled}
@@ -34,14 +33,27 @@ use Rattle.receipt.proofs.EntryCalls.{spellable-true, preparable-made, spelled-
 use Rattle.receipt.proofs.ExactEntry.{compact-signed}
 use Rattle.journal.specs.Head.{entryText}
 use Rattle.primitives.specs.Questions.{ask, ifZero}
-use Rattle.journal.specs.Step.{soundAlone, sound, newCounter, detailsNumber, fieldsOf, next}
+use Rattle.journal.specs.Step.{countWithin, soundAlone, sound, newCounter, detailsNumber, fieldsOf, next}
 use Rattle.journal.specs.Issuing.{signatureSized, givenSignature, entryOf, textOf, entryFits, issueNumber, issueNumberWithin, issued, issuedWithin, withEntry, issueBuffer, issueBufferWithin}
 use Rattle.journal.specs.Preparing.{preparedText, prepareNumber, prepareAnswer, prepareBuffer}
 use Rattle.journal.specs.declared.state.State.{State}
 use Rattle.journal.proofs.Places.{length-entry}
-use Rattle.journal.proofs.OpenCalls.{count-room}
+use Rattle.journal.proofs.Readings.{leb-moved}
 use Rattle.journal.proofs.Answers.{sound-true, details-zero, details-yes, details-then, sized-cases, call-spellable}
-use Rattle.journal.specs.State.{settingsNow, countPlaceNow}
+use Rattle.journal.specs.State.{settingsNow}
+
+-- ---- the count of the open section ends within the journal
+
+module _ (st : State) where
+  pub within-no : st .length < 4 → false ≡ countWithin st
+  unfolding countWithin
+  within-no h = sym (lt-leb (st .place + 4) (st .length) (omega arith))
+
+  pub within-is : 4 ≤ st .length → leb (st .place) (st .length - 4) ≡ countWithin st
+  unfolding countWithin
+  within-is h =
+      let e : 4 + st .place ≡ st .place + 4 = omega arith in
+      leb-moved 4 (st .place) (st .length) h ∙ ap (λ (n : ℕ). leb n (st .length)) e
 
 -- ---- the questions 7 to 11, and then the rest
 
@@ -54,18 +66,18 @@ module _ (st : State) (d : Details) {k : ℕ} (e : k ≡ detailsNumber st d 0) (
 
 -- ---- the counter field
 
-pub encrypted-is : (st : State) (d : Details) {s : Settings} {k : List (List ℕ)} {a : After} {z : ℤ} {r : List ℕ} → s ≡ settingsNow st → k ≡ keySchedule (st .key) → a ≡ newCounter st d
-    → z ≡ a .counter → r ≡ encryptedCounter k (s .id) (d .number) (st .width) z
-    → r ≡ encryptedCounter (keySchedule (st .key)) (settingsNow st .id) (d .number) (st .width) (newCounter st d .counter)
-encrypted-is st d g e q f h =
+pub encrypted-is : (st : State) (d : Details) {k : List (List ℕ)} {a : After} {z : ℤ} {r : List ℕ} → k ≡ keySchedule (st .key) → a ≡ newCounter st d
+    → z ≡ a .counter → r ≡ encryptedCounter k (st .id) (d .number) (st .width) z
+    → r ≡ encryptedCounter (keySchedule (st .key)) (st .id) (d .number) (st .width) (newCounter st d .counter)
+encrypted-is st d e q f h =
     let p = f ∙ ap (λ (x : After). x .counter) q in
-    h ∙ (λ i. encryptedCounter (e i) (g i .id) (d .number) (st .width) (p i))
+    h ∙ (λ i. encryptedCounter (e i) (st .id) (d .number) (st .width) (p i))
 
 pub field-standard : (st : State) (d : Details) {r : List ℕ} → d .kind ≡ Standard
-    → r ≡ encryptedCounter (keySchedule (st .key)) (settingsNow st .id) (d .number) (st .width) (newCounter st d .counter) → r ≡ fieldsOf st d .counter
+    → r ≡ encryptedCounter (keySchedule (st .key)) (st .id) (d .number) (st .width) (newCounter st d .counter) → r ≡ fieldsOf st d .counter
 unfolding fieldsOf
 field-standard st d e q =
-    q ∙ sym (ap (λ (k : Kind). cond (standard k) (encryptedCounter (keySchedule (st .key)) (settingsNow st .id) (d .number) (st .width) (newCounter st d .counter)) (replicate 8 0)) e)
+    q ∙ sym (ap (λ (k : Kind). cond (standard k) (encryptedCounter (keySchedule (st .key)) (st .id) (d .number) (st .width) (newCounter st d .counter)) (replicate 8 0)) e)
 
 -- ---- the signature
 
@@ -187,11 +199,37 @@ entry-text b t at h =
 
 -- the state after it
 pub next-is : (st : State) (d : Details) (text : List ℕ) {a : After} {chain : List ℕ} → a ≡ newCounter st d → chain ≡ chainValue text
-    → record { settings = st .settings; width = st .width; key = st .key; counter = a .counter; last = d .number; issued = st .issued + 1; chain = chain; length = st .length + 2 + length text } ≡ next st d text
+    → record {
+      csp = st .csp;
+      id = st .id;
+      serials = st .serials;
+      width = st .width;
+      key = st .key;
+      counter = a .counter;
+      last = d .number;
+      issued = st .issued + 1;
+      chain = chain;
+      length = st .length + 2 + length text;
+      section = st .section + 1;
+      place = st .place;
+    } ≡ next st d text
 unfolding next
 next-is st d text p q =
     let e : st .length + 2 + length text ≡ st .length + length (entryText text) = omega (arith, length-entry text) in
-    λ i. record { settings = st .settings; width = st .width; key = st .key; counter = p i .counter; last = d .number; issued = st .issued + 1; chain = q i; length = e i }
+    λ i. record {
+      csp = st .csp;
+      id = st .id;
+      serials = st .serials;
+      width = st .width;
+      key = st .key;
+      counter = p i .counter;
+      last = d .number;
+      issued = st .issued + 1;
+      chain = q i;
+      length = e i;
+      section = st .section + 1;
+      place = st .place;
+    }
 
 -- ---- question 13
 
@@ -213,15 +251,15 @@ module _ (st : State) (d : Details) (sig b : List ℕ) (a : Asked st d sig (leng
   unfolding sound
   asked-alone = let p = both _ _ (a .sound) in (p .0, leb-true _ _ (p .1))
 
-  -- the count of receipts, and the place where it stands
-  pub append-count : d .number < 4294967296 → st .issued + 1 < 4294967296
-  append-count h = omega (arith, h, sound-true st (asked-alone .0) .issued, details-zero st d 0 (a .details) .0 .above)
+  -- the counts of receipts, and the place of that of the open section
+  pub append-count : d .number < 4294967296 → (st .issued + 1 < 4294967296) × (st .section + 1 < 4294967296)
+  append-count h =
+      let s = sound-true st (asked-alone .0) in
+      let n = details-zero st d 0 (a .details) .0 .above in
+      (omega (arith, s .issued), omega (arith, s .issued, s .section))
 
-  pub append-good : settingsGood (settingsNow st) ≡ true
-  append-good = sound-true st (asked-alone .0) .settings
-
-  pub append-place : {k : ℕ} → k ≡ countPlaceNow st → k + 4 ≤ length b
-  append-place e = count-room (settingsNow st) e (omega (arith, sound-true st (asked-alone .0) .head, asked-alone .1))
+  pub append-place : st .place + 4 ≤ length b
+  append-place = omega (arith, sound-true st (asked-alone .0) .place, asked-alone .1)
 
   -- the part of the number that is not known yet
   number-is : issueNumber st d sig (length b) ≡ ask (leb (st .length + length (entryText (textOf st d sig))) (length b)) 13 0
@@ -269,14 +307,14 @@ module _ (st : State) (d : Details) (sig b : List ℕ) (a : Asked st d sig (leng
             long = omega (arith, ap length text-is, appended .end, appended .room);
           }
 
-      pub append-done : {k : ℕ} {st₁ : State} {b₂ : List ℕ} → k ≡ countPlaceNow st → st₁ ≡ next st d (take (r - (st .length + 2)) (drop (st .length + 2) b₁))
-          → b₂ ≡ overwrite b₁ k (bytesOf 4 (st .issued + 1))
+      pub append-done : {st₁ : State} {b₂ : List ℕ} → st₁ ≡ next st d (take (r - (st .length + 2)) (drop (st .length + 2) b₁))
+          → b₂ ≡ overwrite b₁ (st .place) (bytesOf 4 (st .section + 1))
           → (record { number = 0; state = st₁ } ≡ issued st d sig (length b)) × (b₂ ≡ issueBuffer st d sig b)
       unfolding issuedWithin issueBufferWithin withEntry
-      append-done p f g =
+      append-done f g =
           let n : issueNumber st d sig (length b) ≡ 0 = number-is ∙ ask-yes 13 0 (le-leb _ _ (appended .room)) in (
             (λ i. record { number = sym n i; state = (f ∙ ap (next st d) text-is ∙ sym (ifZero-yes (next st d (textOf st d sig)) st n)) i }),
-            g ∙ (λ i. overwrite (appended .wrote i) (p i) (bytesOf 4 (st .issued + 1))) ∙ sym (ifZero-yes (withEntry st (textOf st d sig) b) b n),
+            g ∙ (λ i. overwrite (appended .wrote i) (st .place) (bytesOf 4 (st .section + 1))) ∙ sym (ifZero-yes (withEntry st (textOf st d sig) b) b n),
           )
 
 -- ---- the questions of an Issue

@@ -1,4 +1,5 @@
 pub mod Answers
+pub mod ChangeCalls
 pub mod Check
 pub mod CheckCalls
 pub mod Equal

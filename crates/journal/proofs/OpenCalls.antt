@@ -2,27 +2,28 @@
 use Prim.Native.Nat.{ℕ, _+_, _-_, _≤_, _<_}
 use mathlib.Core.Path.{_≡_, sym, ap, _∙_}
 use mathlib.Core.Bool.{Bool, true}
-use mathlib.Core.List.{List, _++_}
+use mathlib.Core.List.{List, _++_, append-assoc}
 use native.Mathlib.Omega.{arith}
 use lib.ListN.{length, take, length-append}
 use Rattle.primitives.specs.Place.{overwrite, placed}
 use Rattle.primitives.specs.Number.{bytesOf}
+use Rattle.primitives.specs.Counter.{widthGood}
 use Rattle.primitives.proofs.Numbers.{length-bytesOf}
 use Rattle.primitives.proofs.Over.{length-over, placed-room, then}
-use Rattle.receipt.specs.Settings.{nameText, settingsGood, SettingsLengths, settingsNumberFor}
+use Rattle.receipt.specs.Settings.{nameText, serialGood, settingsGood, idAllowed, SettingsLengths, settingsNumberFor}
+use Rattle.receipt.specs.declared.settings.Name.{Name}
 use Rattle.receipt.specs.declared.settings.Settings.{Settings}
 use Rattle.receipt.proofs.Names.{good-settings, length-text, settings-zero, settings-pass, settings-stop}
-use Rattle.receipt.proofs.Entries.{lent-name}
-use Rattle.journal.specs.Head.{head, headLength, countPlace, front, section}
+use Rattle.receipt.proofs.Entries.{lent-name, settings-all}
+use Rattle.journal.specs.Head.{head, headLength, front, section, pairStart}
 use Rattle.journal.specs.State.{unopened}
 use Rattle.journal.specs.Step.{fresh}
 use Rattle.journal.specs.Opening.{openNumber, opened, openBuffer}
 use Rattle.journal.specs.declared.state.State.{State}
-use Rattle.primitives.proofs.Rows.{ifZero-yes, ifZero-no, ask-yes, ask-no}
-use Rattle.journal.proofs.Heads.{front-place}
-use Rattle.journal.proofs.Sections.{length-section}
+use Rattle.primitives.proofs.Rows.{ifZero-yes, ifZero-no, ask-zero, ask-yes, ask-no}
+use Rattle.journal.proofs.Sections.{length-section, serial-long, length-serial, length-start}
 use Rattle.primitives.specs.Questions.{ask}
-use borrow.Author.Tests.{le-leb, lt-leb}
+use borrow.Author.Tests.{leb-true, le-leb, lt-leb}
 use lib.Dec.{leb}
 
 -- ---- writers in a row
@@ -40,10 +41,10 @@ pub head-least : (s : Settings) → 19 ≤ headLength s
 unfolding headLength
 head-least s = omega arith
 
--- the count is within the head
-pub count-room : (s : Settings) {k n : ℕ} → k ≡ countPlace s → headLength s ≤ n → k + 4 ≤ n
-unfolding countPlace
-count-room s e h = omega (arith, e, h, head-least s)
+-- it is two sections and the start of a pair
+head-is : (s : Settings) → section (s .csp) ++ section (nameText (s .id)) ++ pairStart (s .serial) 0 ≡ head s 0
+unfolding head front pairStart
+head-is s = sym (append-assoc (section (s .csp) ++ section (nameText (s .id))) (section (nameText (s .serial))) (bytesOf 4 0))
 
 pub put-section : (text b : List ℕ) (at : ℕ) {b₁ b₂ : List ℕ} → at + 4 + length text ≤ length b → b₁ ≡ placed b at (bytesOf 4 (length text)) → b₂ ≡ placed b₁ (at + 4) text
     → b₂ ≡ overwrite b at (section text)
@@ -52,49 +53,51 @@ put-section text b at h e₁ e₂ =
     let l = length-bytesOf 4 (length text) in
     then-placed b (bytesOf 4 (length text)) text at (at + 4) (e₁ ∙ placed-room b at (bytesOf 4 (length text)) (omega arith)) e₂ (omega arith) (omega arith)
 
+-- the start of a pair
+module _ (s : Name) (long : length (s .bytes) ≡ 32) (g : serialGood s ≡ true) (b : List ℕ) (at : ℕ) (h : at + 8 + s .len ≤ length b) where
+  -- what is lent of the name
+  pub lent-room : at + 4 + length (take (s .len - 0) (s .bytes)) ≤ length b
+  lent-room = omega (arith, ap length (lent-name s), serial-long s long g)
+
+  pub put-start : {b₁ b₂ : List ℕ} → b₁ ≡ overwrite b at (section (take (s .len - 0) (s .bytes)))
+      → b₂ ≡ overwrite b₁ (at + 4 + s .len) (bytesOf 4 0) → b₂ ≡ overwrite b at (pairStart s 0)
+  unfolding pairStart
+  put-start e₁ e₂ =
+      let n = section (nameText s) in
+      let l : length n ≡ 4 + s .len = length-serial s long g in
+      let l4 = length-bytesOf 4 0 in
+      then b n (bytesOf 4 0) at (at + 4 + s .len) (e₁ ∙ ap (λ (t : List ℕ). overwrite b at (section t)) (lent-name s)) e₂ (omega arith) (omega arith)
+
 module _ (s : Settings) (t : SettingsLengths s) (b : List ℕ) (good : settingsGood s ≡ true) (h : headLength s ≤ length b) where
   id-long : length (nameText (s .id)) ≡ s .id .len
   id-long = length-text (s .id) (t .id) (good-settings s good .id .most)
-
-  serial-long : length (nameText (s .serial)) ≡ s .serial .len
-  serial-long = length-text (s .serial) (t .serial) (good-settings s good .serial .most)
 
   room : 19 + s .id .len + s .serial .len ≤ length b
   unfolding headLength
   room = h
 
-  -- what is lent of a name
-  lent-long : (length (take (s .id .len - 0) (s .id .bytes)) ≡ s .id .len) × (length (take (s .serial .len - 0) (s .serial .bytes)) ≡ s .serial .len)
-  lent-long = (ap length (lent-name (s .id)) ∙ id-long, ap length (lent-name (s .serial)) ∙ serial-long)
-
   pub csp-room : 0 + 4 + length (s .csp) ≤ length b
   csp-room = omega (arith, room, t .csp)
 
   pub id-room : (b₁ : List ℕ) → length b₁ ≡ length b → 7 + 4 + length (take (s .id .len - 0) (s .id .bytes)) ≤ length b₁
-  id-room b₁ e = omega (arith, room, lent-long .0, e)
+  id-room b₁ e = omega (arith, room, ap length (lent-name (s .id)) ∙ id-long, e)
 
-  pub serial-room : (b₁ : List ℕ) → length b₁ ≡ length b → 11 + s .id .len + 4 + length (take (s .serial .len - 0) (s .serial .bytes)) ≤ length b₁
-  serial-room b₁ e = omega (arith, room, lent-long .1, e)
+  pub pair-room : (b₁ : List ℕ) → length b₁ ≡ length b → (serialGood (s .serial) ≡ true) × (11 + s .id .len + 8 + s .serial .len ≤ length b₁)
+  pair-room b₁ e = (settings-all s good .serial, omega (arith, room, e))
 
-  pub put-head : {k : ℕ} {b₁ b₂ b₃ b₄ : List ℕ} → k ≡ countPlace s → b₁ ≡ overwrite b 0 (section (s .csp)) → b₂ ≡ overwrite b₁ 7 (section (take (s .id .len - 0) (s .id .bytes)))
-      → b₃ ≡ overwrite b₂ (11 + s .id .len) (section (take (s .serial .len - 0) (s .serial .bytes))) → b₄ ≡ overwrite b₃ k (bytesOf 4 0)
-      → b₄ ≡ overwrite b 0 (head s 0)
-  unfolding head front
-  put-head {k} {b₁} {b₂} {b₃} q e₁ e₂ e₃ e₄ =
+  pub put-head : {b₁ b₂ b₃ : List ℕ} → b₁ ≡ overwrite b 0 (section (s .csp)) → b₂ ≡ overwrite b₁ 7 (section (take (s .id .len - 0) (s .id .bytes)))
+      → b₃ ≡ overwrite b₂ (11 + s .id .len) (pairStart (s .serial) 0) → b₃ ≡ overwrite b 0 (head s 0)
+  put-head {b₁} {b₂} e₁ e₂ e₃ =
       let c = section (s .csp) in
       let i = section (nameText (s .id)) in
-      let n = section (nameText (s .serial)) in
       let lc : length c ≡ 7 = omega (arith, length-section (s .csp), t .csp) in
       let li : length i ≡ 4 + s .id .len = length-section (nameText (s .id)) ∙ ap (λ (k : ℕ). 4 + k) id-long in
-      let ln : length n ≡ 4 + s .serial .len = length-section (nameText (s .serial)) ∙ ap (λ (k : ℕ). 4 + k) serial-long in
       let lci : length (c ++ i) ≡ 11 + s .id .len = length-append c i ∙ omega arith in
-      let lf : length (c ++ i ++ n) ≡ countPlace s = front-place s t good in
+      let lp = length-start (s .serial) (t .serial) (settings-all s good .serial) 0 in
       let r = room in
-      let lh : length (c ++ i ++ n) ≡ 15 + s .id .len + s .serial .len = length-append (c ++ i) n ∙ omega arith in
-      let l4 = length-bytesOf 4 0 in
       let w₂ = then b c i 0 7 e₁ (e₂ ∙ ap (λ (l : List ℕ). overwrite b₁ 7 (section l)) (lent-name (s .id))) (omega arith) (omega arith) in
-      let w₃ = then b (c ++ i) n 0 (11 + s .id .len) w₂ (e₃ ∙ ap (λ (l : List ℕ). overwrite b₂ (11 + s .id .len) (section l)) (lent-name (s .serial))) (omega arith) (omega arith) in
-      then b (c ++ i ++ n) (bytesOf 4 0) 0 (countPlace s) w₃ (e₄ ∙ ap (λ (x : ℕ). overwrite b₃ x (bytesOf 4 0)) q) (omega arith) (omega arith)
+      then b (c ++ i) (pairStart (s .serial) 0) 0 (11 + s .id .len) w₂ e₃ (omega arith) (omega arith)
+      ∙ ap (overwrite b 0) (head-is s)
 
 pub put-count : (place count : ℕ) (b : List ℕ) {b₁ : List ℕ} → place + 4 ≤ length b → b₁ ≡ placed b place (bytesOf 4 count) → b₁ ≡ overwrite b place (bytesOf 4 count)
 put-count place count b h q =
@@ -102,6 +105,13 @@ put-count place count b h q =
     q ∙ placed-room b place (bytesOf 4 count) (omega arith)
 
 -- ---- the answers
+
+pub open-zero : (s : Settings) (shared : Bool) (n room : ℕ) → openNumber s shared n room ≡ 0
+    → (settingsGood s ≡ true) × (widthGood n ≡ true) × (headLength s ≤ room) × (idAllowed shared (s .id) ≡ true)
+unfolding openNumber
+open-zero s shared n room z =
+    let p = settings-zero s shared n _ z in
+    (p .0, p .1, leb-true (headLength s) room (ask-zero _ _ _ (p .2) .0), p .3)
 
 module _ (s : Settings) (key : List ℕ) (shared : Bool) (n : ℕ) (b : List ℕ) (k : ℕ) (e : k ≡ openNumber s shared n (length b)) where
   pub open-refused : {u : State} → (k ≡ 0 → ⊥) → u ≡ unopened → (record { number = k; state = u } ≡ opened s key shared n (length b)) × (b ≡ openBuffer s shared n b)

@@ -1,4 +1,4 @@
--- What the counts and parts read from a head amount to.
+-- What the counts and parts read from a head and from the start of a pair amount to.
 use Prim.Native.Nat.{ℕ, _+_, _-_, _≤_, _<_}
 use mathlib.Core.Path.{_≡_, refl, sym, ap, _∙_, subst}
 use mathlib.Core.Bool.{Bool, true, false, _&&_, and-false}
@@ -9,11 +9,11 @@ use lib.Dec.{leb, eqb}
 use lib.ListN.{length, take, drop, getD}
 use lib.Seq.{drop-cons}
 use Rattle.primitives.specs.Number.{countAt}
-use Rattle.receipt.specs.Settings.{nameOf, settingsGood}
+use Rattle.receipt.specs.Settings.{nameOf, serialGood, settingsGood}
 use Rattle.receipt.specs.declared.settings.Name.{Name}
 use Rattle.receipt.specs.declared.settings.Settings.{Settings}
 use Rattle.primitives.proofs.Rows.{both, and-no, and-yes}
-use Rattle.journal.specs.Head.{headSettings, headGood, sectionText, sectionEnd, serialPlace, countPlaceIn}
+use Rattle.journal.specs.Head.{headSettings, headGood, sectionText, sectionEnd, serialPlace, countPlaceIn, serialAt, startThere}
 
 -- ---- the head
 
@@ -65,6 +65,53 @@ module _ (j : List ℕ) where
           and-yes _ _ _ (eq-eqb (countAt j 0 4) 3 (sym e ∙ three))
           (ap (leb b) m ∙ leb-moved (19 + a) b (length j) (omega arith) ∙ ap (λ (k : ℕ). leb k (length j)) n)
 
+  -- ---- the serial in a complete section
+
+  module _ (at : ℕ) (room : sectionEnd j at ≤ length j) where
+    pub count-there : at + 4 ≤ length j
+    unfolding sectionEnd
+    count-there = omega (arith, room)
+
+    module _ {b : ℕ} (e : b ≡ sectionEnd j at) where
+      pub section-ends : (at + 4 ≤ b) × (b ≤ length j)
+      unfolding sectionEnd
+      section-ends = (omega (arith, e), omega (arith, e, room))
+
+      pub serial-is : {n : Name} → n ≡ nameOf (take (b - (at + 4)) (drop (at + 4) j)) → n ≡ serialAt j at
+      unfolding serialAt sectionText sectionEnd
+      serial-is q =
+          let k : b - (at + 4) ≡ countAt j at 4 = omega (arith, e) in
+          q ∙ ap (λ (m : ℕ). nameOf (take m (drop (at + 4) j))) k
+
+  -- ---- the start of a pair
+
+  module _ (at : ℕ) where
+    start-no : length j < at + 8 + countAt j at 4 → false ≡ startThere j at
+    unfolding startThere sectionEnd
+    start-no h = and-no _ _ (lt-leb (at + 4 + countAt j at 4 + 4) (length j) (omega arith))
+
+    pub start-short : length j < at + 8 → false ≡ startThere j at
+    start-short h = start-no (omega arith)
+
+    module _ (h : at + 8 ≤ length j) {k : ℕ} (e : k ≡ countAt j at 4) where
+      pub start-long : length j - at - 8 < k → false ≡ startThere j at
+      start-long l = start-no (omega (arith, e))
+
+      module _ (l : k ≤ length j - at - 8) where
+        pub start-room : sectionEnd j at ≤ length j
+        unfolding sectionEnd
+        start-room = omega (arith, e)
+
+        pub start-is : {s : Name} {t : Bool} → s ≡ serialAt j at → t ≡ serialGood s → t ≡ startThere j at
+        unfolding startThere sectionEnd
+        start-is q p = and-yes _ _ _ (le-leb (at + 4 + countAt j at 4 + 4) (length j) (omega (arith, e))) (p ∙ ap serialGood q)
+
+    pub start-section : startThere j at ≡ true → sectionEnd j at ≤ length j
+    unfolding startThere
+    start-section e =
+        let p = both (leb (sectionEnd j at + 4) (length j)) (serialGood (serialAt j at)) e in
+        omega (arith, leb-true (sectionEnd j at + 4) (length j) (p .0))
+
   -- ---- the settings of a complete head
 
   module _ (three : countAt j 0 4 ≡ 3) (room : countPlaceIn j + 4 ≤ length j) where
@@ -76,7 +123,7 @@ module _ (j : List ℕ) where
     unfolding serialPlace sectionEnd
     id-room = let r = serial-room in omega arith
 
-    module _ {a b : ℕ} (ea : a ≡ sectionEnd j 7) (eb : b ≡ sectionEnd j a) where
+    module _ {a : ℕ} (ea : a ≡ sectionEnd j 7) where
       at-serial : a ≡ serialPlace j
       unfolding serialPlace
       at-serial = ea
@@ -87,10 +134,6 @@ module _ (j : List ℕ) where
       pub id-ends : (11 ≤ a) × (a ≤ length j)
       unfolding sectionEnd
       id-ends = let r = id-room in (omega (arith, ea), omega (arith, ea))
-
-      pub serial-ends : (a + 4 ≤ b) × (b ≤ length j)
-      unfolding sectionEnd
-      serial-ends = let r = second-room in (omega (arith, eb), omega (arith, eb))
 
       csp-is : sectionText j 0 ≡ getD j 4 0 ∷ getD j 5 0 ∷ getD j 6 0 ∷ []
       unfolding sectionText
@@ -107,16 +150,10 @@ module _ (j : List ℕ) where
           let k : a - 11 ≡ countAt j 7 4 = omega (arith, ea) in
           ap (λ (n : ℕ). take n (drop 11 j)) k
 
-      serial-text : take (b - (a + 4)) (drop (a + 4) j) ≡ sectionText j (serialPlace j)
-      unfolding sectionText sectionEnd
-      serial-text =
-          let k : b - (a + 4) ≡ countAt j a 4 = omega (arith, eb) in
-          ap (λ (n : ℕ). take n (drop (a + 4) j)) k ∙ ap (λ (p : ℕ). take (countAt j p 4) (drop (p + 4) j)) at-serial
-
-      pub settings-read : {id serial : Name} → id ≡ nameOf (take (a - 11) (drop 11 j)) → serial ≡ nameOf (take (b - (a + 4)) (drop (a + 4) j))
+      pub settings-read : {id serial : Name} → id ≡ nameOf (take (a - 11) (drop 11 j)) → serial ≡ serialAt j a
           → _≡_ {A = Settings} (record { csp = getD j 4 0 ∷ getD j 5 0 ∷ getD j 6 0 ∷ []; id = id; serial = serial }) (headSettings j)
       unfolding headSettings
-      settings-read ei es = λ i. record { csp = sym csp-is i; id = (ei ∙ ap nameOf id-text) i; serial = (es ∙ ap nameOf serial-text) i }
+      settings-read ei es = λ i. record { csp = sym csp-is i; id = (ei ∙ ap nameOf id-text) i; serial = (es ∙ ap (serialAt j) at-serial) i }
 
   -- ---- question 14
 

@@ -1,6 +1,7 @@
 -- Sections: what is read where one stands, and that a complete section is what the writer writes.
 use Prim.Native.Nat.{ℕ, _+_, _≤_, _<_}
 use mathlib.Core.Path.{_≡_, refl, sym, ap, _∙_}
+use mathlib.Core.Bool.{true}
 use mathlib.Core.List.{List, _++_, append-assoc}
 use native.Mathlib.Omega.{arith}
 use lib.ListN.{length, take, drop, length-append}
@@ -8,12 +9,28 @@ use Rattle.primitives.specs.Bytes.{AllBytes}
 use Rattle.primitives.specs.Number.{bytesOf, countAt}
 use Rattle.primitives.proofs.ByteLists.{bytes-take, bytes-drop}
 use Rattle.primitives.proofs.Numbers.{length-bytesOf}
-use Rattle.journal.specs.Head.{section, sectionText, sectionEnd}
+use Rattle.journal.specs.Head.{section, sectionText, sectionEnd, pairStart}
+use Rattle.receipt.specs.Settings.{nameText, serialGood}
+use Rattle.receipt.specs.declared.settings.Letters.the-variants.{Serial}
+use Rattle.receipt.specs.declared.settings.Name.{Name}
+use Rattle.receipt.proofs.Names.{good-name, length-text}
 use Rattle.primitives.proofs.Counts.{part-at, count-in, cut, part-length, count-bytes}
 
 pub length-section : (t : List ℕ) → length (section t) ≡ 4 + length t
 unfolding section
 length-section t = length-append (bytesOf 4 (length t)) t ∙ ap (λ (k : ℕ). k + length t) (length-bytesOf 4 (length t))
+
+-- the section of a good serial, and the start of a pair
+module _ (s : Name) (long : length (s .bytes) ≡ 32) (g : serialGood s ≡ true) where
+  pub serial-long : length (nameText s) ≡ s .len
+  serial-long = length-text s long (good-name Serial s g .most)
+
+  pub length-serial : length (section (nameText s)) ≡ 4 + s .len
+  length-serial = length-section (nameText s) ∙ omega (arith, serial-long)
+
+  pub length-start : (k : ℕ) → length (pairStart s k) ≡ 8 + s .len
+  unfolding pairStart
+  length-start k = length-append (section (nameText s)) (bytesOf 4 k) ∙ omega (arith, length-serial, length-bytesOf 4 k)
 
 -- ---- a section at a place, whatever follows it
 

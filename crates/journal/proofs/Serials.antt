@@ -2,15 +2,15 @@
 use Prim.Native.Nat.{ℕ, zero, suc, _+_, _-_, _≤_, _<_}
 use mathlib.Core.Path.{_≡_, refl, sym, ap, _∙_, subst}
 use mathlib.Core.Bool.{Bool, true, false, cond, _&&_, _||_}
-use mathlib.Core.List.{List, [], _∷_, _++_, append-assoc}
+use mathlib.Core.List.{List, [], _∷_, _++_, map, append-assoc}
 use native.Mathlib.Omega.{arith}
 use native.Mathlib.Numerals.{add-one}
-use borrow.Author.Tests.{leb-true, le-leb, eqb-true, eq-eqb, ne-eqb}
-use lib.Dec.{eqb}
-use lib.ListN.{length, drop, getD, set, replicate, length-append, length-drop, length-replicate, drop-of-length-le}
+use borrow.Author.Tests.{leb-true, le-leb, lt-leb, eqb-true, eq-eqb, ne-eqb}
+use lib.Dec.{leb, eqb}
+use lib.ListN.{length, drop, getD, set, replicate, length-append, length-drop, length-map, length-replicate, drop-of-length-le}
 use lib.Seq.{drop-at, drop-cons, set-at}
 use Rattle.primitives.proofs.ByteLists.{same-refl, same-true}
-use Rattle.primitives.proofs.Rows.{both, true-is-not-false}
+use Rattle.primitives.proofs.Rows.{both, and-no, and-yes, true-is-not-false}
 use Rattle.receipt.specs.Settings.{serialGood}
 use Rattle.receipt.specs.declared.settings.Letters.the-variants.{Serial}
 use Rattle.receipt.specs.declared.settings.Name.{Name}
@@ -110,6 +110,11 @@ unfolding serialsGood
 serials-good slots e least g =
     let r : drop (length (used slots)) slots ≡ replicate (8 - length (used slots)) noName = ap (drop (length (used slots))) e ∙ eight-rest (used slots) in
     rw (le-leb 1 (length (used slots)) least, g, r) (all-empty (8 - length (used slots)))
+
+pub eight-good : (ns : List Name) → 0 < length ns → allGood ns ≡ true → serialsGood (inEight ns) ≡ true
+eight-good ns h g =
+    let u = used-eight ns g in
+    serials-good (inEight ns) (ap inEight (sym u)) (rw u h) (rw u g)
 
 -- ---- what good serials are
 
@@ -310,3 +315,30 @@ good-none ns i h = rw (drop-of-length-le ns h)
 pub empty-none : (ns : List Name) (i : ℕ) → length ns ≤ i → allEmpty (drop i ns) ≡ true
 unfolding allEmpty
 empty-none ns i h = rw (drop-of-length-le ns h)
+
+-- one question after the other
+module _ (slots : List Name) {k : ℕ} (e : k ≡ length (used slots)) where
+  pub good-empty : k ≡ 0 → false ≡ serialsGood slots
+  unfolding serialsGood
+  good-empty z = and-no _ _ (lt-leb 1 (length (used slots)) (omega (arith, e)))
+
+  module _ (h : k ≡ 0 → ⊥) where
+    some-used : leb 1 (length (used slots)) ≡ true
+    some-used = le-leb 1 (length (used slots)) (omega (arith, e, h))
+
+    pub good-bad : allGood (used slots) ≡ false → false ≡ serialsGood slots
+    unfolding serialsGood
+    good-bad a = and-yes _ _ _ some-used (and-no _ _ a)
+
+    pub good-rest : {t : Bool} → allGood (used slots) ≡ true → t ≡ allEmpty (drop k slots) → t ≡ serialsGood slots
+    unfolding serialsGood
+    good-rest a q = and-yes _ _ _ some-used (and-yes _ _ _ a (q ∙ ap (λ (n : ℕ). allEmpty (drop n slots)) e))
+
+-- what the types say of the serials of a state stands at their image
+pub unmapped : (X Y : Type 0) (f : X → Y) (l : List X) (n : ℕ) → length (map f l) ≡ n → length l ≡ n
+unmapped X Y f l n e = sym (length-map l f) ∙ e
+
+-- the first, whatever an empty list would give
+pub first-any : (slots : List Name) (d : Name) → 0 < length slots → getD slots 0 d ≡ getD slots 0 noName
+first-any [] d h = absurd (omega arith)
+first-any (n ∷ ns) d h = refl

@@ -51,7 +51,11 @@ returns-2 : tie.Need-returns-2
 returns-2 c = text-refused _ (c .before .before .before .before .before .before .before .before .before .before .args .st) (c .before .before .before .before .before .before .before .before .before .before .args .text .now) (read (c .before .before .before .before .before .before .before)) (not-false _ (c .before .before .before .before .before .if1 .left)) (c .before .before .context-number .ensures) (c .before .if2 .taken) (c .stopped2 .ensures)
 
 next-requires : tie.Need-next-requires
-next-requires c κs = (omega (arith, above-of _ (c .before .before .before .before .before .before .before .before .before .before .args .st) (c .before .before .before .before .before .before .before .read-entry .result .entry .fields) (sym (c .before .before .context-number .ensures) ∙ c .before .if2 .left), c .before .before .before .before .before .before .before .before .before .before .pre .0, small (c .before .before .before .before .before .before)), c .before .before .before .before .before .before .before .before .before .before .pre .1)
+next-requires c κs =
+    let start = c .before .before .before .before .before .before .before .before .before .before in
+    let a = above-of _ (start .args .st) (c .before .before .before .before .before .before .before .read-entry .result .entry .fields) (sym (c .before .before .context-number .ensures) ∙ c .before .if2 .left) in
+    let n = small (c .before .before .before .before .before .before) in
+    (omega (arith, a, start .pre .0, n), omega (arith, a, start .pre .0, start .pre .1, n), start .pre .2)
 
 returns-3 : tie.Need-returns-3
 returns-3 c = text-passed _ (c .before .before .before .before .before .before .before .before .before .before .before .args .st) (c .before .before .before .before .before .before .before .before .before .before .before .args .text .now) (read (c .before .before .before .before .before .before .before .before)) (not-false _ (c .before .before .before .before .before .before .if1 .left)) (c .before .before .before .context-number .ensures) (c .before .before .if2 .left) (c .next .ensures)

@@ -1,7 +1,7 @@
 -- Two numbers with the same bits.
 use mir.Syntax.{w64}
 use mir.Val.{SFits}
-use Rattle.journal.proofs.CheckCalls.{decrypted-equal}
+use Rattle.journal.proofs.CheckCalls.{bits-equal}
 use borrow.Author.Needs.{needs}
 use Rattle.journal.proofs.checking.decrypts_to.Statement.{statement}
 use Rattle.journal.proofs.checking.decrypts_to.Tie as tie
@@ -9,16 +9,11 @@ use Rattle.journal.proofs.checking.decrypts_to.Tie as tie
 fits : (c : tie.After-decrypt-counter) → SFits w64 (c .decrypt-counter .result)
 fits c = search needs
 
-settings-now-requires : tie.Need-settings-now-requires
-settings-now-requires c κs = search needs
-
 decrypt-counter-requires : tie.Need-decrypt-counter-requires
 decrypt-counter-requires c κs = search needs
 
 returns : tie.Need-returns
-returns c =
-    let start = c .before .before .before .before .before in
-    decrypted-equal _ (start .args .st) (start .args .f) (c .before .before .before .before .settings-now .ensures) (fits c) (start .fits .z) (c .decrypt-counter .ensures)
+returns c = bits-equal (fits c) (c .before .before .before .before .fits .z) (c .decrypt-counter .ensures)
 
 pub decrypts-to-spec : {M : Type 1} → statement M
-decrypts-to-spec = tie.close (tie.spec settings-now-requires decrypt-counter-requires returns)
+decrypts-to-spec = tie.close (tie.spec decrypt-counter-requires returns)

@@ -1,46 +1,53 @@
+-- The section of the serial, then the count.
+use mathlib.Core.Path.{_≡_}
+use lib.ListN.{length}
+use Rattle.receipt.specs.declared.settings.Letters.the-variants.{Serial}
+use Rattle.receipt.proofs.Names.{good-name}
+use Rattle.journal.proofs.OpenCalls.{lent-room, put-start}
 use borrow.Author.Needs.{needs}
+use native.Mathlib.Omega.{arith}
 use Rattle.journal.proofs.head.put_start.Statement.{statement}
 use Rattle.journal.proofs.head.put_start.Tie as tie
-use Rattle.journal.proofs.head.put_start.Reads as reads
-use Rattle.journal.proofs.head.put_start.Lts as lts
-use Rattle.journal.proofs.head.put_count.Reads as put-count-reads
-use Rattle.journal.proofs.head.put_section.Reads as put-section-reads
 
--- src/head.rt:59:17
+-- what the type says of the name
+long : (c : tie.Start) → length (c .args .serial .bytes) ≡ 32
+long c = search needs
+
 sub-put-section : tie.Need-sub-put-section
 sub-put-section c = search needs
 
--- src/head.rt:59:17
 part-put-section-start : tie.Need-part-put-section-start
 part-put-section-start c = search needs
 
--- src/head.rt:59:17
 part-put-section-end : tie.Need-part-put-section-end
-part-put-section-end c = ?
+part-put-section-end c = omega (arith, long (c .before .before .before), good-name Serial _ (c .before .before .before .pre .0) .most)
 
--- src/head.rt:59:5
 put-section-requires : tie.Need-put-section-requires
-put-section-requires c κs = search needs
+put-section-requires c κs =
+    let start = c .before .before .before .before .before in
+    lent-room (start .args .serial) (long start) (start .pre .0) (start .args .buf .now) _ (start .pre .1)
 
--- src/head.rt:60:15
 add-put-count : tie.Need-add-put-count
-add-put-count c = search needs
+add-put-count c =
+    omega
+    (arith, c .before .before .before .before .before .before .before .before .pre .1, c .before .before .before .before .before .before .before .before .good)
 
--- src/head.rt:60:15
 add-put-count-2 : tie.Need-add-put-count-2
-add-put-count-2 c = search needs
+add-put-count-2 c =
+    omega
+    (arith, c .before .before .before .before .before .before .before .before .pre .1, c .before .before .before .before .before .before .before .before .good)
 
--- src/head.rt:60:5
 put-count-requires : tie.Need-put-count-requires
 put-count-requires c κs = search needs
 
--- src/head.rt:53:1
 same-length : tie.Need-same-length
 same-length c = search needs
 
--- src/head.rt:53:1
 returns : tie.Need-returns
-returns c = ?
+returns c =
+    let start = c .before .before .before .before .before .before .before .before .before .before .before .before in
+    put-start (start .args .serial) (long start) (start .pre .0) (start .args .buf .now) _ (start .pre .1)
+    (c .before .before .before .before .before .before .put-section .ensures) (c .before .before .put-count .ensures)
 
 pub put-start-spec : {M : Type 1} → statement M
 put-start-spec =

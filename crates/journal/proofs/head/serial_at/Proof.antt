@@ -1,38 +1,32 @@
+-- The end of a section, and the part before it.
+use Rattle.journal.proofs.Readings.{count-there, section-ends, serial-is}
 use borrow.Author.Needs.{needs}
+use native.Mathlib.Omega.{arith}
 use Rattle.journal.proofs.head.serial_at.Statement.{statement}
 use Rattle.journal.proofs.head.serial_at.Tie as tie
-use Rattle.journal.proofs.head.serial_at.Reads as reads
-use Rattle.journal.proofs.head.serial_at.Lts as lts
-use Rattle.journal.proofs.head.section_end.Reads as section-end-reads
-use Rattle.receipt.proofs.name_of.Reads as name-of-reads
 
--- src/head.rt:123:13
 add-a : tie.Need-add-a
-add-a c = ?
+add-a c = omega (arith, count-there (c .before .args .j .now) _ (c .before .pre), c .before .good)
 
--- src/head.rt:124:9
 section-end-requires : tie.Need-section-end-requires
 section-end-requires c κs = search needs
 
--- src/head.rt:125:22
 sub-name-of : tie.Need-sub-name-of
-sub-name-of c = ?
+sub-name-of c = section-ends (c .before .before .args .j .now) _ (c .before .before .pre) (c .section-end .ensures) .0
 
--- src/head.rt:125:22
 part-name-of-start : tie.Need-part-name-of-start
-part-name-of-start c = ?
+part-name-of-start c = section-ends (c .before .before .args .j .now) _ (c .before .before .pre) (c .section-end .ensures) .0
 
--- src/head.rt:125:22
 part-name-of-end : tie.Need-part-name-of-end
-part-name-of-end c = search needs
+part-name-of-end c = section-ends (c .before .before .args .j .now) _ (c .before .before .pre) (c .section-end .ensures) .1
 
--- src/head.rt:125:5
 name-of-requires : tie.Need-name-of-requires
 name-of-requires c κs = search needs
 
--- src/head.rt:119:1
 returns : tie.Need-returns
-returns c = ?
+returns c =
+    serial-is (c .before .before .before .before .args .j .now) _ (c .before .before .before .before .pre) (c .before .before .section-end .ensures)
+    (c .name-of .ensures)
 
 pub serial-at-spec : {M : Type 1} → statement M
 serial-at-spec =

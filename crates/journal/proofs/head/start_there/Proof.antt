@@ -1,48 +1,49 @@
+-- The counts, and then the serial.
+use Prim.Native.Nat.{_+_, _≤_}
+use lib.ListN.{length}
+use Rattle.primitives.proofs.Questions.{at-most, above}
+use Rattle.journal.proofs.Readings.{start-short, start-long, start-room, start-is}
 use borrow.Author.Needs.{needs}
+use native.Mathlib.Omega.{arith}
 use Rattle.journal.proofs.head.start_there.Statement.{statement}
 use Rattle.journal.proofs.head.start_there.Tie as tie
-use Rattle.journal.proofs.head.start_there.Reads as reads
-use Rattle.journal.proofs.head.start_there.Lts as lts
-use Rattle.journal.proofs.head.count_at.Reads as count-at-reads
-use Rattle.journal.proofs.head.serial_at.Reads as serial-at-reads
-use Rattle.primitives.proofs.has_room.Reads as has-room-reads
-use Rattle.receipt.proofs.serial_good.Reads as serial-good-reads
 
--- src/head.rt:148:9
+-- there is room for both counts
+room : (c : tie.Else1) → c .before .before .before .args .at + 8 ≤ length (c .before .before .before .args .j .now)
+room c =
+    at-most (c .before .before .before .args .at + 8) (length (c .before .before .before .args .j .now)) (c .before .has-room .ensures) (c .if1 .left)
+
 has-room-requires : tie.Need-has-room-requires
 has-room-requires c κs = search needs
 
--- src/head.rt:149:9
 returns : tie.Need-returns
-returns c = ?
+returns c = start-short (c .before .before .before .args .j .now) _ (above _ _ (c .before .has-room .ensures) (c .if1 .taken))
 
--- src/head.rt:151:8
 sub-if2 : tie.Need-sub-if2
-sub-if2 c = ?
+sub-if2 c = omega (arith, room c)
 
--- src/head.rt:151:8
 sub-if2-2 : tie.Need-sub-if2-2
-sub-if2-2 c = ?
+sub-if2-2 c = omega (arith, room c)
 
--- src/head.rt:151:23
 count-at-requires : tie.Need-count-at-requires
-count-at-requires c κs = ?
+count-at-requires c κs = (omega arith, omega (arith, room c))
 
--- src/head.rt:152:9
 returns-2 : tie.Need-returns-2
-returns-2 c = ?
+returns-2 c =
+    start-long (c .before .before .before .before .before .args .j .now) _ (room (c .before .before)) (c .before .count-at .ensures .0)
+    (c .if2 .taken)
 
--- src/head.rt:154:9
 serial-at-requires : tie.Need-serial-at-requires
-serial-at-requires c κs = ?
+serial-at-requires c κs =
+    start-room (c .before .before .before .before .before .args .j .now) _ (room (c .before .before)) (c .before .count-at .ensures .0) (c .if2 .left)
 
--- src/head.rt:155:5
 serial-good-requires : tie.Need-serial-good-requires
 serial-good-requires c κs = search needs
 
--- src/head.rt:144:1
 returns-3 : tie.Need-returns-3
-returns-3 c = ?
+returns-3 c =
+    start-is (c .before .before .before .before .before .before .before .args .j .now) _ (room (c .before .before .before .before))
+    (c .before .before .before .count-at .ensures .0) (c .before .before .if2 .left) (c .before .serial-at .ensures) (c .serial-good .ensures)
 
 pub start-there-spec : {M : Type 1} → statement M
 start-there-spec =

@@ -1,6 +1,5 @@
 -- `opening::open` meets its contract.
-use Rattle.journal.proofs.Registers.{open-zero}
-use Rattle.journal.proofs.OpenCalls.{open-refused, open-done}
+use Rattle.journal.proofs.OpenCalls.{open-zero, open-refused, open-done}
 use mathlib.Core.Path.{sym, _∙_}
 use borrow.Author.Needs.{needs}
 use Rattle.journal.proofs.opening.open.Statement.{statement}

@@ -1,55 +1,66 @@
+-- Place by place, from the place k on.
+use Prim.Native.Nat.{_-_, _<_}
+use mathlib.Core.Path.{_≡_, refl, sym, ap, _∙_}
+use lib.ListN.{length, drop}
+use Rattle.primitives.proofs.Questions.{yes, no}
+use Rattle.journal.specs.State.{sameName, allEmpty}
+use Rattle.journal.proofs.Serials.{empty-no, empty-later, empty-none}
+use borrow.Author.Needs.{needs}
+use native.Mathlib.Omega.{arith}
 use Rattle.journal.proofs.state.empty_from.Statement.{statement}
 use Rattle.journal.proofs.state.empty_from.Tie as tie
-use Rattle.journal.proofs.state.empty_from.Reads as reads
-use Rattle.journal.proofs.state.empty_from.Lts as lts
-use Rattle.journal.proofs.state.no_name.Reads as no-name-reads
-use Rattle.journal.proofs.state.same_name.Reads as same-name-reads
 
 abbrev Inv-loop : tie.InvT-loop
-Inv-loop k slots none i₀ i = ?
+Inv-loop k slots none i₀ i = allEmpty (drop k slots) ≡ allEmpty (drop i slots)
 
 abbrev μ-loop : tie.MeasureT-loop
-μ-loop k slots none i₀ i = ?
+μ-loop k slots none i₀ i = 8 - i
 
--- src/state.rt:157:9
 no-name-requires : tie.Need-no-name-requires Inv-loop μ-loop
-no-name-requires c κs = ?
+no-name-requires c κs = search needs
 
--- src/state.rt:159:5
 loop-holds : tie.Need-loop-holds Inv-loop μ-loop
-loop-holds c = ?
+loop-holds c = refl
 
--- src/state.rt:160:17
 mul-n : tie.Need-mul-n Inv-loop μ-loop
-mul-n c = ?
+mul-n c = search needs
 
--- src/state.rt:160:17
 array-copy-out-n : tie.Need-array-copy-out-n Inv-loop μ-loop
-array-copy-out-n c = ?
+array-copy-out-n c = search needs
 
--- src/state.rt:161:13
 same-name-requires : tie.Need-same-name-requires Inv-loop μ-loop
-same-name-requires c κs = ?
+same-name-requires c κs = search needs
 
--- src/state.rt:162:13
 returns : tie.Need-returns Inv-loop μ-loop
-returns c = ?
+returns c =
+    let slots = c .before .before .before .before .before .before .args .t1 in
+    let l = c .before .before .before .before .loop in
+    let len : length slots ≡ 8 = search needs in
+    let h : l .i < length slots = omega (arith, len, c .before .before .before .loop-test .taken) in
+    let e = ap (sameName _) (sym (c .before .before .before .before .before .no-name .ensures)) ∙ no (c .before .same-name .ensures) (c .if1 .taken) in
+    sym (l .inv ∙ empty-no slots (l .i) _ h e)
 
--- src/state.rt:164:9
 add-i : tie.Need-add-i Inv-loop μ-loop
-add-i c = ?
+add-i c = search needs
 
--- src/state.rt:159:5
 loop-less : tie.Need-loop-less Inv-loop μ-loop
-loop-less c = ?
+loop-less c = omega (arith, c .before .before .before .loop-test .taken)
 
--- src/state.rt:159:5
 loop-again : tie.Need-loop-again Inv-loop μ-loop
-loop-again c = ?
+loop-again c =
+    let slots = c .before .before .before .before .before .before .args .t1 in
+    let l = c .before .before .before .before .loop in
+    let len : length slots ≡ 8 = search needs in
+    let h : l .i < length slots = omega (arith, len, c .before .before .before .loop-test .taken) in
+    let e = ap (sameName _) (sym (c .before .before .before .before .before .no-name .ensures)) ∙ yes (c .before .same-name .ensures) (c .if1 .left) in
+    l .inv ∙ empty-later slots (l .i) _ h e
 
--- src/state.rt:154:1
 returns-2 : tie.Need-returns-2 Inv-loop μ-loop
-returns-2 c = ?
+returns-2 c =
+    let slots = c .before .before .before .args .t1 in
+    let l = c .before .loop in
+    let len : length slots ≡ 8 = search needs in
+    sym (l .inv ∙ empty-none slots (l .i) (omega (arith, len, c .loop-test .left)))
 
 pub empty-from-spec : {M : Type 1} → statement M
 empty-from-spec =

@@ -1,50 +1,68 @@
+-- Place by place, among those used.
+use Prim.Native.Nat.{_-_, _≤_, _<_}
+use mathlib.Core.Path.{_≡_, refl, sym, ap, _∙_}
+use lib.ListN.{length, drop}
+use Rattle.primitives.proofs.Questions.{yes, no}
+use Rattle.receipt.specs.Settings.{serialGood}
+use Rattle.journal.specs.State.{used, allGood}
+use Rattle.journal.proofs.Serials.{used-length, used-at, good-no, good-later, good-none}
+use borrow.Author.Needs.{needs}
+use native.Mathlib.Omega.{arith}
 use Rattle.journal.proofs.state.good_before.Statement.{statement}
 use Rattle.journal.proofs.state.good_before.Tie as tie
-use Rattle.journal.proofs.state.good_before.Reads as reads
-use Rattle.journal.proofs.state.good_before.Lts as lts
-use Rattle.receipt.proofs.serial_good.Reads as serial-good-reads
 
 abbrev Inv-loop : tie.InvT-loop
-Inv-loop k slots i₀ i = ?
+Inv-loop k slots i₀ i = allGood (used slots) ≡ allGood (drop i (used slots))
 
 abbrev μ-loop : tie.MeasureT-loop
-μ-loop k slots i₀ i = ?
+μ-loop k slots i₀ i = k - i
 
--- src/state.rt:143:5
+-- how many are used
+most : (c : tie.Start Inv-loop μ-loop) → c .args .k ≤ 8
+most c =
+    let slots = c .args .t1 in
+    let len : length slots ≡ 8 = search needs in
+    omega (arith, c .pre, used-length slots, len)
+
 loop-holds : tie.Need-loop-holds Inv-loop μ-loop
-loop-holds c = ?
+loop-holds c = refl
 
--- src/state.rt:144:17
 mul-n : tie.Need-mul-n Inv-loop μ-loop
-mul-n c = ?
+mul-n c = let m = most (c .before .before) in search (needs, m)
 
--- src/state.rt:144:17
 array-copy-out-n : tie.Need-array-copy-out-n Inv-loop μ-loop
-array-copy-out-n c = ?
+array-copy-out-n c = omega (arith, most (c .before .before), c .loop-test .taken)
 
--- src/state.rt:145:13
 serial-good-requires : tie.Need-serial-good-requires Inv-loop μ-loop
-serial-good-requires c κs = ?
+serial-good-requires c κs = search needs
 
--- src/state.rt:146:13
 returns : tie.Need-returns Inv-loop μ-loop
-returns c = ?
+returns c =
+    let slots = c .before .before .before .before .before .args .t1 in
+    let l = c .before .before .before .before .loop in
+    let h : l .i < length (used slots) = omega (arith, c .before .before .before .before .before .pre, c .before .before .before .loop-test .taken) in
+    let e = ap serialGood (used-at slots (l .i) _ h) ∙ no (c .before .serial-good .ensures) (c .if1 .taken) in
+    sym (l .inv ∙ good-no (used slots) (l .i) _ h e)
 
--- src/state.rt:148:9
 add-i : tie.Need-add-i Inv-loop μ-loop
-add-i c = ?
+add-i c = let m = most (c .before .before .before .before .before) in search (needs, m)
 
--- src/state.rt:143:5
 loop-less : tie.Need-loop-less Inv-loop μ-loop
-loop-less c = ?
+loop-less c = omega (arith, c .before .before .before .loop-test .taken)
 
--- src/state.rt:143:5
 loop-again : tie.Need-loop-again Inv-loop μ-loop
-loop-again c = ?
+loop-again c =
+    let slots = c .before .before .before .before .before .args .t1 in
+    let l = c .before .before .before .before .loop in
+    let h : l .i < length (used slots) = omega (arith, c .before .before .before .before .before .pre, c .before .before .before .loop-test .taken) in
+    let e = ap serialGood (used-at slots (l .i) _ h) ∙ yes (c .before .serial-good .ensures) (c .if1 .left) in
+    l .inv ∙ good-later (used slots) (l .i) _ h e
 
--- src/state.rt:138:1
 returns-2 : tie.Need-returns-2 Inv-loop μ-loop
-returns-2 c = ?
+returns-2 c =
+    let slots = c .before .before .args .t1 in
+    let l = c .before .loop in
+    sym (l .inv ∙ good-none (used slots) (l .i) (omega (arith, c .before .before .pre, c .loop-test .left)))
 
 pub good-before-spec : {M : Type 1} → statement M
 good-before-spec =

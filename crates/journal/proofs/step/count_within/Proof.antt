@@ -1,15 +1,13 @@
+-- `step::count_within` meets its contract.
+use Rattle.journal.proofs.IssueCalls.{within-no, within-is}
 use Rattle.journal.proofs.step.count_within.Statement.{statement}
 use Rattle.journal.proofs.step.count_within.Tie as tie
-use Rattle.journal.proofs.step.count_within.Reads as reads
-use Rattle.journal.proofs.step.count_within.Lts as lts
 
--- src/step.rt:111:9
 returns : tie.Need-returns
-returns c = ?
+returns c = within-no (c .before .before .args .st) (c .if1 .taken)
 
--- src/step.rt:107:1
 returns-2 : tie.Need-returns-2
-returns-2 c = ?
+returns-2 c = within-is (c .before .before .before .before .args .st) (c .before .before .if1 .left)
 
 pub count-within-spec : {M : Type 1} → statement M
 count-within-spec = tie.close (tie.spec returns returns-2)
