@@ -29,8 +29,9 @@ use Rattle.journal.specs.FirstNo.{Headed, SoFar, soFar, index}
 use Rattle.journal.specs.Demands.{beforeCount}
 use Rattle.journal.specs.declared.state.State.{State}
 use Rattle.journal.specs.declared.checking.Checked.{Checked}
+use Rattle.journal.proofs.Sections.{length-start}
 use Rattle.journal.proofs.Heads.{length-head, read-count-at}
-use Rattle.journal.proofs.Starting.{StartAt, length-start}
+use Rattle.journal.proofs.Starting.{StartAt}
 use Rattle.journal.proofs.Check.{step}
 use Rattle.journal.proofs.Stepping.{passed-step, refused-step, answer-no}
 use Rattle.journal.proofs.Placing.{Core, startCore, runCore, coreAfter, run-after, AllRight, right-append, right-split, all-each, each-all, Startable, Begun, Names, names-each, each-names, names-length, names-split}
@@ -238,7 +239,7 @@ reach-later j key n o x qs p m rest f bx nx ns b =
             length-append (pairTexts o n qs) tail,
             length-append (pairStart s m) rs,
             length-append (texts sf n es) rest,
-            length-start s (b .typed) (b .good) m,
+            length-start s (b .typed .long) (b .good) m,
             entries-size sx n (x .entries),
             pairs-size o n qs,
             entries-size sf n es,

@@ -40,9 +40,10 @@ use Rattle.journal.specs.declared.state.State.{State}
 use Rattle.journal.specs.declared.state.TakenOver.{TakenOver}
 use Rattle.journal.specs.declared.checking.Checked.{Checked}
 use Rattle.journal.specs.declared.checking.Step.{Step}
+use Rattle.journal.proofs.Sections.{length-start}
 use Rattle.journal.proofs.Places.{text-at, there-at, there-entry, text-short}
 use Rattle.journal.proofs.Heads.{head-good, read-settings, good-head, read-typed, read-few, read-back, countOf}
-use Rattle.journal.proofs.Starting.{StartAt, start-at, serial-read, start-there, length-start}
+use Rattle.journal.proofs.Starting.{StartAt, start-at, serial-read, start-there}
 use Rattle.journal.proofs.Check.{first-yes, first-true, above-yes, above-true, new-yes, new-fits, right-yes, right-fits, right-true, bytes-text, step, scheduleOf}
 use Rattle.journal.proofs.Stepping.{full-yes, full-no, full-true, full-false, end-none, entry-passed, entry-refused, start-passed, start-refused, Case, an-entry, at-end, a-start, step-case, idle, refused-step, passed-step}
 use Rattle.journal.proofs.Placing.{places-out, out-places, length-serials, names-length}

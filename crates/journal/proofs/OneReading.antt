@@ -19,9 +19,10 @@ use Rattle.journal.specs.Head.{headSettings, entryText, textAt, pairStar
 use Rattle.journal.specs.State.{TypedName}
 use Rattle.journal.specs.Valid.{Owner, Pair, settingsFor, texts, pairTexts, ownerText, journalText, placed, allPlaced, GoodOwner, Valid, headOf}
 use Rattle.journal.specs.Demands.{OneReading}
+use Rattle.journal.proofs.Sections.{length-start}
 use Rattle.journal.proofs.Places.{text-at}
 use Rattle.journal.proofs.Heads.{read-settings}
-use Rattle.journal.proofs.Starting.{serial-read, count-read, length-start}
+use Rattle.journal.proofs.Starting.{serial-read, count-read}
 use Rattle.journal.proofs.Placing.{Core, startCore, stepCore, runCore, AllRight, right-split, Begun, Names}
 use Rattle.journal.proofs.Placing as placing
 use Rattle.journal.proofs.Passing.{typed-for, good-for, pair-split}
@@ -68,7 +69,7 @@ none-one o n us p ps b e =
     let t = texts (settingsFor o (p .serial)) n (p .entries) ++ pairTexts o n ps in
     let s = pairStart (p .serial) (length (p .entries)) in
     let z : 0 ≡ length (s ++ t) = ap length (e ∙ pair-split o n p (pairTexts o n ps)) in
-    absurd (omega (arith, length-append s t, length-start (p .serial) (b .typed) (b .good) (length (p .entries))))
+    absurd (omega (arith, length-append s t, length-start (p .serial) (b .typed .long) (b .good) (length (p .entries))))
 
 no-text : (o : Owner) (n : ℕ) → pairTexts o n [] ≡ []
 unfolding pairTexts

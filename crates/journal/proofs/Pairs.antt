@@ -20,8 +20,7 @@ use Rattle.journal.specs.Step.{renewed}
 use Rattle.journal.specs.Valid.{Owner, Pair, settingsFor, texts, pairText, pairTexts, ownerText, journalText, Placed, placed, allPlaced, serialsOf, GoodOwner}
 use Rattle.journal.specs.Demands.{beforeCount}
 use Rattle.journal.specs.declared.state.State.{State}
-use Rattle.journal.proofs.Sections.{length-section}
-use Rattle.journal.proofs.Starting.{length-serial, length-start}
+use Rattle.journal.proofs.Sections.{length-section, length-serial, length-start}
 use Rattle.journal.proofs.Check.{step}
 use Rattle.journal.proofs.Serials.{newest-added}
 use Rattle.journal.proofs.Placing.{Core, startCore, runCore, run-append, AllRight, right-split, Begun, Names, names-split}
@@ -134,7 +133,7 @@ pub pair-long : (o : Owner) (n : ℕ) (p : Pair) → TypedName (p .serial) → s
 unfolding pairText
 pair-long o n p t g =
     length-append (pairStart (p .serial) (length (p .entries))) (texts (settingsFor o (p .serial)) n (p .entries))
-    ∙ omega (arith, length-start (p .serial) t g (length (p .entries)))
+    ∙ omega (arith, length-start (p .serial) (t .long) g (length (p .entries)))
 
 pub journal-longer : (o : Owner) (n : ℕ) (ps qs : List Pair) → length (journalText o n (ps ++ qs)) ≡ length (journalText o n ps) + length (pairTexts o n qs)
 unfolding journalText
@@ -240,7 +239,7 @@ open-of k n o ps p w =
       section = ap (λ (x : State). x .section) e ∙ (kp .section ∙ omega (arith, renewed-section st₀ s));
       place =
           length-append (ownerText o) (pairTexts o n ps ++ section (nameText s))
-          ∙ (omega (arith, length-append (pairTexts o n ps) (section (nameText s)), lo, length-serial s (b .typed) (b .good), r₀ .length, bl, renewed-place st₀ s, kp .place)
+          ∙ (omega (arith, length-append (pairTexts o n ps) (section (nameText s)), lo, length-serial s (b .typed .long) (b .good), r₀ .length, bl, renewed-place st₀ s, kp .place)
           ∙ sym (ap (λ (x : State). x .place) e));
       size = r .length ∙ omega (arith, bl, lo, length-append (ownerText o) (pairTexts o n (ps ++ (p ∷ []))));
     }

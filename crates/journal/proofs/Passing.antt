@@ -22,12 +22,13 @@ use Rattle.journal.specs.Valid.{Owner, Pair, settingsFor, texts, pairTex
 use Rattle.journal.specs.declared.state.State.{State}
 use Rattle.journal.specs.declared.checking.Checked.{Checked}
 use Rattle.primitives.proofs.Rows.{ask-yes}
+use Rattle.journal.proofs.Sections.{length-start}
 use Rattle.journal.proofs.Places.{text-at}
 use Rattle.journal.proofs.Check.{RightAt, textIn, step, found-is, text-small, step-zero, after-is, step-counter, step-length, scheduleOf}
 use Rattle.journal.proofs.Serials.{used-added, newest-added}
 use Rattle.journal.proofs.Answers.{settings-three, serial-yes}
 use Rattle.journal.proofs.Stepping.{full-yes, full-no, entry-passed, start-passed, passed-step}
-use Rattle.journal.proofs.Starting.{serial-read, count-read, start-there, length-start}
+use Rattle.journal.proofs.Starting.{serial-read, count-read, start-there}
 use Rattle.journal.proofs.Placing.{Core, stepCore, runCore, run-append, RightFor, AllRight, right-split, Startable, Names}
 use Rattle.journal.proofs.Placing as placing
 
@@ -223,7 +224,7 @@ start-step {st} {k = k} b s m p rest j at g q most =
     ask-yes 21 _ th ∙ serial-yes st (serialAt j (st .length)) 0 (rw (sr, b .serials) (g .new)) (rw (b .serials) (g .room)) in
     let l = length-append p (pairStart s m ++ rest) in
     let l′ = length-append (pairStart s m) rest in
-    let less : st .length < length j = omega (arith, ap length q, length-start s (g .typed) (g .good) m) in
+    let less : st .length < length j = omega (arith, ap length q, length-start s (g .typed .long) (g .good) m) in
     start-passed (keySchedule k) st j (full-yes st j most) less sz ∙ ap (λ (y : Name). stopped 0 (renewed st y)) sr
 
 -- ---- steps
@@ -283,7 +284,7 @@ pair-split o n x rest = append-assoc (pairStart (x .serial) (length (x .entries)
 module _ {st : State} {o : Owner} {k : List ℕ} {n : ℕ} {c : Core} {us : List Name} (b : Base st o k n c us) (s : Name) (m : ℕ) (p rest j : List ℕ) (at : length p ≡ st .length)
     (g : Startable us s m) (q : j ≡ p ++ (pairStart s m ++ rest)) where
   pub start-place : length (p ++ pairStart s m) ≡ renewed st s .length
-  start-place = length-append p (pairStart s m) ∙ omega (arith, at, length-start s (g .typed) (g .good) m, renewed-length st s)
+  start-place = length-append p (pairStart s m) ∙ omega (arith, at, length-start s (g .typed .long) (g .good) m, renewed-length st s)
 
   pub start-bytes : j ≡ (p ++ pairStart s m) ++ rest
   start-bytes = q ∙ sym (append-assoc p (pairStart s m) rest)

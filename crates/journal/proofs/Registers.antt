@@ -5,7 +5,6 @@ use mathlib.Core.Bool.{Bool, true}
 use mathlib.Core.List.{List, [], _∷_, _++_, append-assoc, append-nil}
 use native.Mathlib.Omega.{arith}
 use native.Mathlib.Nat.{pow-le-pow-right}
-use borrow.Author.Tests.{leb-true}
 use lib.Dec.{lit<}
 use lib.IntN.{ℤ, pos, _+ℤ_, +ℤ-idl}
 use lib.ListN.{length, take, length-append}
@@ -26,7 +25,6 @@ use Rattle.receipt.specs.Compact.{compact}
 use Rattle.receipt.specs.declared.settings.Name.{Name}
 use Rattle.receipt.specs.declared.settings.Settings.{Settings}
 use Rattle.receipt.specs.declared.entry.Entry.{Entry}
-use Rattle.receipt.proofs.Names.{settings-zero}
 use Rattle.journal.specs.Head.{head, headLength, entryText, pairStart}
 use Rattle.journal.specs.State.{unopened, isIn, TypedName}
 use Rattle.journal.specs.Step.{fresh, fieldsOf, next, renewed}
@@ -38,8 +36,9 @@ use Rattle.journal.specs.Valid.{Owner, Pair, settingsFor, texts, pairTex
 use Rattle.journal.specs.Calls.{Order, TypedOrder, Call, issue, change, TypedCall, issues, changes, TypedCalls, none, more, Register, opening, numberOf, call, callWithin, calls, callsWithin, receiptOfCall, receiptsOf, Section, sectionsFrom, sectionsIn}
 use Rattle.journal.specs.Demands.{beforeCount}
 use Rattle.journal.specs.declared.state.State.{State}
+use Rattle.journal.proofs.OpenCalls.{open-zero}
+use Rattle.journal.proofs.Sections.{length-start}
 use Rattle.journal.proofs.Heads.{length-head}
-use Rattle.journal.proofs.Starting.{length-start}
 use Rattle.journal.proofs.Check.{RightAt, textIn, step, step-length}
 use Rattle.journal.proofs.Answers.{Eight, chain-eight, Answered, issue-zero, right-call, change-zero}
 use Rattle.journal.proofs.Placing.{Core, startCore, stepCore, runCore, coreAfter, run-after, RightFor, AllRight, right-append}
@@ -245,7 +244,7 @@ module _ (k : List ℕ) (n : ℕ) (o : Owner) (g : Register) (ps : List Pair) (p
         let a = change-zero (g .state) s (length (g .buf)) z in
         let q = holds-open ps p h in
         let qs = ps ++ (p ∷ []) in
-        let ls = length-start s ts (a .good) 0 in
+        let ls = length-start s (ts .long) (a .good) 0 in
         let room : g .state .length + length (pairStart s 0) ≤ length (g .buf) = omega (arith, ls, a .fits) in
         let cs = change-state g s z in
         let cb = change-buf g s z in
@@ -405,14 +404,6 @@ counter-sum k n o ps w =
     ∙ (start-sum n o (allPlaced o ps) ∙ ap (λ (l : List Entry). sum (receiptsIn l)) (entries-all o ps))
 
 -- ---- the register that was just opened
-
--- what an Open that was not refused says
-pub open-zero : (s : Settings) (shared : Bool) (n room : ℕ) → openNumber s shared n room ≡ 0
-    → (settingsGood s ≡ true) × (widthGood n ≡ true) × (headLength s ≤ room) × (idAllowed shared (s .id) ≡ true)
-unfolding openNumber
-open-zero s shared n room z =
-    let p = settings-zero s shared n _ z in
-    (p .0, p .1, leb-true (headLength s) room (ask-zero _ _ _ (p .2) .0), p .3)
 
 pub fresh-holds : (o : Owner) (k : List ℕ) (n : ℕ) (s : Name) → fresh (settingsFor o s) n k ≡ runPairs (blank o k n) (emptyPair s ∷ [])
 unfolding runPairs run

@@ -19,20 +19,10 @@ use Rattle.receipt.proofs.Names.{good-name, length-text, text-of, name-of}
 use Rattle.receipt.proofs.Entries.{length-array, bytes-array}
 use Rattle.journal.specs.Head.{section, sectionText, sectionEnd, pairStart, serialAt, startThere}
 use Rattle.journal.specs.State.{TypedName}
-use Rattle.journal.proofs.Sections.{length-section, section-text, section-end, text-length, text-bytes, section-there}
+use Rattle.journal.proofs.Sections.{serial-long, length-serial, length-start, section-text, section-end, text-length, text-bytes, section-there}
 use Rattle.journal.proofs.Stepping.{serial-len}
 
 module _ (s : Name) (t : TypedName s) (g : serialGood s ≡ true) where
-  pub serial-long : length (nameText s) ≡ s .len
-  serial-long = length-text s (t .long) (good-name Serial s g .most)
-
-  pub length-serial : length (section (nameText s)) ≡ 4 + s .len
-  length-serial = length-section (nameText s) ∙ omega (arith, serial-long)
-
-  pub length-start : (k : ℕ) → length (pairStart s k) ≡ 8 + s .len
-  unfolding pairStart
-  length-start k = length-append (section (nameText s)) (bytesOf 4 k) ∙ omega (arith, length-serial, length-bytesOf 4 k)
-
   -- ---- a start at a place, whatever follows it
 
   module _ (p : List ℕ) (k : ℕ) (rest : List ℕ) (at : ℕ) (e : length p ≡ at) (few : k < 4294967296) where
@@ -41,7 +31,7 @@ module _ (s : Name) (t : TypedName s) (g : serialGood s ≡ true) where
     split = ap (λ (l : List ℕ). p ++ l) (append-assoc (section (nameText s)) (bytesOf 4 k) rest)
 
     short : length (nameText s) < 4294967296
-    short = omega (arith, serial-long, good-name Serial s g .most)
+    short = omega (arith, serial-long s (t .long) g, good-name Serial s g .most)
 
     pub serial-read : serialAt (p ++ (pairStart s k ++ rest)) at ≡ s
     unfolding serialAt
@@ -52,19 +42,19 @@ module _ (s : Name) (t : TypedName s) (g : serialGood s ≡ true) where
     end-read : sectionEnd (p ++ (pairStart s k ++ rest)) at ≡ at + 4 + s .len
     end-read =
         ap (λ (j : List ℕ). sectionEnd j at) split
-        ∙ (section-end p (nameText s) (bytesOf 4 k ++ rest) at e short ∙ omega (arith, serial-long))
+        ∙ (section-end p (nameText s) (bytesOf 4 k ++ rest) at e short ∙ omega (arith, serial-long s (t .long) g))
 
     pub count-read : countAt (p ++ (pairStart s k ++ rest)) (at + 4 + s .len) 4 ≡ k
     count-read =
         ap (λ (j : List ℕ). countAt j (at + 4 + s .len) 4) (split ∙ sym (append-assoc p (section (nameText s)) (bytesOf 4 k ++ rest)))
-        ∙ count-in (p ++ section (nameText s)) rest (at + 4 + s .len) 4 k (length-append p (section (nameText s)) ∙ omega (arith, length-serial, e)) (omega arith)
+        ∙ count-in (p ++ section (nameText s)) rest (at + 4 + s .len) 4 k (length-append p (section (nameText s)) ∙ omega (arith, length-serial s (t .long) g, e)) (omega arith)
 
     pub start-there : startThere (p ++ (pairStart s k ++ rest)) at ≡ true
     unfolding startThere
     start-there =
         let l = length-append p (pairStart s k ++ rest) in
         let m = length-append (pairStart s k) rest in
-        rw (end-read, serial-read, le-leb (at + 4 + s .len + 4) (length (p ++ (pairStart s k ++ rest))) (omega (arith, l, m, length-start k, e))) g
+        rw (end-read, serial-read, le-leb (at + 4 + s .len + 4) (length (p ++ (pairStart s k ++ rest))) (omega (arith, l, m, length-start s (t .long) g k, e))) g
 
 -- ---- a good start is the start of what was read from it
 

@@ -11,8 +11,9 @@ use Rattle.journal.specs.Demands.{AcceptedIsValid, WrittenIsAccepted}
 use Rattle.journal.specs.declared.state.State.{State}
 use Rattle.journal.proofs.Accepting.{takes, work-valid, ownerIn, valid-accepted, accepted-valid}
 use Rattle.journal.proofs.OneReading.{one-reading}
+use Rattle.journal.proofs.OpenCalls.{open-zero}
 use Rattle.journal.proofs.Pairs.{emptyPair}
-use Rattle.journal.proofs.Registers.{Holds, pairsFrom, holds-calls, receipts-same, sections-same, counter-sum, open-zero, opening-holds}
+use Rattle.journal.proofs.Registers.{Holds, pairsFrom, holds-calls, receipts-same, sections-same, counter-sum, opening-holds}
 
 pub accepted-is-valid : AcceptedIsValid
 accepted-is-valid j key n b = (accepted-valid j key n b, valid-accepted j key n)
