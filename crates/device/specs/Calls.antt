@@ -2,19 +2,24 @@
 use Prim.Native.Nat.{ℕ}
 use mathlib.Core.Bool.{Bool, cond}
 use mathlib.Core.List.{List}
-use lib.Dec.{eqb}
+use lib.Dec.{leb, eqb}
 use lib.IntN.{ℤ}
-use lib.ListN.{length}
+use lib.ListN.{length, getD}
 use Rattle.primitives.specs.Questions.{ask, ifZero}
 use Rattle.receipt.specs.Settings.{nameOf, settingsNumber}
+use Rattle.primitives.specs.declared.answer.Answer.{Answer}
+use Rattle.receipt.specs.declared.settings.Name.{Name}
 use Rattle.receipt.specs.declared.settings.Settings.{Settings}
-use Rattle.journal.specs.State.{unopened}
+use Rattle.journal.specs.State.{noName, used, unopened}
 use Rattle.journal.specs.Opening.{opened, openBuffer}
 use Rattle.journal.specs.Issuing.{issued, issueBuffer}
-use Rattle.journal.specs.Calls.{Call}
+use Rattle.journal.specs.Changing.{changed, changeBuffer}
+use Rattle.journal.specs.Calls.{Order}
 use Rattle.journal.specs.Checking.{takeOver}
 use Rattle.journal.specs.declared.state.Opened.{Opened}
+use Rattle.journal.specs.declared.state.State.{State}
 use Rattle.journal.specs.declared.state.Issued.{Issued}
+use Rattle.journal.specs.declared.state.Changed.{Changed}
 use Rattle.journal.specs.declared.state.TakenOver.{TakenOver}
 use Rattle.device.specs.Layout.{settingsBytes, arrayOf, settingsOf, widthOf, keyOf, stateOf, kept}
 use Rattle.device.specs.Details.{detailsOf}
@@ -36,6 +41,24 @@ settingsAnswer s n room = settingsNumber s n (ask (eqb room 123) 23 0)
 unfoldable pub settingsBuffer : Settings → List ℕ → ℕ → List ℕ → List ℕ
 settingsBuffer s key n out = ifZero (settingsAnswer s (widthWith key n) (length out)) (settingsBytes s n key) out
 
+-- ---- what a state says of its serials
+
+-- one of those used, from 0; the empty name if there is no such serial
+unfoldable pub serialIn : State → ℕ → Name
+serialIn st which = getD (used (st .serials)) which noName
+
+-- its text, in an output of this length: 23 if it is too short
+unfoldable pub serialAnswer : List ℕ → ℕ → Answer
+serialAnswer text room = record { number = ask (leb (length text) room) 23 0; length = ifZero (ask (leb (length text) room) 23 0) (length text) 0 }
+
+-- the settings that the receipts under it are spelled with
+unfoldable pub settingsIn : State → ℕ → Settings
+settingsIn st which = record { csp = st .csp; id = st .id; serial = serialIn st which }
+
+-- the output after the call
+unfoldable pub settingsInBuffer : State → ℕ → List ℕ → List ℕ
+settingsInBuffer st which out = cond (eqb (length out) 123) (settingsBytes (settingsIn st which) (st .width) (st .key)) out
+
 -- ---- what a program holds: the bytes of a state, and the buffer of a journal
 
 pub record Slices : Type 0 where
@@ -52,18 +75,18 @@ slicesWith state journal = record { state = state; journal = journal }
 -- the answer for a state's slice of this length: 6, and then the questions of Open
 unfoldable pub openAnswer : List ℕ → Bool → ℕ → ℕ → Opened
 openAnswer settings shared room size =
-    cond (eqb size 155) (opened (settingsOf settings) (keyOf settings) shared (widthOf settings) room) (record { number = 6; state = unopened })
+    cond (eqb size 447) (opened (settingsOf settings) (keyOf settings) shared (widthOf settings) room) (record { number = 6; state = unopened })
 
 -- what the two functions return
 unfoldable pub openedNumber : List ℕ → Bool → Slices → ℕ
 openedNumber settings shared g = openAnswer settings shared (length (g .journal)) (length (g .state)) .number
 
--- what the two functions leave; nothing is written if the state's slice is not 155 bytes long
+-- what the two functions leave; nothing is written if the state's slice is not 447 bytes long
 unfoldable pub openedSlices : List ℕ → Bool → Slices → Slices
 openedSlices settings shared g =
     record {
       state = kept (g .state) (openAnswer settings shared (length (g .journal)) (length (g .state)) .state);
-      journal = cond (eqb (length (g .state)) 155) (openBuffer (settingsOf settings) shared (widthOf settings) (g .journal)) (g .journal);
+      journal = cond (eqb (length (g .state)) 447) (openBuffer (settingsOf settings) shared (widthOf settings) (g .journal)) (g .journal);
     }
 
 -- ---- issue
@@ -104,9 +127,9 @@ callWith number year month day hour minute second a b c d e kind signature =
       signature = signature;
     }
 
--- the call of the journal that it makes
-unfoldable pub callIn : IssueCall → Call
-callIn c =
+-- what it gives to Issue
+unfoldable pub orderIn : IssueCall → Order
+orderIn c =
     record {
       details =
           detailsOf (c .number) (c .year) (c .month) (c .day) (c .hour) (c .minute) (c .second) (c .standard) (c .reduced1) (c .reduced2) (c .zero) (c .special) (c .kind);
@@ -115,7 +138,7 @@ callIn c =
 
 -- what the journal answers: questions 6 to 13
 unfoldable pub issueAnswer : Slices → IssueCall → Issued
-issueAnswer g c = issued (stateOf (g .state)) (callIn c .details) (c .signature) (length (g .journal))
+issueAnswer g c = issued (stateOf (g .state)) (orderIn c .details) (c .signature) (length (g .journal))
 
 -- what ditgrux_issue returns
 unfoldable pub issuedNumber : Slices → IssueCall → ℕ
@@ -126,12 +149,27 @@ unfoldable pub issuedSlices : Slices → IssueCall → Slices
 issuedSlices g c =
     record {
       state = kept (g .state) (issueAnswer g c .state);
-      journal = issueBuffer (stateOf (g .state)) (callIn c .details) (c .signature) (g .journal);
+      journal = issueBuffer (stateOf (g .state)) (orderIn c .details) (c .signature) (g .journal);
     }
+
+-- ---- change
+
+-- what the journal answers for a serial of these bytes: questions 6, 3, 30, 31 and 13
+unfoldable pub changeAnswer : Slices → List ℕ → Changed
+changeAnswer g serial = changed (stateOf (g .state)) (nameOf serial) (length (g .journal))
+
+-- what ditgrux_change returns
+unfoldable pub changedNumber : Slices → List ℕ → ℕ
+changedNumber g serial = changeAnswer g serial .number
+
+-- what it leaves
+unfoldable pub changedSlices : Slices → List ℕ → Slices
+changedSlices g serial =
+    record { state = kept (g .state) (changeAnswer g serial .state); journal = changeBuffer (stateOf (g .state)) (nameOf serial) (g .journal) }
 
 -- ---- take over
 
--- the answer for a state's slice of this length: 6 with index 0, and then questions 4 and 14 to 21
+-- the answer for a state's slice of this length: 6 with index 0, and then questions 4 and 14 to 21, 30 and 31
 unfoldable pub takeOverAnswer : List ℕ → List ℕ → ℕ → ℕ → TakenOver
 takeOverAnswer journal key n size =
-    cond (eqb size 155) (takeOver journal (arrayOf 32 key) (widthWith key n)) (record { number = 6; index = 0; state = unopened })
+    cond (eqb size 447) (takeOver journal (arrayOf 32 key) (widthWith key n)) (record { number = 6; index = 0; state = unopened })

@@ -1,25 +1,26 @@
--- Demand 3 in bytes: what a C program holds after ditgrux_open or ditgrux_open_shared and a list of ditgrux_issue, and what ditgrux_take_over answers.
+-- Demand 3 in bytes: what a C program holds after ditgrux_open or ditgrux_open_shared and a list of ditgrux_issue and ditgrux_change, and what
+-- ditgrux_take_over answers.
 use Prim.Native.Nat.{ℕ, _<_}
 use mathlib.Core.Path.{_≡_}
 use mathlib.Core.Bool.{Bool, true, false}
-use mathlib.Core.List.{List, [], _∷_, map}
+use mathlib.Core.List.{List, [], _∷_, _++_, map}
 use lib.IntN.{pos}
 use lib.ListN.{length, take, replicate, getD}
 use Rattle.primitives.specs.Bytes.{AllBytes}
 use Rattle.primitives.specs.Counter.{fitsIn}
 use Rattle.primitives.specs.Questions.{ifZero}
-use Rattle.receipt.specs.Settings.{nameText}
+use Rattle.receipt.specs.Settings.{nameText, nameOf}
 use Rattle.receipt.specs.declared.settings.Settings.{Settings}
 use Rattle.receipt.specs.declared.details.Details.{Details}
 use Rattle.receipt.specs.declared.entry.Entry.{Entry}
 use Rattle.journal.specs.Receipts.{Receipt, receiptsIn, sum}
-use Rattle.journal.specs.Valid.{Valid}
-use Rattle.journal.specs.Calls.{Register, opening, numbersOf, receiptOfCall, callOf}
+use Rattle.journal.specs.Valid.{Pair, entriesIn, Valid, headOf}
+use Rattle.journal.specs.Calls.{Call, issue, change, Register, opening, numbersOf, receiptOfCall, Section, sectionsIn, orderOf}
 use Rattle.device.specs.Layout.{settingsOf, widthOf, keyOf, stateOf, kept}
 use Rattle.device.specs.Details.{kindNumber}
-use Rattle.device.specs.Calls.{settingsFrom, widthWith, settingsAnswer, settingsBuffer, Slices, openedNumber, openedSlices, IssueCall, callWith, callIn, issuedNumber, issuedSlices, takeOverAnswer}
+use Rattle.device.specs.Calls.{settingsFrom, widthWith, settingsAnswer, settingsBuffer, Slices, openedNumber, openedSlices, IssueCall, callWith, orderIn, issuedNumber, issuedSlices, changedNumber, changedSlices, takeOverAnswer}
 
--- ---- lists of calls of ditgrux_issue
+-- ---- lists of calls of ditgrux_issue and ditgrux_change
 
 -- what C's types say of a call: numbers of 32 bits, amounts of 64 with their signs, and bytes
 pub record TypedIssueCall (c : IssueCall) : Type 0 where
@@ -38,25 +39,61 @@ pub record TypedIssueCall (c : IssueCall) : Type 0 where
   pub kind : c .kind < 4294967296
   pub signature : AllBytes (c .signature)
 
-pub data TypedIssueCalls : List IssueCall → Type 0 where
-  none : TypedIssueCalls []
-  more : {c : IssueCall} {cs : List IssueCall} → TypedIssueCall c → TypedIssueCalls cs → TypedIssueCalls (c ∷ cs)
+-- a call of ditgrux_issue, or of ditgrux_change with the bytes of a serial
+pub data CallFromC : Type 0 where
+  issuing : IssueCall → CallFromC
+  changing : List ℕ → CallFromC
 
--- "Each Issue gets the state that the call before it returned and the buffer as that call left it"
-unfoldable pub issuedAll : Slices → List IssueCall → Slices
-issuedAll g [] = g
-issuedAll g (c ∷ cs) = issuedAll (issuedSlices g c) cs
+pub data TypedCallFromC : CallFromC → Type 0 where
+  issues : {c : IssueCall} → TypedIssueCall c → TypedCallFromC (issuing c)
+  changes : {serial : List ℕ} → AllBytes serial → length serial < 18446744073709551616 → TypedCallFromC (changing serial)
+
+pub data TypedCallsFromC : List CallFromC → Type 0 where
+  none : TypedCallsFromC []
+  more : {c : CallFromC} {cs : List CallFromC} → TypedCallFromC c → TypedCallsFromC cs → TypedCallsFromC (c ∷ cs)
+
+-- the call of the journal that it makes
+unfoldable pub callIn : CallFromC → Call
+callIn (issuing c) = issue (orderIn c)
+callIn (changing serial) = change (nameOf serial)
+
+-- what it returns
+unfoldable pub numberFromC : Slices → CallFromC → ℕ
+numberFromC g (issuing c) = issuedNumber g c
+numberFromC g (changing serial) = changedNumber g serial
+
+-- what it leaves
+unfoldable pub slicesAfter : Slices → CallFromC → Slices
+slicesAfter g (issuing c) = issuedSlices g c
+slicesAfter g (changing serial) = changedSlices g serial
+
+-- "Each Issue gets the state that the call before it returned and the buffer as that call left it", and so does each Change
+unfoldable pub slicesAfterAll : Slices → List CallFromC → Slices
+slicesAfterAll g [] = g
+slicesAfterAll g (c ∷ cs) = slicesAfterAll (slicesAfter g c) cs
 
 -- what each call returns
-unfoldable pub issuedNumbers : Slices → List IssueCall → List ℕ
-issuedNumbers g [] = []
-issuedNumbers g (c ∷ cs) = issuedNumber g c ∷ issuedNumbers (issuedSlices g c) cs
+unfoldable pub numbersFromC : Slices → List CallFromC → List ℕ
+numbersFromC g [] = []
+numbersFromC g (c ∷ cs) = numberFromC g c ∷ numbersFromC (slicesAfter g c) cs
 
--- the receipts of the calls that return 0, in order
-unfoldable pub issuedReceipts : Slices → List IssueCall → List Receipt
-issuedReceipts g [] = []
-issuedReceipts g (c ∷ cs) =
-    ifZero (issuedNumber g c) (receiptOfCall (callIn c) ∷ issuedReceipts (issuedSlices g c) cs) (issuedReceipts (issuedSlices g c) cs)
+-- the receipts of the calls of ditgrux_issue that return 0, in order
+unfoldable pub receiptsFromC : Slices → List CallFromC → List Receipt
+receiptsFromC g [] = []
+receiptsFromC g (issuing c ∷ cs) =
+    ifZero (issuedNumber g c) (receiptOfCall (orderIn c) ∷ receiptsFromC (issuedSlices g c) cs) (receiptsFromC (issuedSlices g c) cs)
+receiptsFromC g (changing serial ∷ cs) = receiptsFromC (changedSlices g serial) cs
+
+-- the sections that the calls make which return 0
+unfoldable pub sectionsFromC : Slices → Section → List CallFromC → List Section
+sectionsFromC g x [] = x ∷ []
+sectionsFromC g x (issuing c ∷ cs) =
+    ifZero (issuedNumber g c)
+    (sectionsFromC (issuedSlices g c) (record { serial = x .serial; receipts = x .receipts ++ (receiptOfCall (orderIn c) ∷ []) }) cs)
+    (sectionsFromC (issuedSlices g c) x cs)
+sectionsFromC g x (changing serial ∷ cs) =
+    ifZero (changedNumber g serial) (x ∷ sectionsFromC (changedSlices g serial) (record { serial = nameOf serial; receipts = [] }) cs)
+    (sectionsFromC (changedSlices g serial) x cs)
 
 -- the journal: as many bytes as ditgrux_journal_length says
 unfoldable pub journalIn : Slices → List ℕ
@@ -64,12 +101,12 @@ journalIn g = take (stateOf (g .state) .length) (g .journal)
 
 -- ---- what is accepted
 
--- "Accepted means that Take over returns no number, which is so exactly for a valid journal": with a key of 32 bytes and a state of 155
+-- "Accepted means that Take over returns no number, which is so exactly for a valid journal": with a key of 32 bytes and a state of 447
 abbrev pub AcceptedIsValidInC : Type 0
 AcceptedIsValidInC =
     (j key : List ℕ) (n size : ℕ) → AllBytes j
-    → (takeOverAnswer j key n size .number ≡ 0 → (size ≡ 155) × (length key ≡ 32) × Valid j key n)
-    × (size ≡ 155 → length key ≡ 32 → Valid j key n → takeOverAnswer j key n size .number ≡ 0)
+    → (takeOverAnswer j key n size .number ≡ 0 → (size ≡ 447) × (length key ≡ 32) × Valid j key n)
+    × (size ≡ 447 → length key ≡ 32 → Valid j key n → takeOverAnswer j key n size .number ≡ 0)
 
 -- ---- what is written is accepted
 
@@ -77,15 +114,18 @@ AcceptedIsValidInC =
 abbrev pub registerIn : List ℕ → Bool → List ℕ → Register
 registerIn settings shared buffer = opening (settingsOf settings) (keyOf settings) shared (widthOf settings) buffer
 
--- what holds of the slices that the calls left, and of the receipts rs of those that returned 0, since ditgrux_open or ditgrux_open_shared got these settings
-pub record WrittenInC (settings : List ℕ) (left : Slices) (rs : List Receipt) : Type 0 where
+-- what holds of the slices that the calls left, and of the receipts rs and the sections xs of those that returned 0, since ditgrux_open or
+-- ditgrux_open_shared got these settings
+pub record WrittenInC (settings : List ℕ) (left : Slices) (rs : List Receipt) (xs : List Section) : Type 0 where
   -- ditgrux_take_over accepts the journal under the key and the width of the settings, with the register's own state
-  pub taken : takeOverAnswer (journalIn left) (keyOf settings) (widthOf settings) 155 ≡ record { number = 0; index = 0; state = stateOf (left .state) }
+  pub taken : takeOverAnswer (journalIn left) (keyOf settings) (widthOf settings) 447 ≡ record { number = 0; index = 0; state = stateOf (left .state) }
   -- the bytes that it writes into any state's slice are those of the register's state
-  pub state : (out : List ℕ) → length out ≡ 155 → kept out (stateOf (left .state)) ≡ left .state
+  pub state : (out : List ℕ) → length out ≡ 447 → kept out (stateOf (left .state)) ≡ left .state
   -- the journal is valid, and its receipts are those of the calls, in order
   pub valid : Valid (journalIn left) (keyOf settings) (widthOf settings)
-  pub receipts : (v : Valid (journalIn left) (keyOf settings) (widthOf settings)) → receiptsIn (v .entries) ≡ rs
+  pub receipts : (v : Valid (journalIn left) (keyOf settings) (widthOf settings)) → receiptsIn (entriesIn (v .pairs)) ≡ rs
+  -- each under the serial that was the newest when it was issued
+  pub sections : (v : Valid (journalIn left) (keyOf settings) (widthOf settings)) → sectionsIn (v .pairs) ≡ xs
   -- the counter that ditgrux_counter returns is the sum of their amounts
   pub counter : stateOf (left .state) .counter ≡ sum rs
 
@@ -93,9 +133,10 @@ pub record WrittenInC (settings : List ℕ) (left : Slices) (rs : List Receipt) 
 abbrev pub WrittenIsAcceptedInC : Type 0
 WrittenIsAcceptedInC =
     (settings : List ℕ) (shared : Bool) (g : Slices) → AllBytes settings → length (g .journal) < 18446744073709551616 → openedNumber settings shared g ≡ 0
-    → (cs : List IssueCall) → TypedIssueCalls cs
-    → WrittenInC settings (issuedAll (openedSlices settings shared g) cs) (issuedReceipts (openedSlices settings shared g) cs)
-    × (issuedNumbers (openedSlices settings shared g) cs ≡ numbersOf (registerIn settings shared (g .journal)) (map callIn cs))
+    → (cs : List CallFromC) → TypedCallsFromC cs
+    → WrittenInC settings (slicesAfterAll (openedSlices settings shared g) cs) (receiptsFromC (openedSlices settings shared g) cs)
+    (sectionsFromC (openedSlices settings shared g) (record { serial = settingsOf settings .serial; receipts = [] }) cs)
+    × (numbersFromC (openedSlices settings shared g) cs ≡ numbersOf (registerIn settings shared (g .journal)) (map callIn cs))
 
 -- ---- what is accepted is written
 
@@ -110,30 +151,39 @@ callWithDetails d signature =
     (getD (d .amounts) 1 (pos 0)) (getD (d .amounts) 2 (pos 0)) (getD (d .amounts) 3 (pos 0)) (getD (d .amounts) 4 (pos 0)) (kindNumber (d .kind)) signature
 
 -- the call that issues the receipt of an entry: with its 64 signature bytes, or with none where the device had failed
-unfoldable pub issueCallOf : Entry → IssueCall
-issueCallOf e = callWithDetails (e .fields .details) (callOf e .signature)
+unfoldable pub issueCallOf : Entry → CallFromC
+issueCallOf e = issuing (callWithDetails (e .fields .details) (orderOf e .signature))
 
--- what holds where the entries es of the journal j are issued again, from the slices g that ditgrux_open left
-pub record AgainInC (j key : List ℕ) (n : ℕ) (es : List Entry) (g : Slices) : Type 0 where
-  -- one call for each entry, such as C's types allow: each returns 0
-  pub typed : TypedIssueCalls (map issueCallOf es)
-  pub none : issuedNumbers g (map issueCallOf es) ≡ replicate (length es) 0
+-- a ditgrux_change to its serial at the start of each later pair, and a ditgrux_issue for each entry
+unfoldable pub laterFromC : List Pair → List CallFromC
+laterFromC [] = []
+laterFromC (p ∷ ps) = changing (nameText (p .serial)) ∷ (map issueCallOf (p .entries) ++ laterFromC ps)
+
+unfoldable pub callsFromC : List Pair → List CallFromC
+callsFromC [] = []
+callsFromC (p ∷ ps) = map issueCallOf (p .entries) ++ laterFromC ps
+
+-- what holds where the pairs ps of the journal j are written again, from the slices g that ditgrux_open left
+pub record AgainInC (j key : List ℕ) (n : ℕ) (ps : List Pair) (g : Slices) : Type 0 where
+  -- calls such as C's types allow: each returns 0
+  pub typed : TypedCallsFromC (callsFromC ps)
+  pub none : numbersFromC g (callsFromC ps) ≡ replicate (length (callsFromC ps)) 0
   -- the buffer is the journal, byte by byte
-  pub journal : issuedAll g (map issueCallOf es) .journal ≡ j
+  pub journal : slicesAfterAll g (callsFromC ps) .journal ≡ j
   -- the state's bytes are those that ditgrux_take_over writes into any state's slice
-  pub state : (out : List ℕ) → length out ≡ 155 → issuedAll g (map issueCallOf es) .state ≡ kept out (takeOverAnswer j key n 155 .state)
+  pub state : (out : List ℕ) → length out ≡ 447 → slicesAfterAll g (callsFromC ps) .state ≡ kept out (takeOverAnswer j key n 447 .state)
   -- the counter that ditgrux_counter returns is the sum of the amounts
-  pub counter : stateOf (issuedAll g (map issueCallOf es) .state) .counter ≡ sum (receiptsIn es)
+  pub counter : stateOf (slicesAfterAll g (callsFromC ps) .state) .counter ≡ sum (receiptsIn (entriesIn ps))
 
 -- for every accepted journal: ditgrux_settings returns 0 with the CSP, ID and serial of its head and the key and width under which it was accepted,
--- ditgrux_open returns 0 with what it writes "and any buffer of its length", and then the entries are issued again
+-- ditgrux_open returns 0 with what it writes "and any buffer of its length", and then the pairs are written again
 abbrev pub AcceptedIsWrittenInC : Type 0
 AcceptedIsWrittenInC =
     (j key : List ℕ) (n : ℕ) → length j < 18446744073709551616 → AllBytes key → length key ≡ 32 → (v : Valid j key n)
-    → (out : List ℕ) → length out ≡ 123 → (g : Slices) → length (g .journal) ≡ length j → length (g .state) ≡ 155
-    → (settingsAnswer (settingsAgain (v .settings)) (widthWith key n) (length out) ≡ 0)
-    × (openedNumber (settingsBuffer (settingsAgain (v .settings)) key n out) false g ≡ 0)
-    × AgainInC j key n (v .entries) (openedSlices (settingsBuffer (settingsAgain (v .settings)) key n out) false g)
+    → (out : List ℕ) → length out ≡ 123 → (g : Slices) → length (g .journal) ≡ length j → length (g .state) ≡ 447
+    → (settingsAnswer (settingsAgain (headOf (v .owner) (v .pairs))) (widthWith key n) (length out) ≡ 0)
+    × (openedNumber (settingsBuffer (settingsAgain (headOf (v .owner) (v .pairs))) key n out) false g ≡ 0)
+    × AgainInC j key n (v .pairs) (openedSlices (settingsBuffer (settingsAgain (headOf (v .owner) (v .pairs))) key n out) false g)
 
 -- demand 3 of the C library as one theorem
 pub record WritingAndCheckingAgreeInC : Type 0 where

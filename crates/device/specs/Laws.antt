@@ -8,6 +8,7 @@ use lib.ListN.{length, replicate, getD}
 use Rattle.primitives.specs.Bytes.{AllBytes}
 use Rattle.primitives.specs.Counter.{fitsIn}
 use Rattle.receipt.specs.Chain.{hashInput}
+use Rattle.receipt.specs.declared.settings.Name.{Name}
 use Rattle.receipt.specs.declared.settings.Settings.{Settings}
 use Rattle.receipt.specs.declared.details.Details.{Details}
 use Rattle.journal.specs.State.{unopened, TypedRegister, TypedState}
@@ -16,10 +17,11 @@ use Rattle.journal.specs.SharedKey.{SharedDigit}
 use Rattle.journal.specs.Preparing.{prepareNumber}
 use Rattle.journal.specs.Step.{detailsNumber}
 use Rattle.journal.specs.Issuing.{issueNumber}
+use Rattle.journal.specs.Changing.{changeNumber}
 use Rattle.journal.specs.declared.state.State.{State}
-use Rattle.device.specs.Layout.{settingsBytes, stateBytes, settingsOf, widthOf, keyOf, stateOf, kept}
+use Rattle.device.specs.Layout.{settingsBytes, stateBytes, noSettings, settingsOf, widthOf, keyOf, stateOf, kept}
 use Rattle.device.specs.Details.{noDetails, detailsBytes, detailsIn}
-use Rattle.device.specs.Calls.{settingsFrom, widthWith, settingsAnswer, settingsBuffer, Slices, openedNumber, openedSlices, IssueCall, issuedNumber, issuedSlices}
+use Rattle.device.specs.Calls.{settingsFrom, widthWith, settingsAnswer, settingsBuffer, Slices, openedNumber, openedSlices, IssueCall, issuedNumber, issuedSlices, changedNumber, changedSlices, takeOverAnswer, settingsIn, settingsInBuffer}
 
 -- ---- reading and writing undo each other
 
@@ -43,19 +45,20 @@ abbrev pub StateIsRead : Type 0
 StateIsRead = (st : State) → TypedState st → stateOf (stateBytes st) ≡ st
 
 abbrev pub BytesAreKept : Type 0
-BytesAreKept = (b : List ℕ) → AllBytes b → length b ≡ 155 → stateBytes (stateOf b) ≡ b
+BytesAreKept = (b : List ℕ) → AllBytes b → length b ≡ 447 → stateBytes (stateOf b) ≡ b
 
 -- ---- what is all zero
 
 abbrev pub UnopenedIsZero : Type 0
-UnopenedIsZero = stateBytes unopened ≡ replicate 155 0
+UnopenedIsZero = stateBytes unopened ≡ replicate 447 0
 
 -- settings of another length get 1, a state of another length gets 6, and an unknown kind gets 7
 abbrev pub NoSettingsGetOne : Type 0
-NoSettingsGetOne = (shared : Bool) (n room : ℕ) → openNumber (unopened .settings) shared n room ≡ 1
+NoSettingsGetOne = (shared : Bool) (n room : ℕ) → openNumber noSettings shared n room ≡ 1
 
 abbrev pub UnopenedGetsSix : Type 0
-UnopenedGetsSix = (d : Details) (sig : List ℕ) (room : ℕ) → (issueNumber unopened d sig room ≡ 6) × (prepareNumber unopened d room ≡ 6)
+UnopenedGetsSix =
+    (d : Details) (sig : List ℕ) (serial : Name) (room : ℕ) → (issueNumber unopened d sig room ≡ 6) × (prepareNumber unopened d room ≡ 6) × (changeNumber unopened serial room ≡ 6)
 
 abbrev pub UnknownKindGetsSeven : Type 0
 UnknownKindGetsSeven = (st : State) (rest : ℕ) → detailsNumber st noDetails rest ≡ 7
@@ -69,12 +72,12 @@ SharedKeyNeverRepeatsInC =
     → (a b : ℕ) → a < 4294967296 → b < 4294967296 → hashInput (settingsOf settings .id) a ≡ hashInput (settingsOf others .id) b
     → (settingsOf settings .id ≡ settingsOf others .id) × (a ≡ b)
 
--- 32 is returned exactly by ditgrux_open_shared, for a good CSP and a good ID that ends in a digit, with a state's slice of 155 bytes
+-- 32 is returned exactly by ditgrux_open_shared, for a good CSP and a good ID that ends in a digit, with a state's slice of 447 bytes
 abbrev pub SharedDigitGets32InC : Type 0
 SharedDigitGets32InC =
     (settings : List ℕ) (shared : Bool) (g : Slices)
-    → (openedNumber settings shared g ≡ 32 → (length (g .state) ≡ 155) × SharedDigit (settingsOf settings) shared)
-    × (length (g .state) ≡ 155 → SharedDigit (settingsOf settings) shared → openedNumber settings shared g ≡ 32)
+    → (openedNumber settings shared g ≡ 32 → (length (g .state) ≡ 447) × SharedDigit (settingsOf settings) shared)
+    × (length (g .state) ≡ 447 → SharedDigit (settingsOf settings) shared → openedNumber settings shared g ≡ 32)
 
 -- unless it returns 32, ditgrux_open_shared returns what ditgrux_open returns and leaves the same bytes
 abbrev pub SharedIsNotStoredInC : Type 0
@@ -82,16 +85,38 @@ SharedIsNotStoredInC =
     (settings : List ℕ) (g : Slices) → (openedNumber settings true g ≡ 32 → ⊥)
     → (openedNumber settings true g ≡ openedNumber settings false g) × (openedSlices settings true g ≡ openedSlices settings false g)
 
--- refused, either leaves the journal as it was and the unopened state; if the state's slice is not 155 bytes long, it is as it was
+-- refused, either leaves the journal as it was and the unopened state; if the state's slice is not 447 bytes long, it is as it was
 abbrev pub RefusedOpenKeepsJournal : Type 0
 RefusedOpenKeepsJournal =
     (settings : List ℕ) (shared : Bool) (g : Slices) → (openedNumber settings shared g ≡ 0 → ⊥)
     → (openedSlices settings shared g .journal ≡ g .journal) × (openedSlices settings shared g .state ≡ kept (g .state) unopened)
 
--- ---- a refused ditgrux_issue leaves the bytes of the state and the journal as they were, also where the state is not 155 bytes long
+-- ---- a refused ditgrux_issue leaves the bytes of the state and the journal as they were, also where the state is not 447 bytes long
 
 abbrev pub RefusedIssueKeepsSlices : Type 0
 RefusedIssueKeepsSlices = (g : Slices) → AllBytes (g .state) → (c : IssueCall) → (issuedNumber g c ≡ 0 → ⊥) → issuedSlices g c ≡ g
+
+-- nor does a refused ditgrux_change
+abbrev pub RefusedChangeKeepsSlices : Type 0
+RefusedChangeKeepsSlices =
+    (g : Slices) → AllBytes (g .state) → (serial : List ℕ) → (changedNumber g serial ≡ 0 → ⊥) → changedSlices g serial ≡ g
+
+-- ---- states of version 1
+
+-- they were 155 bytes long: each call that takes a state gets 6 with them, and leaves their bytes
+pub record OldStatesGetSix : Type 0 where
+  pub opens : (settings : List ℕ) (shared : Bool) (g : Slices) → length (g .state) ≡ 155 → (openedNumber settings shared g ≡ 6) × (openedSlices settings shared g ≡ g)
+  pub issues : (g : Slices) (c : IssueCall) → length (g .state) ≡ 155 → (issuedNumber g c ≡ 6) × (issuedSlices g c ≡ g)
+  pub changes : (g : Slices) (serial : List ℕ) → length (g .state) ≡ 155 → (changedNumber g serial ≡ 6) × (changedSlices g serial ≡ g)
+  pub takes : (j key : List ℕ) (n : ℕ) → takeOverAnswer j key n 155 .number ≡ 6
+
+-- ---- the serials of a state
+
+-- what ditgrux_settings_in writes is read as CSP, ID, this serial, width and key of the state
+abbrev pub SettingsOfSerial : Type 0
+SettingsOfSerial =
+    (st : State) (which : ℕ) (out : List ℕ) → TypedState st → length out ≡ 123
+    → (settingsOf (settingsInBuffer st which out) ≡ settingsIn st which) × (widthOf (settingsInBuffer st which out) ≡ st .width) × (keyOf (settingsInBuffer st which out) ≡ st .key)
 
 -- ---- the details of a receipt as 72 bytes
 

@@ -1,20 +1,20 @@
 -- Settings and the state of a register as bytes. Numbers are big-endian, the counter is in two's complement.
--- Any 155 bytes decode to a state, and each state has exactly one encoding. The settings are its first 123 bytes.
-use Prim.Native.Nat.{ℕ, _+_}
+-- Any 447 bytes decode to a state, and each state has exactly one encoding.
+use Prim.Native.Nat.{ℕ, zero, suc, _+_}
 use mathlib.Core.Bool.{cond}
-use mathlib.Core.List.{List, _++_}
+use mathlib.Core.List.{List, [], _∷_, _++_}
 use lib.Dec.{eqb}
 use lib.ListN.{length, take, drop, replicate}
 use Rattle.primitives.specs.Number.{bytesOf, countAt}
 use Rattle.primitives.specs.Counter.{counterBytes, counterValue}
 use Rattle.receipt.specs.declared.settings.Name.{Name}
 use Rattle.receipt.specs.declared.settings.Settings.{Settings}
-use Rattle.journal.specs.State.{unopened}
+use Rattle.journal.specs.State.{noName, unopened}
 use Rattle.journal.specs.declared.state.State.{State}
 
 -- the version of these layouts and of the details as bytes: it rises when one of them changes
 abbrev pub version : ℕ
-version = 1
+version = 2
 
 -- ---- writing
 
@@ -27,12 +27,24 @@ unfoldable pub settingsBytes : Settings → ℕ → List ℕ → List ℕ
 settingsBytes s n key =
     s .csp ++ s .id .bytes ++ bytesOf 8 (s .id .len) ++ s .serial .bytes ++ bytesOf 8 (s .serial .len) ++ bytesOf 8 n ++ key
 
--- counter, last number, receipts issued, chain value and length of the journal: 8, 4, 4, 8 and 8 bytes
+-- names, one after the other
+unfoldable pub namesBytes : List Name → List ℕ
+namesBytes [] = []
+namesBytes (n ∷ ns) = nameBytes n ++ namesBytes ns
+
+-- CSP, ID, eight serials, width and key: 3, 40, 320, 8 and 32 bytes
+unfoldable pub registerBytes : State → List ℕ
+registerBytes st = st .csp ++ nameBytes (st .id) ++ namesBytes (st .serials) ++ bytesOf 8 (st .width) ++ st .key
+
+-- counter, last number, receipts issued, chain value and length of the journal: 8, 4, 4, 8 and 8 bytes;
+-- then the receipts in the open section, and the place of its count: 4 and 8
 unfoldable pub figuresBytes : State → List ℕ
-figuresBytes st = counterBytes 8 (st .counter) ++ bytesOf 4 (st .last) ++ bytesOf 4 (st .issued) ++ st .chain ++ bytesOf 8 (st .length)
+figuresBytes st =
+    counterBytes 8 (st .counter) ++ bytesOf 4 (st .last) ++ bytesOf 4 (st .issued) ++ st .chain ++ bytesOf 8 (st .length) ++ bytesOf 4 (st .section)
+    ++ bytesOf 8 (st .place)
 
 unfoldable pub stateBytes : State → List ℕ
-stateBytes st = settingsBytes (st .settings) (st .width) (st .key) ++ figuresBytes st
+stateBytes st = registerBytes st ++ figuresBytes st
 
 -- ---- reading, where no byte is missing
 
@@ -49,17 +61,26 @@ widthAt b = countAt b 83 8
 unfoldable pub keyAt : List ℕ → List ℕ
 keyAt b = take 32 (drop 91 b)
 
+-- so many names from a place on
+unfoldable pub namesAt : List ℕ → ℕ → ℕ → List Name
+namesAt b at zero = []
+namesAt b at (suc k) = nameAt b at ∷ namesAt b (at + 40) k
+
 unfoldable pub stateAt : List ℕ → State
 stateAt b =
     record {
-      settings = settingsAt b;
-      width = widthAt b;
-      key = keyAt b;
-      counter = counterValue 8 (take 8 (drop 123 b));
-      last = countAt b 131 4;
-      issued = countAt b 135 4;
-      chain = take 8 (drop 139 b);
-      length = countAt b 147 8;
+      csp = take 3 (drop 0 b);
+      id = nameAt b 3;
+      serials = namesAt b 43 8;
+      width = countAt b 363 8;
+      key = take 32 (drop 371 b);
+      counter = counterValue 8 (take 8 (drop 403 b));
+      last = countAt b 411 4;
+      issued = countAt b 415 4;
+      chain = take 8 (drop 419 b);
+      length = countAt b 427 8;
+      section = countAt b 435 4;
+      place = countAt b 439 8;
     }
 
 -- ---- slices of any length
@@ -68,9 +89,13 @@ stateAt b =
 unfoldable pub arrayOf : ℕ → List ℕ → List ℕ
 arrayOf n b = cond (eqb (length b) n) b (replicate n 0)
 
--- settings, width and key in a slice: all zero, as in the unopened state, if it is not 123 bytes long
+-- settings that are all zero
+abbrev pub noSettings : Settings
+noSettings = record { csp = replicate 3 0; id = noName; serial = noName }
+
+-- settings, width and key in a slice: all zero if it is not 123 bytes long
 unfoldable pub settingsOf : List ℕ → Settings
-settingsOf b = cond (eqb (length b) 123) (settingsAt b) (unopened .settings)
+settingsOf b = cond (eqb (length b) 123) (settingsAt b) noSettings
 
 unfoldable pub widthOf : List ℕ → ℕ
 widthOf b = cond (eqb (length b) 123) (widthAt b) 0
@@ -78,10 +103,10 @@ widthOf b = cond (eqb (length b) 123) (widthAt b) 0
 unfoldable pub keyOf : List ℕ → List ℕ
 keyOf b = cond (eqb (length b) 123) (keyAt b) (replicate 32 0)
 
--- the state in a slice: the unopened state if it is not 155 bytes long
+-- the state in a slice: the unopened state if it is not 447 bytes long
 unfoldable pub stateOf : List ℕ → State
-stateOf b = cond (eqb (length b) 155) (stateAt b) unopened
+stateOf b = cond (eqb (length b) 447) (stateAt b) unopened
 
--- what a state's slice holds after a call: the state; what it held before if it is not 155 bytes long
+-- what a state's slice holds after a call: the state; what it held before if it is not 447 bytes long
 unfoldable pub kept : List ℕ → State → List ℕ
-kept b st = cond (eqb (length b) 155) (stateBytes st) b
+kept b st = cond (eqb (length b) 447) (stateBytes st) b

@@ -10,7 +10,7 @@ use Rattle.receipt.specs.Settings.{settingsNumber}
 use Rattle.receipt.specs.Compact.{readEntry}
 use Rattle.receipt.specs.declared.settings.Settings.{Settings}
 use Rattle.receipt.specs.declared.entry.Found.{Found}
-use Rattle.journal.specs.Calls.{Call, callOf}
+use Rattle.journal.specs.Calls.{Order, orderOf}
 use Rattle.device.specs.Layout.{settingsOf, widthOf}
 use Rattle.device.specs.Details.{detailsBytes}
 
@@ -30,7 +30,7 @@ pub record ReadBack : Type 0 where
   pub length : ℕ
 
 -- the answer with this number, for the receipt of this call: unless refused, its details, and at the start of the output its signature, if it had one
-unfoldable pub answered : ℕ → Call → List ℕ → List ℕ → ReadBack
+unfoldable pub answered : ℕ → Order → List ℕ → List ℕ → ReadBack
 answered number c details signature =
     record {
       number = number;
@@ -43,4 +43,4 @@ answered number c details signature =
 unfoldable pub readBack : List ℕ → List ℕ → List ℕ → List ℕ → ReadBack
 readBack settings form details signature =
     answered (readNumber (settingsOf settings) (widthOf settings) (foundIn settings form .ok) (length details) (length signature))
-    (callOf (foundIn settings form .entry)) details signature
+    (orderOf (foundIn settings form .entry)) details signature

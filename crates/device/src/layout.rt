@@ -10,20 +10,20 @@ ghost use lib.ListN.{length, take, drop};
 ghost use Rattle.primitives.specs.Place.{overwrite};
 ghost use Rattle.primitives.specs.Number.{bytesOf, countAt};
 ghost use Rattle.primitives.specs.Counter.{counterBytes, counterValue};
-ghost use Rattle.device.specs.Layout.{version, nameBytes, settingsBytes, stateBytes, nameAt, settingsAt, widthAt, keyAt, stateAt, settingsOf, widthOf, keyOf, stateOf, kept};
+ghost use Rattle.device.specs.Layout.{version, nameBytes, settingsBytes, namesBytes, registerBytes, stateBytes, nameAt, settingsAt, widthAt, keyAt, namesAt, stateAt, settingsOf, widthOf, keyOf, stateOf, kept};
 
 // The version of the layouts.
 #[no_mangle]
 pub extern "C" fn ditgrux_version() -> u32
     ensures { λ r. ⌜ r ≡ version ⌝ }
 {
-    1
+    2
 }
 
-// Settings are 123 bytes long, a state is 155 bytes long.
+// Settings are 123 bytes long, a state is 447 bytes long.
 pub(crate) const SETTINGS: usize = 123;
 
-pub(crate) const STATE: usize = 155;
+pub(crate) const STATE: usize = 447;
 
 // ---- reading
 
@@ -121,20 +121,42 @@ fn key_at(b: &[u8]) -> [u8; 32]
     array32_at(b, 91)
 }
 
+// The eight serials of a state.
+fn serials_at(b: &[u8]) -> [Name; 8]
+    requires { ⌜ 447 ≤ length (now b) ⌝ }
+    ensures { λ r. ⌜ r ≡ namesAt (now (b .entry)) 43 8 ⌝ }
+{
+    let s0 = name_at(b, 43);
+    let s1 = name_at(b, 83);
+    let s2 = name_at(b, 123);
+    let s3 = name_at(b, 163);
+    let s4 = name_at(b, 203);
+    let s5 = name_at(b, 243);
+    let s6 = name_at(b, 283);
+    let s7 = name_at(b, 323);
+    [s0, s1, s2, s3, s4, s5, s6, s7]
+}
+
 fn state_at(b: &[u8]) -> State
-    requires { ⌜ 155 ≤ length (now b) ⌝ }
+    requires { ⌜ 447 ≤ length (now b) ⌝ }
     ensures { λ r. ⌜ r ≡ stateAt (now (b .entry)) ⌝ }
 {
-    let settings = settings_at(b);
-    let width = width_at(b);
-    let key = key_at(b);
-    let counter = counter_at(b, 123);
-    let last = word_at(b, 131);
-    let issued = word_at(b, 135);
-    let chain = array8_at(b, 139);
-    let length = long_at(b, 147);
+    let csp = array3_at(b, 0);
+    let id = name_at(b, 3);
+    let serials = serials_at(b);
+    let width = long_at(b, 363);
+    let key = array32_at(b, 371);
+    let counter = counter_at(b, 403);
+    let last = word_at(b, 411);
+    let issued = word_at(b, 415);
+    let chain = array8_at(b, 419);
+    let length = long_at(b, 427);
+    let section = word_at(b, 435);
+    let place = long_at(b, 439);
     State {
-        settings,
+        csp,
+        id,
+        serials,
         width,
         key,
         counter,
@@ -142,18 +164,27 @@ fn state_at(b: &[u8]) -> State
         issued,
         chain,
         length,
+        section,
+        place,
     }
 }
 
 // ---- slices of any length
 
-// The settings in 123 bytes; those of the unopened state if the slice has another length.
+// The settings in 123 bytes; all zero if the slice has another length.
 pub(crate) fn settings_of(b: &[u8]) -> Settings
     ensures { λ r. ⌜ r ≡ settingsOf (now (b .entry)) ⌝ }
 {
     if b.len() != SETTINGS {
-        let none = journal::unopened();
-        return none.settings;
+        let none = Name {
+            bytes: [0u8; 32],
+            len: 0,
+        };
+        return Settings {
+            csp: [0u8; 3],
+            id: none,
+            serial: none,
+        };
     }
     settings_at(b)
 }
@@ -178,7 +209,7 @@ pub(crate) fn key_of(b: &[u8]) -> [u8; 32]
     key_at(b)
 }
 
-// The state in 155 bytes; the unopened state if the slice has another length.
+// The state in 447 bytes; the unopened state if the slice has another length.
 pub(crate) fn state_of(b: &[u8]) -> State
     ensures { λ r. ⌜ r ≡ stateOf (now (b .entry)) ⌝ }
 {
@@ -231,41 +262,71 @@ pub(crate) fn put_settings(s: Settings, n: usize, key: [u8; 32], out: &mut [u8])
     put_key(n, key, out);
 }
 
-// Writes counter, last number and receipts issued after the settings.
+// Writes the eight serials of a state.
+fn put_serials(slots: [Name; 8], out: &mut [u8])
+    requires { ⌜ 363 ≤ length (now out) ⌝ }
+    ensures { λ _. ⌜ now (out .exit) ≡ overwrite (now (out .entry)) 43 (namesBytes slots) ⌝ }
+{
+    let mut i: usize = 0;
+    while i < 8 {
+        let serial = slots[i];
+        put_name(serial, out, 43 + 40 * i);
+        i += 1;
+    }
+}
+
+// Writes CSP, ID, serials, width and key of a state to the start.
+fn put_register(st: State, out: &mut [u8])
+    requires { ⌜ 403 ≤ length (now out) ⌝ }
+    ensures { λ _. ⌜ now (out .exit) ≡ overwrite (now (out .entry)) 0 (registerBytes st) ⌝ }
+{
+    let csp = st.csp;
+    let id = st.id;
+    let serials = st.serials;
+    let key = st.key;
+    let _ = receipt::put(out, 0, &csp);
+    put_name(id, out, 3);
+    put_serials(serials, out);
+    let _ = receipt::put_number(out, 363, 8, st.width as u64);
+    let _ = receipt::put(out, 371, &key);
+}
+
+// Writes counter, last number and receipts issued after them.
 fn put_counts(st: State, out: &mut [u8])
-    requires { ⌜ 155 ≤ length (now out) ⌝ }
+    requires { ⌜ 447 ≤ length (now out) ⌝ }
     ensures { λ _.
-        ⌜ now (out .exit) ≡ overwrite (now (out .entry)) 123 (counterBytes 8 (st .counter) ++ bytesOf 4 (st .last) ++ bytesOf 4 (st .issued)) ⌝ }
+        ⌜ now (out .exit) ≡ overwrite (now (out .entry)) 403 (counterBytes 8 (st .counter) ++ bytesOf 4 (st .last) ++ bytesOf 4 (st .issued)) ⌝ }
 {
     let counter = primitives::counter_bytes(8, st.counter);
-    let _ = receipt::put(out, 123, &counter);
-    let _ = receipt::put_number(out, 131, 4, st.last as u64);
-    let _ = receipt::put_number(out, 135, 4, st.issued as u64);
+    let _ = receipt::put(out, 403, &counter);
+    let _ = receipt::put_number(out, 411, 4, st.last as u64);
+    let _ = receipt::put_number(out, 415, 4, st.issued as u64);
 }
 
-// Writes the chain value and the length of the journal after them.
+// Writes the chain value, the length of the journal, the receipts in the open section and the place of its count after them.
 fn put_chain(st: State, out: &mut [u8])
-    requires { ⌜ 155 ≤ length (now out) ⌝ }
-    ensures { λ _. ⌜ now (out .exit) ≡ overwrite (now (out .entry)) 139 (st .chain ++ bytesOf 8 (st .length)) ⌝ }
+    requires { ⌜ 447 ≤ length (now out) ⌝ }
+    ensures { λ _.
+        ⌜ now (out .exit) ≡ overwrite (now (out .entry)) 419 (st .chain ++ bytesOf 8 (st .length) ++ bytesOf 4 (st .section) ++ bytesOf 8 (st .place)) ⌝ }
 {
     let chain = st.chain;
-    let _ = receipt::put(out, 139, &chain);
-    let _ = receipt::put_number(out, 147, 8, st.length as u64);
+    let _ = receipt::put(out, 419, &chain);
+    let _ = receipt::put_number(out, 427, 8, st.length as u64);
+    let _ = receipt::put_number(out, 435, 4, st.section as u64);
+    let _ = receipt::put_number(out, 439, 8, st.place as u64);
 }
 
-// Writes a state as 155 bytes.
+// Writes a state as 447 bytes.
 fn put_state(st: State, out: &mut [u8])
-    requires { ⌜ length (now out) ≡ 155 ⌝ }
+    requires { ⌜ length (now out) ≡ 447 ⌝ }
     ensures { λ _. ⌜ now (out .exit) ≡ stateBytes st ⌝ }
 {
-    let settings = st.settings;
-    let key = st.key;
-    put_settings(settings, st.width, key, out);
+    put_register(st, out);
     put_counts(st, out);
     put_chain(st, out);
 }
 
-// Writes a state to its slice; nothing if the slice is not 155 bytes long.
+// Writes a state to its slice; nothing if the slice is not 447 bytes long.
 pub(crate) fn keep(st: State, out: &mut [u8])
     ensures { λ _. ⌜ now (out .exit) ≡ kept (now (out .entry)) st ⌝ }
 {

@@ -1,4 +1,4 @@
-// The receipt journal of a cash register for callers in other languages: a state is 155 bytes that the caller keeps.
+// The receipt journal of a cash register for callers in other languages: a state is 447 bytes that the caller keeps.
 mod details;
 mod layout;
 mod read_back;
@@ -7,6 +7,7 @@ mod text;
 
 pub use layout::ditgrux_version;
 pub use read_back::ditgrux_read;
+pub use register::ditgrux_change;
 pub use register::ditgrux_counter;
 pub use register::ditgrux_issue;
 pub use register::ditgrux_journal_length;
@@ -15,7 +16,10 @@ pub use register::ditgrux_open;
 pub use register::ditgrux_open_shared;
 pub use register::ditgrux_prepare;
 pub use register::ditgrux_receipts;
+pub use register::ditgrux_serial;
+pub use register::ditgrux_serials;
 pub use register::ditgrux_settings;
+pub use register::ditgrux_settings_in;
 pub use register::ditgrux_take_over;
 pub use text::ditgrux_base32;
 pub use text::ditgrux_base64;

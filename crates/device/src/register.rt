@@ -10,14 +10,21 @@ use super::layout::put_settings;
 use super::layout::settings_of;
 use super::layout::state_of;
 use super::layout::width_of;
+use journal::State;
+use receipt::Name;
 use receipt::Settings;
 ghost use mathlib.Core.Path.{_≡_};
 ghost use mathlib.Core.Bool.{true, false};
+ghost use lib.Dec.{eqb};
 ghost use lib.ListN.{length};
+ghost use Rattle.primitives.specs.Place.{placed};
+ghost use Rattle.primitives.specs.Questions.{ask};
+ghost use Rattle.receipt.specs.Settings.{nameText};
+ghost use Rattle.journal.specs.State.{used};
 ghost use Rattle.journal.specs.Preparing.{prepareAnswer, prepareBuffer};
 ghost use Rattle.device.specs.Layout.{arrayOf, stateOf, kept};
 ghost use Rattle.device.specs.Details.{detailsOf};
-ghost use Rattle.device.specs.Calls.{settingsFrom, widthWith, settingsAnswer, settingsBuffer, slicesWith, openedNumber, openedSlices, callWith, issuedNumber, issuedSlices, takeOverAnswer};
+ghost use Rattle.device.specs.Calls.{settingsFrom, widthWith, settingsAnswer, settingsBuffer, serialIn, serialAnswer, settingsInBuffer, slicesWith, openedNumber, openedSlices, callWith, issuedNumber, issuedSlices, changedNumber, changedSlices, takeOverAnswer};
 
 // ---- settings
 
@@ -143,9 +150,74 @@ pub extern "C" fn ditgrux_journal_length(state: &[u8]) -> usize
     st.length
 }
 
+// How many serials the register has had.
+#[no_mangle]
+pub extern "C" fn ditgrux_serials(state: &[u8]) -> u32
+    ensures { λ r. ⌜ r ≡ length (used (stateOf (now (state .entry)) .serials)) ⌝ }
+{
+    let st = state_of(state);
+    let slots = st.serials;
+    journal::used_count(slots) as u32
+}
+
+// One of the register's serials, from 0; the empty name if there is no such serial.
+fn serial_in(st: State, which: u32) -> Name
+    ensures { λ r. ⌜ r ≡ serialIn st which ⌝ }
+{
+    let slots = st.serials;
+    if journal::used_count(slots) <= which as usize {
+        return Name {
+            bytes: [0u8; 32],
+            len: 0,
+        };
+    }
+    slots[which as usize]
+}
+
+// Writes one of the register's serials, as text.
+#[no_mangle]
+pub extern "C" fn ditgrux_serial(state: &[u8], which: u32, output: &mut [u8], length: &mut usize) -> u32
+    ensures { λ r.
+        let text : _ = nameText (serialIn (stateOf (now (state .entry))) which) in
+        let a : _ = serialAnswer text (lib.ListN.length (now (output .entry))) in
+        ⌜ (r ≡ a .number) × (now (output .exit) ≡ placed (now (output .entry)) 0 text) × (now (length .exit) ≡ a .length) ⌝ }
+{
+    let st = state_of(state);
+    let serial = serial_in(st, which);
+    let bytes = serial.bytes;
+    let n = if serial.len <= 32 { serial.len } else { 32 };
+    if output.len() < n {
+        *length = 0;
+        return 23;
+    }
+    let _ = receipt::put(output, 0, &bytes[0..n]);
+    *length = n;
+    0
+}
+
+// Writes the settings with one of the register's serials.
+#[no_mangle]
+pub extern "C" fn ditgrux_settings_in(state: &[u8], which: u32, settings: &mut [u8]) -> u32
+    ensures { λ r.
+        let st : _ = stateOf (now (state .entry)) in
+        ⌜ (r ≡ ask (eqb (length (now (settings .entry))) 123) 23 0) × (now (settings .exit) ≡ settingsInBuffer st which (now (settings .entry))) ⌝ }
+{
+    if settings.len() != SETTINGS {
+        return 23;
+    }
+    let st = state_of(state);
+    let csp = st.csp;
+    let id = st.id;
+    let key = st.key;
+    let serial = serial_in(st, which);
+    let s = Settings { csp, id, serial };
+    put_settings(s, st.width, key, settings);
+    0
+}
+
 // ---- open
 
-// Writes the head of a journal and the state that goes with it. 6 if the state is not 155 bytes long, then Open's questions.
+// Writes the head of a journal and the state that goes with it. 6 if the state is not 447 bytes long, then Open's questions.
 fn open_with(settings: &[u8], shared: bool, journal: &mut [u8], state: &mut [u8]) -> u32
     ensures { λ r.
         let g : _ = slicesWith (now (state .entry)) (now (journal .entry)) in
@@ -288,9 +360,28 @@ pub extern "C" fn ditgrux_issue(
     answer.number
 }
 
+// ---- change
+
+// Appends a new serial and an empty section of receipts to the journal and writes the new state. Questions 6, 3, 30, 31 and 13.
+#[no_mangle]
+pub extern "C" fn ditgrux_change(state: &mut [u8], serial: &[u8], journal: &mut [u8]) -> u32
+    ensures { λ r.
+        let g : _ = slicesWith (now (state .entry)) (now (journal .entry)) in
+        ⌜ (r ≡ changedNumber g (now (serial .entry)))
+        × (now (state .exit) ≡ changedSlices g (now (serial .entry)) .state)
+        × (now (journal .exit) ≡ changedSlices g (now (serial .entry)) .journal) ⌝ }
+{
+    let st = state_of(state);
+    let name = receipt::name_of(serial);
+    let answer = journal::change(st, name, journal);
+    let after = answer.state;
+    keep(after, state);
+    answer.number
+}
+
 // ---- take over
 
-// Checks a whole journal and writes the state that it leads to. 6 if the state is not 155 bytes long, then questions 4 and 14 to 21.
+// Checks a whole journal and writes the state that it leads to. 6 if the state is not 447 bytes long, then questions 4 and 14 to 21, 30 and 31.
 #[no_mangle]
 pub extern "C" fn ditgrux_take_over(
     journal: &[u8],
