@@ -45,14 +45,14 @@ use Rattle.journal.specs.Demands.{beforeCount, Again, AcceptedIsWritten}
 use Rattle.journal.specs.declared.state.State.{State}
 use Rattle.journal.specs.declared.state.TakenOver.{TakenOver}
 use Rattle.journal.proofs.Check.{RightAt, textIn, step, first-yes, right-new, step-length}
-use Rattle.journal.proofs.Serials.{Zeroed, added-zeroed, serials-good, good-snoc}
+use Rattle.journal.proofs.Serials.{Zeroed, serials-good}
 use Rattle.journal.proofs.Answers.{Sound, Detailed, issue-yes, change-yes}
 use Rattle.journal.proofs.Placing.{Core, startCore, stepCore, runCore, coreAfter, run-append, run-after, RightFor, AllRight, right-split, Begun, Names, serials-append, length-serials, names-split}
 use Rattle.journal.proofs.Placing as placing
 use Rattle.journal.proofs.Passing.{at-settings, right-here, text-is, under, run, runPairs, kept, renewed-length, typed-for, good-for}
 use Rattle.journal.proofs.Accepting.{Work, blank, valid-work, valid-taken, ownerIn, journal-head}
 use Rattle.journal.proofs.Pairs.{wider, emptyPair, run-last, all-append, all-wider, all-empty, last-placed, journal-longer, journal-open, pairs-longer, pair-long, no-pairs, length-owner, Open, last-begun}
-use Rattle.journal.proofs.Registers.{Holds, holds-open, entryIn, call-state, change-state, issue-holds, issue-length, change-holds, counter-sum, opening-holds, opening-length, entries-all}
+use Rattle.journal.proofs.Registers.{Holds, holds-open, entryIn, call-state, change-state, issue-holds, issue-length, change-holds, counter-sum, opening-holds, opening-length, run-zeroed}
 
 -- ---- the signature of an entry, as a slice
 
@@ -218,18 +218,6 @@ head-fits o n [] g h ns = absurd (omega arith)
 head-fits o n (p ∷ ps) g h (placing.more b ns) =
     omega (arith, length-append (ownerText o) (pairTexts o n (p ∷ ps)), length-owner o g, pairs-longer o n p ps, pair-long o n p (b .typed) (b .good))
 
-serials-of : (st : State) (s : Name) → renewed st s .serials ≡ added (st .serials) s
-unfolding renewed
-serials-of st s = refl
-
-zeroed : (k : List ℕ) (n : ℕ) (o : Owner) (g : Register) (ps : List Pair) (p : Pair) → Holds k n o g (ps ++ (p ∷ [])) → Zeroed (g .state .serials)
-zeroed k n o g ps p h =
-    let ns = names-split [] ps (p ∷ []) (h .work .names) in
-    let st₀ = runPairs (blank o k n) ps in
-    let e : g .state .serials ≡ added (st₀ .serials) (p .serial) =
-    ap (λ (x : State). x .serials) (h .state ∙ run-last (blank o k n) ps p) ∙ (kept (p .entries) (renewed st₀ (p .serial)) .serials ∙ serials-of st₀ (p .serial)) in
-    subst Zeroed (sym e) (added-zeroed (st₀ .serials) (p .serial) (last-begun _ p (ns .1) .good))
-
 pub holds-sound : (k : List ℕ) (n : ℕ) (o : Owner) (g : Register) (ps : List Pair) (p : Pair) → Holds k n o g (ps ++ (p ∷ [])) → Sound (g .state)
 holds-sound k n o g ps p h =
     let qs = ps ++ (p ∷ []) in
@@ -239,7 +227,7 @@ holds-sound k n o g ps p h =
     let base = q .at .base in
     let c = base .core in
     let ic : st .issued ≡ length (allPlaced o qs) = ap (λ (x : Core). x .issued) c ∙ run-issued n o (allPlaced o qs) in
-    let zs = zeroed k n o g ps p h in
+    let zs : Zeroed (st .serials) = subst (λ (x : State). Zeroed (x .serials)) (sym (h .state)) (run-zeroed k n o ps p (h .work)) in
     let u = base .serials in
     let lu : length (used (st .serials)) ≡ length qs = ap length u ∙ length-serials qs in
     let f : record { csp = st .csp; id = st .id; serial = getD (st .serials) 0 noName } ≡ headOf o qs =
