@@ -3,6 +3,7 @@ pub mod Accepting
 pub mod Agreement
 pub mod Answers
 pub mod Appended
+pub mod Certificates
 pub mod ChangeCalls
 pub mod Check
 pub mod CheckCalls
@@ -21,6 +22,7 @@ pub mod Passing
 pub mod Places
 pub mod Placing
 pub mod PreparedTexts
+pub mod ReadBySteps
 pub mod Readings
 pub mod ReceiptLines
 pub mod Refusals
