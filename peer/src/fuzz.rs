@@ -44,21 +44,22 @@ fn take_over(compare: &mut Compare, input: &[u8]) -> Compared<()> {
 fn edited_journal(compare: &mut Compare, input: &[u8]) -> Compared<()> {
     let Some((repair, mut rest)) = input.split_first() else { return Ok(()) };
     let mut journal = valid_journal().clone();
-    let entries = journal.entries.len();
+    let pair = &mut journal.pairs[0];
+    let entries = pair.entries.len();
     let mut first = entries;
     while let [entry, part, length, after @ ..] = rest {
         let place = *entry as usize % entries;
         let (text, after) = after.split_at(after.len().min(*length as usize));
         rest = after;
         first = first.min(place);
-        let entry = &mut journal.entries[place];
+        let entry = &mut pair.entries[place];
         match *part {
             field @ 0..12 => entry.fields[field as usize] = text.to_vec(),
             12 => entry.header = text.to_vec(),
             13 => entry.lead = text.to_vec(),
             14 => entry.signature = text.to_vec(),
             15 => entry.raw = Some(text.to_vec()),
-            16 => journal.count = text.iter().fold(0, |count, &byte| count << 8 | byte as u32),
+            16 => pair.count = text.iter().fold(0, |count, &byte| count << 8 | byte as u32),
             _ => {
                 let mut raw = entry.form();
                 for pair in text.as_chunks::<2>().0 {
@@ -90,7 +91,7 @@ fn edited_journal(compare: &mut Compare, input: &[u8]) -> Compared<()> {
 
 fn read_entries(compare: &mut Compare, journal: &Journal) -> Compared<()> {
     let settings = valid_settings();
-    for entry in &journal.entries {
+    for entry in journal.entries() {
         compare.read(&settings, &entry.form(), &mut [0xaa; DETAILS], &mut [0xaa; SIGNATURE])?;
     }
     Ok(())

@@ -5,7 +5,7 @@
 use crate::calls::{Calls, Peer, Written};
 use crate::layout::{STATE, settings_bytes, state_bytes};
 use crate::model::{CHAIN, COUNTER, Given, Journal, Printed, SIGNED, spelled};
-use crate::receipt::{AMOUNT_LIMIT, Date, Details, LONGEST_COMPACT, LONGEST_INPUT, LONGEST_PAYLOAD, chain_value};
+use crate::receipt::{AMOUNT_LIMIT, Date, Details, LONGEST_COMPACT, LONGEST_INPUT, LONGEST_PAYLOAD};
 use crate::register::State;
 use crate::sample::{ENDS, FIVE_LARGEST, LAST_AMOUNTS, NEW_AMOUNTS, NEXT_AMOUNTS, PAYLOAD_EDGES, width_end};
 use crate::settings::{Name, Settings};
@@ -217,8 +217,8 @@ fn longest_lines(name: &str, counter: usize, chain: usize) -> Vec<String> {
 /// The longest receipt of a width.
 fn receipt_lines(width: u64) -> [String; 2] {
     let receipts = given(&[([-AMOUNT_LIMIT; 5], 0)], u32::MAX);
-    let entry = &Journal::with(&longest_settings(width), &receipts).entries[1];
-    line_rows(&format!("longest-receipt-width-{width}"), &Printed::of(&entry.code()))
+    let mut journal = Journal::with(&longest_settings(width), &receipts);
+    line_rows(&format!("longest-receipt-width-{width}"), &Printed::of(&journal.entry(1).code()))
 }
 
 fn line_rows(name: &str, printed: &Printed) -> [String; 2] {
@@ -232,8 +232,7 @@ pub const KINDS: [&str; 3] = ["standard", "cancellation", "training"];
 /// Issue from a state of this width and counter: the number, which is also that of Prepare, and the counter after the call.
 pub fn issue_answer(side: &dyn Calls, width: u64, before: i64, (amounts, kind): Receipt) -> (u32, i64) {
     let settings = short_settings(width);
-    let journal_length = settings.head_length() as u64;
-    let state = State { settings, counter: before, last_number: 1, receipts: 1, journal_length, ..State::default() };
+    let state = State { counter: before, last_number: 1, receipts: 1, open_receipts: 1, ..State::opened(&settings) };
     let mut bytes = state_bytes(&state);
     let details = Details { number: 2, date: DATE, amounts, kind };
     let prepared = side.prepare(&bytes, &details, &mut [0; LONGEST_INPUT]);
@@ -296,13 +295,10 @@ pub fn open_answer(side: &dyn Calls, settings: &Settings, room: usize, shared: b
     } else {
         side.open(&bytes, &mut journal, &mut state)
     };
-    let (mut head, mut opened) = (0, State::default());
-    if number == 0 {
-        head = settings.head_length();
-        opened.settings = *settings;
-        opened.chain = chain_value(settings.id());
-        opened.journal_length = head as u64;
-    }
+    let (head, opened) = match number {
+        0 => (settings.head_length(), State::opened(settings)),
+        _ => (0, State::default()),
+    };
     assert_eq!(state, state_bytes(&opened), "{settings:?}");
     assert!(journal[head..].iter().all(|&byte| byte == 0xaa), "{settings:?}");
     journal.truncate(head);

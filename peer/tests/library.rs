@@ -70,6 +70,11 @@ fn takeover() {
 }
 
 #[test]
+fn takeover_pairs() {
+    vectors::takeover_pairs(&Library);
+}
+
+#[test]
 fn paper() {
     vectors::paper(&Library);
 }

@@ -79,6 +79,11 @@ fn takeover() {
 }
 
 #[test]
+fn takeover_pairs() {
+    vectors::takeover_pairs(&Peer);
+}
+
+#[test]
 fn paper() {
     vectors::paper(&Peer);
 }
@@ -375,7 +380,7 @@ fn entries_read() {
     assert_eq!(seen, 13);
 }
 
-/// Any 155 bytes are a state with one spelling; other lengths are the unopened state.
+/// Any 447 bytes are a state with one spelling; other lengths are the unopened state.
 #[test]
 fn states_as_bytes() {
     let mut bytes = [0u8; STATE];
@@ -385,7 +390,7 @@ fn states_as_bytes() {
             assert_eq!(state_bytes(&state_of(&bytes)), bytes);
         }
     }
-    for length in [0, 1, 154, 156, 310] {
+    for length in [0, 1, 155, 446, 448, 894] {
         assert_eq!(state_of(&vec![0xff; length]), State::default());
     }
     assert_eq!(state_bytes(&State::default()), [0; STATE]);

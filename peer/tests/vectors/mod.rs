@@ -62,8 +62,7 @@ const GOOD_DATE: Date = Date { year: 2016, month: 2, day: 29, hour: 8, minute: 5
 /// A sound state made by hand.
 fn state(id: &str, key: [u8; 32], width: u64, counter: i64, last_number: u32, receipts: u32) -> State {
     let settings = Settings { csp: *b"AT0", id: Name::of(id.as_bytes()), serial: Name::of(b"2a"), width, key };
-    let journal_length = settings.head_length() as u64;
-    State { settings, counter, last_number, receipts, chain: [7; 8], journal_length }
+    State { counter, last_number, receipts, open_receipts: receipts, chain: [7; 8], ..State::opened(&settings) }
 }
 
 /// The twelve fields of what Prepare writes.
@@ -325,7 +324,16 @@ pub fn journals(side: &dyn Calls) {
 }
 
 pub fn takeover(side: &dyn Calls) {
-    for row in rows("../tests/takeover.tsv", 325) {
+    takeover_rows(side, "../tests/takeover.tsv", 325);
+}
+
+/// Journals of several pairs.
+pub fn takeover_pairs(side: &dyn Calls) {
+    takeover_rows(side, "../tests/takeover-pairs.tsv", 167);
+}
+
+fn takeover_rows(side: &dyn Calls, table: &str, count: usize) {
+    for row in rows(table, count) {
         let mut input = unhex(&row[1]);
         input.resize(input.len() + row[2].parse::<usize>().expect("a number of zeros"), 0);
         assert_eq!(takeover_line(side, &input), row[3], "{}", row[0]);
@@ -895,13 +903,7 @@ pub fn longest_line_of_a_receipt(side: &dyn Calls) {
         let names = [Name::of(&[b'~'; 32]), Name::of(&[b'f'; 32])];
         let settings = Settings { csp: *b"ZZ9", id: names[0], serial: names[1], width, key: [9; 32] };
         let head = settings.head_length();
-        let held = State {
-            settings,
-            last_number: 4_294_967_294,
-            receipts: 1,
-            journal_length: head as u64,
-            ..State::default()
-        };
+        let held = State { last_number: 4_294_967_294, receipts: 1, ..State::opened(&settings) };
         let details = Details { number: 4_294_967_295, date: GOOD_DATE, amounts: [-99_999_999_999; 5], kind };
         let (mut held, mut journal, mut code) = (state_bytes(&held), [0; 83 + 2 + LONGEST_COMPACT], [0; LONGEST_CODE]);
         assert_eq!(side.issue(&mut held, &details, &[0xa5; 64], &mut journal), 0);
