@@ -1,6 +1,9 @@
-//! Rows of the test tables that the peer computes: what lies at the limits of request E4 and next to them, and both ways to
-//! open a register (request E7). In their tables they come last, after the published rows. The answers are the peer's; the
-//! tests ask them of the library, too.
+//! Rows of the test tables that the peer computes: what lies at the limits of request E4 and next to them, both ways to open a
+//! register (request E7), and changes of the certificate (request E5). In their tables they come last, after the published
+//! rows. The answers are the peer's; the tests ask them of the library, too.
+
+mod change;
+mod pairs;
 
 use crate::calls::{Calls, Peer, Written};
 use crate::layout::{STATE, settings_bytes, state_bytes};
@@ -11,13 +14,17 @@ use crate::sample::{ENDS, FIVE_LARGEST, LAST_AMOUNTS, NEW_AMOUNTS, NEXT_AMOUNTS,
 use crate::settings::{Name, Settings};
 use crate::text::hex;
 
+pub use change::change_answer;
+
 /// Computes the rows of a table.
 pub type Rows = fn() -> Vec<String>;
 
 /// The tables with such rows, by their place as seen from the peer's folder.
-pub const TABLES: [(&str, Rows); 6] = [
+pub const TABLES: [(&str, Rows); 8] = [
+    ("../tests/takeover-pairs.tsv", pairs::takeover_pairs),
     ("../tests/takeover.tsv", takeover),
     ("tests/data/amount.tsv", amount),
+    ("tests/data/change.tsv", change::change),
     ("tests/data/code.tsv", code),
     ("tests/data/issue-limits.tsv", issue_limits),
     ("tests/data/ocr-line.tsv", ocr_line),
@@ -87,8 +94,11 @@ fn longest_row(name: &str, width: u64, receipts: &[Receipt]) -> String {
 }
 
 fn takeover_row(name: &str, settings: &Settings, receipts: &[Given]) -> String {
-    let journal = Journal::with(settings, receipts).bytes();
-    let input = [&[settings.width as u8], &settings.key[..], &journal].concat();
+    bytes_row(name, settings, &Journal::with(settings, receipts).bytes())
+}
+
+fn bytes_row(name: &str, settings: &Settings, journal: &[u8]) -> String {
+    let input = [&[settings.width as u8], &settings.key[..], journal].concat();
     [name, &hex(&input), "0", &takeover_line(&Peer, &input)].join("\t")
 }
 

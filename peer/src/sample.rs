@@ -73,7 +73,7 @@ pub fn bad_serial(random: &Random, used: &[Vec<u8>]) -> Vec<u8> {
 
 /// No good serial, but one that could be taken for one of those used, or for an empty place after them.
 pub fn bad_serial_like(random: &Random, used: &[Vec<u8>]) -> Vec<u8> {
-    let mut serial = used[random.below(used.len())].clone();
+    let Some(mut serial) = used.get(random.below(used.len().max(1))).cloned() else { return Vec::new() };
     match random.below(4) {
         0 => serial.clear(),
         1 => serial.push(0),

@@ -95,6 +95,26 @@ fn one_key_for_two_registers() {
 }
 
 #[test]
+fn change() {
+    vectors::change(&Library);
+}
+
+#[test]
+fn changes_by_hand() {
+    vectors::changes_by_hand(&Library);
+}
+
+#[test]
+fn serials_of_a_state() {
+    vectors::serials_of_a_state(&Library);
+}
+
+#[test]
+fn counts_at_any_place() {
+    vectors::counts_at_any_place(&Library);
+}
+
+#[test]
 fn read_by_hand() {
     vectors::read_by_hand(&Library);
 }

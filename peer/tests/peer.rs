@@ -6,13 +6,13 @@ use peer::base64;
 use peer::calls::Peer;
 use peer::code::LONGEST_CODE;
 use peer::crypto::Aes256;
-use peer::layout::{DETAILS, STATE, details_bytes, details_of, state_bytes, state_of};
+use peer::layout::{DETAILS, SETTINGS, STATE, details_bytes, details_of, state_bytes, state_of};
 use peer::line::{LONGEST_ANY_LINE, LONGEST_LINE};
 use peer::receipt::{
     Kind, LONGEST_COMPACT, LONGEST_INPUT, LONGEST_PAYLOAD, counter_fits, counter_iv, decrypt_counter, encrypt_counter,
     push_amount, read_amount, read_date, read_entry, read_number,
 };
-use peer::register::State;
+use peer::register::{SERIALS, State};
 use peer::rows::TABLES;
 use peer::settings::{Name, Settings};
 use peer::text::Text;
@@ -101,6 +101,26 @@ fn open() {
 #[test]
 fn one_key_for_two_registers() {
     vectors::one_key_for_two_registers(&Peer);
+}
+
+#[test]
+fn change() {
+    vectors::change(&Peer);
+}
+
+#[test]
+fn changes_by_hand() {
+    vectors::changes_by_hand(&Peer);
+}
+
+#[test]
+fn serials_of_a_state() {
+    vectors::serials_of_a_state(&Peer);
+}
+
+#[test]
+fn counts_at_any_place() {
+    vectors::counts_at_any_place(&Peer);
 }
 
 #[test]
@@ -233,20 +253,27 @@ fn rows_of_the_peer() {
     }
 }
 
-/// The sizes of the header are those that follow from the limits.
+/// The sizes of the header are those of the layouts, and those that follow from the limits.
 #[test]
 fn sizes_of_the_header() {
     let header = header();
     for (name, size) in [
-        ("PAYLOAD", LONGEST_PAYLOAD),
-        ("INPUT", LONGEST_INPUT),
-        ("COMPACT", LONGEST_COMPACT),
-        ("ENTRY", 2 + LONGEST_COMPACT),
-        ("CODE", LONGEST_CODE),
-        ("LINE", LONGEST_LINE),
-        ("ANY_LINE", LONGEST_ANY_LINE),
+        ("SETTINGS", SETTINGS),
+        ("STATE", STATE),
+        ("DETAILS", DETAILS),
+        ("SERIALS", SERIALS),
+        ("LONGEST_NAME", 32),
+        ("LONGEST_HEAD", 19 + 32 + 32),
+        ("LONGEST_CHANGE", 8 + 32),
+        ("LONGEST_PAYLOAD", LONGEST_PAYLOAD),
+        ("LONGEST_INPUT", LONGEST_INPUT),
+        ("LONGEST_COMPACT", LONGEST_COMPACT),
+        ("LONGEST_ENTRY", 2 + LONGEST_COMPACT),
+        ("LONGEST_CODE", LONGEST_CODE),
+        ("LONGEST_LINE", LONGEST_LINE),
+        ("LONGEST_ANY_LINE", LONGEST_ANY_LINE),
     ] {
-        let start = format!("DITGRUX_LONGEST_{name} = ");
+        let start = format!("DITGRUX_{name} = ");
         let number = header.split_once(&start).expect("a size").1.split(|letter: char| !letter.is_ascii_digit()).next();
         assert_eq!(number, Some(size.to_string().as_str()), "{name}");
     }
