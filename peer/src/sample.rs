@@ -296,7 +296,9 @@ pub fn spoil_state(random: &Random, state: &mut State, room: usize) {
         }
         6 => {
             let head = state.first().head_length() as u64;
-            state.journal_length = random.pick(&[head - 1, head - 4, 19, 1, 0]).min(head - 1);
+            state.journal_length = random.pick(&[head - 1, head - 1, head - 4, 19, 1, 0]).min(head - 1);
+            // the count may still be within
+            state.open_place = state.open_place.min(state.journal_length.saturating_sub(4));
         }
         7..=9 => spoil_serials(random, state),
         10 if state.receipts < u32::MAX => {

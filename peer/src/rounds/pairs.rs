@@ -36,11 +36,12 @@ fn changed_state(state: &State, serial: &[u8]) -> State {
     after
 }
 
-/// A journal of several pairs, made of parts, and its settings.
+/// A journal of several pairs, made of parts, its settings, and the receipts that it was made of.
 #[derive(Clone)]
 struct Design {
     settings: Settings,
     journal: Journal,
+    given: Vec<Given>,
 }
 
 impl Design {
@@ -61,6 +62,11 @@ impl Design {
     fn right(mut self, from: usize) -> Self {
         self.journal.all_right(from, &self.settings);
         self
+    }
+
+    /// As a list of calls writes it.
+    fn accepted(&self) -> Accepted {
+        Accepted { settings: self.settings, journal: self.journal.bytes(), receipts: self.given.clone() }
     }
 
     /// The journal with these bytes after it.
@@ -424,21 +430,27 @@ impl Round<'_> {
     fn designed(&self, receipts: &[usize]) -> Design {
         let settings = sample::settings(&self.random);
         let serials = sample::serials(&self.random, settings.serial(), receipts.len());
-        let mut number = 0;
-        let mut given = |_| {
-            let first = number == 0;
-            number += 1 + self.random.below(20) as u32;
-            let amounts = std::array::from_fn(|_| if first { 0 } else { self.random.between(1, 100_000) });
-            let kind = if first { 0 } else { self.random.pick(&[0, 0, 1, 2]) };
-            let details = Details { number, date: sample::date(&self.random), amounts, kind };
-            (details, sample::signature(&self.random))
-        };
+        let given = self.receipts_in_a_row(receipts.iter().sum());
+        let mut rest = given.iter().cloned();
         let pairs: Vec<(Vec<u8>, Vec<Given>)> = serials
             .into_iter()
             .zip(receipts)
-            .map(|(serial, &count)| (serial, (0..count).map(&mut given).collect()))
+            .map(|(serial, &count)| (serial, rest.by_ref().take(count).collect()))
             .collect();
-        Design { journal: Journal::with_pairs(&settings, &pairs), settings }
+        Design { journal: Journal::with_pairs(&settings, &pairs), settings, given }
+    }
+
+    /// So many receipts with rising numbers, the first of them a start receipt.
+    fn receipts_in_a_row(&self, receipts: usize) -> Vec<Given> {
+        let mut number = 0;
+        let mut next = |place: usize| {
+            number += 1 + self.random.below(20) as u32;
+            let amounts = std::array::from_fn(|_| if place == 0 { 0 } else { self.random.between(1, 100_000) });
+            let kind = if place == 0 { 0 } else { self.random.pick(&[0, 0, 1, 2]) };
+            let details = Details { number, date: sample::date(&self.random), amounts, kind };
+            (details, sample::signature(&self.random))
+        };
+        (0..receipts).map(&mut next).collect()
     }
 
     /// Any numbers of receipts for so many pairs.
@@ -459,6 +471,7 @@ impl Round<'_> {
         let receipts = self.some_receipts(pairs);
         let design = self.designed(&receipts);
         self.valid_pairs(&design)?;
+        self.written_again(&design.accepted())?;
         self.bytes_after(&design)?;
         self.cut_near_pairs(&design.settings, &design.journal.bytes())?;
         self.ninth_pair()?;
