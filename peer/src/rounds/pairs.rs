@@ -159,7 +159,7 @@ impl Round<'_> {
             let written = self.compare.serial(&bytes, which as u32, &mut output)?;
             let text = [serial, &vec![0x5a; 32 - serial.len()]].concat();
             demand(written.length == serial.len() && output == text, "a state says its serials", &bytes)?;
-            let slot = if which < serials.len() { slots[which] } else { Name::default() };
+            let slot = slots[..serials.len()].get(which).copied().unwrap_or_default();
             let settings = Settings { serial: slot, ..state.first() };
             let said = self.settings_said(&bytes, which)?;
             demand(said == settings_bytes(&settings), "a state says the settings of each serial", &bytes)?;
@@ -216,8 +216,8 @@ impl Round<'_> {
     }
 
     /// Change from a state made by hand, sound or not, into a buffer of some length.
-    pub(super) fn changed_by_hand(&mut self, sound: &State, state: &[u8], journal: &[u8]) -> Compared<()> {
-        let used = used_serials(sound);
+    pub(super) fn changed_by_hand(&mut self, held: &State, state: &[u8], journal: &[u8]) -> Compared<()> {
+        let used = used_serials(held);
         let mut serial = sample::next_serial(&self.random, &used);
         match self.random.below(8) {
             0 => serial = sample::bad_serial(&self.random, &used),

@@ -90,8 +90,8 @@ pub fn change() -> Vec<String> {
 }
 
 fn accepted(table: &mut Table) {
-    for used in 1..SERIALS {
-        table.add(&format!("serial-{}", used + 1), &held(used), NAMES[used]);
+    for (used, name) in NAMES.iter().enumerate().take(SERIALS).skip(1) {
+        table.add(&format!("serial-{}", used + 1), &held(used), name);
     }
     let opened = State::opened(&short_settings(5));
     table.add("before-the-first-receipt", &opened, b"2b");
@@ -159,8 +159,8 @@ fn serials(table: &mut Table) {
         table.add(&format!("{name}-eight"), &held(8), serial);
     }
     for used in [1, 2, SERIALS] {
-        for which in 0..used {
-            table.add(&format!("used-{}-of-{used}", which + 1), &held(used), NAMES[which]);
+        for (which, name) in NAMES[..used].iter().enumerate() {
+            table.add(&format!("used-{}-of-{used}", which + 1), &held(used), name);
         }
     }
     table.add("ninth", &held(SERIALS), NAMES[8]);
