@@ -320,6 +320,26 @@ impl Round<'_> {
             };
             self.counted_there(&state, state.open_place <= last)?;
         }
+        for length in [1 << 32, 1 << 63, u64::MAX - 1, u64::MAX] {
+            self.counted_far_away(length)?;
+        }
+        Ok(())
+    }
+
+    /// A journal longer than any buffer: Prepare asks for the place of its count, Issue and Change for the buffer.
+    fn counted_far_away(&mut self, length: u64) -> Compared<()> {
+        let state = State { journal_length: length, ..self.started_state(5, 0) };
+        for (place, expected) in [(0, 0), (length - 5, 0), (length - 4, 0), (length - 3, 6), (length, 6), (u64::MAX, 6)]
+        {
+            let mut bytes = state_bytes(&State { open_place: place, ..state });
+            let details = Details { number: state.last_number + 1, kind: 2, ..sample::details(&self.random, &state) };
+            let prepared = self.compare.prepare(&bytes, &details, &mut [0x5a; LONGEST_INPUT])?;
+            demand(prepared.number == expected, "a count ends within the journal", &bytes)?;
+            let mut journal = self.garbage(500);
+            let issued = self.compare.issue(&mut bytes, &details, &[], &mut journal)?;
+            let changed = self.compare.change(&mut bytes, b"0", &mut journal)?;
+            demand((issued, changed) == (6, 6), "a journal is no longer than its buffer", &bytes)?;
+        }
         Ok(())
     }
 

@@ -590,6 +590,11 @@ pub fn counts_at_any_place(side: &dyn Calls) {
         assert_eq!(side.change(&mut bytes, b"2b", &mut journal), 6, "{place}");
         assert_eq!(journal, [0xaa; 500]);
     }
+    // Prepare asks nothing of the buffer: the longest journal has room for a count up to its end
+    for (place, number) in [(u64::MAX - 5, 0), (u64::MAX - 4, 0), (u64::MAX - 3, 6), (u64::MAX, 6)] {
+        let bytes = state_bytes(&State { open_place: place, journal_length: u64::MAX, ..held });
+        assert_eq!(side.prepare(&bytes, &details, &mut [0; LONGEST_INPUT]).number, number, "{place}");
+    }
 }
 
 fn state_by_hand() -> State {
