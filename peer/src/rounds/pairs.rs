@@ -485,7 +485,7 @@ impl Round<'_> {
         demand(taken == TakenOver { number, index: index as u32 }, what, bytes)
     }
 
-    /// Journals of one to nine pairs: valid ones, and ones with one thing wrong, whose answer is known.
+    /// Journals of one to ten pairs: valid ones, and ones with one thing wrong, whose answer is known.
     pub(super) fn pairs_by_design(&mut self) -> Compared<()> {
         let pairs = 1 + self.random.below(SERIALS);
         let receipts = self.some_receipts(pairs);
@@ -503,11 +503,13 @@ impl Round<'_> {
         let design = self.designed(&receipts);
         self.valid_pairs(&design)?;
         let pair = 1 + self.random.below(pairs - 1);
+        self.misspelled_serials(&design, pair)?;
         self.other_serials(&design, pair)?;
         self.other_counts(&design, pair)?;
         self.moved_entries(&design, pair)?;
         self.old_serial(&design, pair)?;
-        self.restarted(&design, pair)
+        self.restarted(&design, pair)?;
+        self.restarted_counter()
     }
 
     /// A valid journal gives the state that its sections say.
@@ -619,12 +621,11 @@ impl Round<'_> {
         Ok(())
     }
 
-    /// The serial of a later pair with other letters or another length, a used one, or that of another pair.
-    fn other_serials(&mut self, design: &Design, pair: usize) -> Compared<()> {
+    /// The serial of a later pair with another length, or with a foreign letter.
+    fn misspelled_serials(&mut self, design: &Design, pair: usize) -> Compared<()> {
         let (bytes, index) = (design.journal.bytes(), design.journal.before(pair));
         let places = &pair_places(&bytes)[pair];
-        let serials = design.serials();
-        let length = serials[pair].len() as u32;
+        let length = places.serial().len() as u32;
         for count in [0, 33, length + 1, length | 1 << 8, length | 1 << 31, u32::MAX] {
             let mut bytes = bytes.clone();
             bytes[places.start..places.start + 4].copy_from_slice(&count.to_be_bytes());
@@ -635,8 +636,12 @@ impl Round<'_> {
         self.compare.take_over(&shorter, &design.settings.key, design.settings.width as usize, &mut [0x5a; STATE])?;
         let mut foreign = bytes.clone();
         foreign[places.start + 4 + self.random.below(length as usize)] = sample::no_serial_byte(&self.random);
-        self.answered_with(design, &foreign, 21, index, "a serial with a foreign letter gets 21")?;
+        self.answered_with(design, &foreign, 21, index, "a serial with a foreign letter gets 21")
+    }
 
+    /// Another serial for a pair: a new one, a used one, or that of another pair.
+    fn other_serials(&mut self, design: &Design, pair: usize) -> Compared<()> {
+        let (index, serials) = (design.journal.before(pair), design.serials());
         let with = |pair: usize, serial: &[u8]| {
             let mut other = design.clone();
             other.journal.pairs[pair].serial = serial.to_vec();
@@ -717,7 +722,7 @@ impl Round<'_> {
         self.answered_with(design, &bytes, 16, index, "a receipt has no serial but that of its pair")
     }
 
-    /// Number, chain or counter that start again in a later pair.
+    /// Number or chain that start again in a later pair.
     fn restarted(&mut self, design: &Design, pair: usize) -> Compared<()> {
         let index = design.journal.before(pair);
         let mut chain = design.clone();
@@ -729,9 +734,11 @@ impl Round<'_> {
         let mut number = design.clone();
         number.journal.entry(index).fields[NUMBER] = design.clone().journal.entry(index - 1).fields[NUMBER].clone();
         let bytes = number.right(index).journal.bytes();
-        self.answered_with(design, &bytes, 17, index, "the numbers run on")?;
+        self.answered_with(design, &bytes, 17, index, "the numbers run on")
+    }
 
-        // the counter of this receipt alone; those before it have added something
+    /// The counter of a receipt in the second pair is that of this receipt alone; those before it have added something.
+    fn restarted_counter(&mut self) -> Compared<()> {
         let mut counter = self.designed(&[2, 1]);
         let Settings { key, width, .. } = counter.settings;
         for entry in counter.journal.entries_mut() {
