@@ -38,8 +38,8 @@ use Rattle.receipt.proofs.Names.{good-sized}
 use Rattle.receipt.proofs.Chains.{length-chain, bytes-chain, length-encrypted, bytes-encrypted, after-encrypted, decrypt-back}
 use Rattle.journal.specs.Head.{head, entryText, front}
 use Rattle.primitives.specs.Questions.{ask, ifZero}
-use Rattle.journal.specs.Changing.{serialNumber, changeNumber}
-use Rattle.journal.specs.Step.{countWithin, soundAlone, sound, numberAbove, firstGood, newCounter, detailsNumber, detailsNumberWithin, fieldsOf, next}
+use Rattle.journal.specs.Changing.{changeNumber}
+use Rattle.journal.specs.Step.{countWithin, soundAlone, sound, numberAbove, firstGood, newCounter, detailsNumber, detailsNumberWithin, fieldsOf, next, serialNumber}
 use Rattle.journal.specs.Issuing.{signatureSized, givenSignature, entryOf, textOf, entryFits, issueNumber, issueNumberWithin, issued}
 use Rattle.journal.specs.Receipts.{receiptsIn, sum}
 use Rattle.journal.specs.Valid.{texts}

@@ -22,8 +22,8 @@ use Rattle.receipt.specs.declared.settings.Settings.{Settings}
 use Rattle.receipt.specs.declared.entry.Entry.{Entry}
 use Rattle.journal.specs.Head.{head, headSettings, headGood, entryText, pairStart, textAt}
 use Rattle.journal.specs.State.{noName, sameName, used, inEight, newest, isIn, allGood, serialsGood, settingsNow}
-use Rattle.journal.specs.Step.{fresh, sound, next, renewed}
-use Rattle.journal.specs.Changing.{serialNumber, changeNumber, changed, changeBuffer}
+use Rattle.journal.specs.Step.{fresh, sound, next, renewed, serialNumber}
+use Rattle.journal.specs.Changing.{changeNumber, changed, changeBuffer}
 use Rattle.journal.specs.Checking.{headNumber, found, after, entryNumber, checked, stopped, placeChecked, startChecked, endChecked, full, oneStep, steps, refused, accepted, lastAnswer, takeOver}
 use Rattle.journal.specs.Certificates.{EachGood, GoodSerials, SerialsGoodExactly, OneOf, UsedSerialGets30, NinthSerialGets31, ChangeAppends, ChangeTouchesNoOther, ChangedSerialIsSpelled, RunsOn, ChangeRunsOn, oneStepBefore, stepsBefore, takeOverBefore, OneSectionAsBefore}
 use Rattle.journal.specs.Valid.{Owner, Pair, settingsFor, texts, pairTexts, placed, allPlaced, serialsOf, journalText, GoodOwner, Valid, headOf}

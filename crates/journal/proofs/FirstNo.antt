@@ -29,8 +29,7 @@ use Rattle.receipt.proofs.Entries.{admitted}
 use Rattle.receipt.proofs.ExactEntry.{back, exact}
 use Rattle.journal.specs.Head.{headSettings, headGood, headLength, entryText, there, textAt, serialAt, startThere, pairStart}
 use Rattle.journal.specs.State.{used, isIn, settingsNow}
-use Rattle.journal.specs.Step.{fresh, numberAbove, firstGood, renewed}
-use Rattle.journal.specs.Changing.{serialNumber}
+use Rattle.journal.specs.Step.{fresh, numberAbove, firstGood, renewed, serialNumber}
 use Rattle.journal.specs.Checking.{headNumber, found, counterRight, contextNumber, textNumber, entryNumber, startNumber, stopped, full, oneStep, steps, refused, accepted, lastAnswer, takeOver}
 use Rattle.journal.specs.Receipts.{receiptsIn, sum}
 use Rattle.journal.specs.Valid.{Owner, Pair, settingsFor, Placed, allPlaced, entriesOf, lastOf, chainOf, serialsOf, Counted, NotIn}

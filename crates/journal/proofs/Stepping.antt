@@ -15,8 +15,7 @@ use Rattle.receipt.specs.declared.settings.Name.{Name}
 use Rattle.receipt.proofs.Entries.{len-of}
 use Rattle.journal.specs.Head.{lengthAt, there, textAt, sectionText, sectionEnd, serialAt, startThere}
 use Rattle.journal.specs.State.{used, isIn, serialsGood, countPlaceNow}
-use Rattle.journal.specs.Step.{numberAbove, next, renewed}
-use Rattle.journal.specs.Changing.{serialNumber}
+use Rattle.journal.specs.Step.{numberAbove, next, renewed, serialNumber}
 use Rattle.journal.specs.Checking.{found, contextNumber, textNumber, after, entryNumber, stopped, checked, placeChecked, startNumber, startChecked, endChecked, full, oneStep, Steady, steps, refused, accepted, lastAnswer}
 use Rattle.journal.specs.declared.state.State.{State}
 use Rattle.journal.specs.declared.state.TakenOver.{TakenOver}
