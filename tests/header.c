@@ -725,7 +725,7 @@ static void of_length(uint8_t *bytes, size_t length)
 }
 
 /* States of other lengths. One of version 1 had 155 bytes: the settings, the counter, the last number, the number of receipts, the chain
- * value and the length of the journal, with which Take over makes the state anew. */
+ * value and the length of the journal. With the width, the key and the length in it, Take over makes the state anew. */
 static void version_1(void)
 {
     enum { BEFORE = 155 };
@@ -740,7 +740,8 @@ static void version_1(void)
     memcpy(bytes + sizeof settings, state + 403, 32);
     of_length(bytes, BEFORE);
     length = number_at(bytes + BEFORE - 8, 8);
-    CHECK(taken_over(journal, length, &index) == DITGRUX_DONE && memcmp(other, state, sizeof state) == 0);
+    CHECK(ditgrux_take_over(journal, length, bytes + 91, DITGRUX_KEY, bytes[90], other, sizeof other, &index) == DITGRUX_DONE);
+    CHECK(memcmp(other, state, sizeof state) == 0 && memcmp(other + 403, bytes + 123, 32) == 0);
     memcpy(bytes, state, sizeof state);
     of_length(bytes, DITGRUX_STATE - 1);
     of_length(bytes, DITGRUX_STATE + 1);
@@ -874,13 +875,13 @@ static void pairs(void)
     CHECK(AFTER("\0\0\0\1" "9" "\0\0\0", DITGRUX_BYTES_LEFT, 4) && gives_state());
 }
 
-/* Where power fails during a change: the journal is the old one until its length is stored, and the new one then. An old state is sound,
- * and its next receipt writes over the pair. */
+/* Where power fails during a change: the journal is the old one until its length is stored, and the new one then. Where it fails during
+ * the first receipt after the change, the walk finds the length. An old state is sound, and its next receipt writes over the pair. */
 static void power_cut_in_change(void)
 {
     uint8_t old[DITGRUX_STATE];
     const struct ditgrux_details sale = details_of(2, DITGRUX_STANDARD, 1);
-    size_t length;
+    size_t length, forms;
     uint32_t index;
     fresh();
     issues(1);
@@ -889,8 +890,13 @@ static void power_cut_in_change(void)
     changes_to("1a2c");
     CHECK(taken_over(journal, length, &index) == DITGRUX_DONE && memcmp(other, old, sizeof old) == 0);
     CHECK(gives_state() && memcmp(other, old, sizeof old) != 0);
+    length = journal_length();
+    issues(2);
+    CHECK(taken_over(journal, length, &index) == DITGRUX_ENTRY_CUT && index == 1);
+    CHECK(walk(journal, length, &forms) == journal_length() && forms == 2);
     CHECK(ditgrux_issue_details(old, sizeof old, &sale, NULL, 0, journal, sizeof journal) == DITGRUX_DONE);
-    CHECK(taken_over(journal, ditgrux_journal_length(old, sizeof old), &index) == DITGRUX_DONE && ditgrux_serials(other, sizeof other) == 1);
+    CHECK(taken_over(journal, ditgrux_journal_length(old, sizeof old), &index) == DITGRUX_DONE);
+    CHECK(ditgrux_serials(other, sizeof other) == 1);
 }
 
 int main(void)
