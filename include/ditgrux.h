@@ -2,8 +2,8 @@
  * Ditgrux: the receipt journal of a cash register under the Austrian ordinance RKSV.
  *
  * These are the functions of libdevice.a. Each of them is proved, for every input, to return what this header says and to write
- * nothing else. They allocate nothing, keep nothing between calls, and need nothing from outside but memcpy. docs/QUESTIONS.md
- * explains every number that they return; docs/EMBEDDING.md shows how to link, size and store.
+ * nothing else. They allocate nothing, keep nothing between calls, and need nothing from outside but memcpy and memset.
+ * docs/QUESTIONS.md explains every number that they return; docs/EMBEDDING.md shows how to link, size and store.
  *
  * How a register works:
  *
