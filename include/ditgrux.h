@@ -62,7 +62,7 @@ enum {
     DITGRUX_DETAILS = 72,         /* the details of a receipt, see below */
     DITGRUX_SIGNATURE = 64,       /* a signature of the device: r and s of ES256, 32 bytes each, not DER */
     DITGRUX_HASH = 32,            /* a SHA-256 value */
-    DITGRUX_SERIALS = 8,          /* so many serials a register can have, one after the other (a number, not bytes) */
+    DITGRUX_MOST_SERIALS = 8,     /* the most serials that a register can have, one after the other (a number, not bytes) */
     DITGRUX_LONGEST_NAME = 32,    /* a register ID, or a serial */
     DITGRUX_LONGEST_HEAD = 83,    /* the head of a journal: 19 bytes, the ID and the serial */
     DITGRUX_LONGEST_CHANGE = 40,  /* what a change of the certificate appends to the journal: 8 bytes and the serial */
@@ -109,11 +109,11 @@ enum ditgrux_number {
     DITGRUX_ENTRY_COUNTER = 20,   /* the sum does not fit the width, or is not the counter that the entry holds encrypted */
     DITGRUX_BYTES_LEFT = 21,      /* bytes follow the last receipt of a pair and are not a good serial and a whole count */
     DITGRUX_BAD_FORM = 22,        /* not a compact form; unbase64, unbase32: not canonical BASE64 or BASE32 */
-    DITGRUX_OUTPUT_SHORT = 23,    /* the output is too short; ALSO: the output of settings or read is longer than it must be */
+    DITGRUX_OUTPUT_SHORT = 23,    /* the output is too short; ALSO: that of settings, settings_in or read is longer than it must be */
     DITGRUX_BAD_CODE = 24,        /* not a machine-readable code; fields: or one without a register ID */
     DITGRUX_BAD_FIELDS = 26,      /* a code without twelve fields, or whose counter or chain field is not canonical BASE64 */
     DITGRUX_BAD_LINE = 27,        /* not the optical line of a machine-readable code */
-    DITGRUX_SERIAL_USED = 30,     /* change, take over: this register had the serial before; asked after DITGRUX_BAD_SERIAL */
+    DITGRUX_SERIAL_USED = 30,     /* change, take over: the register has had this serial; asked after DITGRUX_BAD_SERIAL and DITGRUX_BYTES_LEFT */
     DITGRUX_SERIALS_FULL = 31,    /* change, take over: a ninth serial */
     DITGRUX_ID_ENDS_IN_DIGIT = 32 /* open_shared: the register ID ends in a digit; asked between DITGRUX_BAD_ID and DITGRUX_BAD_SERIAL */
 };
@@ -203,8 +203,8 @@ enum ditgrux_number {
  * width; not one to eight good serials with zeros after them; a counter that does not fit the width; more receipts than the last
  * number, or more in the last pair than in all; a journal shorter than its head, or than the end of the last pair's count, or (Issue
  * and Change only) longer than its buffer. They cannot see that a bit of the key, the counter or the chain value has changed, nor
- * that a state is old: with a state from before the last receipt Issue writes over that receipt, for it reads nothing of the journal.
- * Compare the state with what ditgrux_take_over gives when the device starts.
+ * that a state is old: with a state from before the last receipt or change, Issue and Change write over what came after it, for they read
+ * nothing of the journal. Compare the state with what ditgrux_take_over gives when the device starts.
  *
  * After DITGRUX_BAD_STATE the state's bytes are as they were before the call, in every function.
  *
@@ -273,7 +273,8 @@ uint32_t ditgrux_last_number(const uint8_t *state, size_t state_length);
 uint32_t ditgrux_receipts(const uint8_t *state, size_t state_length);
 size_t ditgrux_journal_length(const uint8_t *state, size_t state_length);
 
-/* How many serials the register has had, 0 to 8: those up to the first that is empty. The newest is number ditgrux_serials - 1. */
+/* How many serials the register has had: those up to the first that is empty, at most 8. The newest is number ditgrux_serials - 1.
+ * 0 if the state has none or is not 447 bytes long. */
 uint32_t ditgrux_serials(const uint8_t *state, size_t state_length);
 
 /* Writes one of the register's serials, as text: number 0 is the first, ditgrux_serials - 1 the newest, which the next receipt names.
@@ -282,7 +283,8 @@ uint32_t ditgrux_serials(const uint8_t *state, size_t state_length);
  *     state, state_length         447 bytes; they are not changed, and not checked either
  *     which                       the number of the serial, from 0
  *     output, output_length       output
- *     length                      output: the length of the serial; 0 if the register has no such serial; at most 32, whatever a
+ *     length                      output: the length of the serial; 0 if there is no such serial, or if the state is not 447
+ *                                 bytes long: then nothing is written, and DITGRUX_DONE is returned; at most 32, whatever a
  *                                 damaged state says
  *
  * Returns DITGRUX_DONE, or DITGRUX_OUTPUT_SHORT. Refused: `output` is unchanged and *length is 0. */
@@ -294,7 +296,7 @@ uint32_t ditgrux_serial(const uint8_t *state, size_t state_length, uint32_t whic
  *
  *     state, state_length         447 bytes; they are not changed, and not checked either
  *     which                       the number of the serial, from 0, as for ditgrux_serial
- *     settings, settings_length   output: exactly 123 bytes
+ *     settings, settings_length   output: exactly 123 bytes; they hold the key
  *
  * If the register has no such serial, the settings hold an empty one, and ditgrux_read refuses them with DITGRUX_BAD_SERIAL. With a
  * state that is not 447 bytes long the settings are all zero.

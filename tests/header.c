@@ -557,7 +557,7 @@ static void eight_serials(void)
     size_t length;
     uint32_t i;
     fresh();
-    for (i = 1; i < DITGRUX_SERIALS; i++) {
+    for (i = 1; i < DITGRUX_MOST_SERIALS; i++) {
         CHECK(ditgrux_serials(state, sizeof state) == i);
         length = journal_length();
         changes_to(serials[i]);
@@ -567,8 +567,8 @@ static void eight_serials(void)
             issues(i);
         CHECK(i != 3 || no_change("1a2b", 4, most) == DITGRUX_SERIAL_USED);
     }
-    CHECK(ditgrux_serials(state, sizeof state) == DITGRUX_SERIALS && gives_state());
-    for (i = 0; i < DITGRUX_SERIALS; i++)
+    CHECK(ditgrux_serials(state, sizeof state) == DITGRUX_MOST_SERIALS && gives_state());
+    for (i = 0; i < DITGRUX_MOST_SERIALS; i++)
         CHECK(no_change(serials[i], strlen(serials[i]), journal_length()) == DITGRUX_SERIAL_USED); /* before 31 and 13 */
     CHECK(no_change("9", 1, most) == DITGRUX_SERIALS_FULL && no_change("9", 1, journal_length()) == DITGRUX_SERIALS_FULL);
     CHECK(no_change("9G", 2, journal_length()) == DITGRUX_BAD_SERIAL && no_change("9", 1, journal_length() - 1) == DITGRUX_BAD_STATE);
@@ -787,7 +787,7 @@ static void unsound_states(void)
         is_unsound(SERIALS_AT + slot * SLOT + 32, 8, 33);
         is_unsound(SERIALS_AT + slot * SLOT + 32, 8, UINT64_MAX);
     }
-    for (slot = 2; slot < DITGRUX_SERIALS; slot++) { /* one that is not */
+    for (slot = 2; slot < DITGRUX_MOST_SERIALS; slot++) { /* one that is not */
         is_unsound(SERIALS_AT + slot * SLOT, 1, '1');
         is_unsound(SERIALS_AT + slot * SLOT + 32, 8, 1);
         is_unsound(SERIALS_AT + slot * SLOT + 31, 1, 1);
@@ -865,7 +865,7 @@ static void pairs(void)
     CHECK(with_byte(place + 3, 0, &index) == DITGRUX_BYTES_LEFT && index == 2);
     CHECK(with_byte(place + 3, 2, &index) == DITGRUX_ENTRY_CUT && index == 3);
 
-    for (i = 3; i <= DITGRUX_SERIALS; i++) {
+    for (i = 3; i <= DITGRUX_MOST_SERIALS; i++) {
         const char serial[] = {'c', (char)('0' + i), 0};
         CHECK(AFTER(PAIR("\1", "9"), DITGRUX_DONE, 0));
         changes_to(serial);

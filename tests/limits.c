@@ -332,7 +332,7 @@ static int eight_serials(void)
     room = sizeof journal;
     open_register();
     memcpy(state, again, sizeof state);
-    for (number = 1; number <= DITGRUX_SERIALS; number++) {
+    for (number = 1; number <= DITGRUX_MOST_SERIALS; number++) {
         before = ditgrux_journal_length(state, sizeof state);
         if (number > 1)
             bad += change_to((uint8_t)('0' + number), 0) +

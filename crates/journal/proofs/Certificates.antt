@@ -4,7 +4,7 @@ use mathlib.Core.Path.{_≡_, refl, sym, ap, _∙_, subst}
 use mathlib.Core.Bool.{Bool, true, false, cond, not, _||_}
 use mathlib.Core.List.{List, [], _∷_, _++_, append-assoc, append-nil}
 use native.Mathlib.Omega.{arith}
-use borrow.Author.Tests.{leb-true, leb-false, le-leb, lt-leb, ltb-false, le-ltb}
+use borrow.Author.Tests.{leb-true, leb-false, le-leb, lt-leb, ltb-true, ltb-false, le-ltb, lt-ltb}
 use lib.Dec.{leb, ltb}
 use lib.ListN.{length, take, getD, length-append}
 use lib.Seq.{take-add}
@@ -16,34 +16,39 @@ use Rattle.primitives.specs.Questions.{ask, ifZero}
 use Rattle.primitives.proofs.Over.{before-over, read-over}
 use Rattle.primitives.proofs.Rows.{both, true-is-not-false, ifZero-yes, ifZero-no}
 use Rattle.receipt.specs.Settings.{serialGood}
+use Rattle.receipt.specs.DateTime.{dateGood}
+use Rattle.receipt.specs.Amount.{amountLimit}
+use Rattle.receipt.specs.Details.{amountsWithin}
 use Rattle.receipt.specs.Compact.{compact, noEntry}
 use Rattle.receipt.specs.declared.settings.Name.{Name}
 use Rattle.receipt.specs.declared.settings.Settings.{Settings}
 use Rattle.receipt.specs.declared.entry.Entry.{Entry}
-use Rattle.journal.specs.Head.{head, headSettings, headGood, entryText, pairStart, textAt}
+use Rattle.journal.specs.Head.{head, headSettings, headGood, entryText, pairStart, textAt, startThere}
 use Rattle.journal.specs.State.{sameName, used, inEight, isIn, allGood, settingsNow}
-use Rattle.journal.specs.Step.{fresh, sound, next, renewed, serialNumber}
+use Rattle.journal.specs.Step.{fresh, sound, numberAbove, firstGood, newCounter, detailsNumberWithin, next, renewed, serialNumber}
+use Rattle.journal.specs.Issuing.{signatureSized, entryFits, textOf, issueNumberWithin}
 use Rattle.journal.specs.Changing.{changeNumber, changed, changeBuffer}
-use Rattle.journal.specs.Checking.{headNumber, found, after, entryNumber, checked, stopped, placeChecked, full, oneStep, steps, refused, accepted, lastAnswer, takeOver}
-use Rattle.journal.specs.Certificates.{EachGood, GoodSerials, SerialsGoodExactly, OneOf, UsedSerialGets30, NinthSerialGets31, ChangeAppends, ChangeTouchesNoOther, ChangedSerialIsSpelled, RunsOn, ChangeRunsOn, oneStepBefore, stepsBefore, takeOverBefore, OneSectionAsBefore}
+use Rattle.journal.specs.Checking.{headNumber, found, after, entryNumber, checked, stopped, placeChecked, startNumber, startChecked, full, oneStep, steps, refused, accepted, lastAnswer, takeOver}
+use Rattle.journal.specs.Certificates.{EachGood, GoodSerials, SerialsGoodExactly, ChangeAsks6AsIssue, BadSerialGets3, OneOf, UsedSerialGets30, NinthSerialGets31, NoRoomGets13, SerialAdded, ChangeAddsSerial, ChangeAppends, ChangeTouchesNoOther, ChangedSerialIsSpelled, RunsOn, ChangeRunsOn, oneStepBefore, stepsBefore, takeOverBefore, OneSectionAsBefore}
 use Rattle.journal.specs.Valid.{Owner, Pair, settingsFor, texts, pairTexts, placed, allPlaced, journalText, GoodOwner, Valid, headOf}
 use Rattle.journal.specs.declared.state.State.{State}
 use Rattle.journal.specs.declared.state.TakenOver.{TakenOver}
 use Rattle.journal.specs.declared.checking.Checked.{Checked}
 use Rattle.journal.specs.declared.checking.Step.{Step}
-use Rattle.journal.proofs.Serials.{same-name-is, same-name-refl, used-eight, newest-added, serials-good, Zeroed, serials-are, used-length}
+use Rattle.journal.proofs.Serials.{used-added, same-name-is, same-name-refl, used-eight, newest-added, serials-good, Zeroed, serials-are, used-length}
 use Rattle.journal.proofs.Sections.{length-start}
 use Rattle.journal.proofs.Answers.{Changeable, change-zero}
 use Rattle.journal.proofs.Touching.{outside}
 use Rattle.journal.proofs.Heads.{length-head, read-settings, read-count-at, head-good}
 use Rattle.journal.proofs.Check.{step, step-length}
-use Rattle.journal.proofs.Stepping.{full-yes, full-no, Case, end-none}
+use Rattle.journal.proofs.Stepping.{full-yes, full-no, Case, end-none, end-start}
 use Rattle.journal.proofs.Placing.{Core, startCore, AllRight, Begun, Names, length-serials}
 use Rattle.journal.proofs.Placing as placing
 use Rattle.journal.proofs.Passing.{At, typed-for, good-for, right-here, text-is, at-next, runPairs, entry-step, number-of, state-of}
 use Rattle.journal.proofs.Accepting.{step-place, step-section, Work, blank, blank-base, valid-work, valid-taken, answer-number, fresh-at, fresh-length, fresh-place, fresh-section, journal-head, entries-size}
 use Rattle.journal.proofs.Pairs.{ran}
 use Rattle.journal.proofs.OneReading.{valid-head}
+use Rattle.journal.proofs.FirstNo.{bool-no}
 
 -- ---- the serials of a state
 
@@ -94,7 +99,48 @@ one-in s ns x = ap (isIn s) (x .is) ∙ go (x .before)
     go [] = rw (same-name-refl s)
     go (n ∷ before) = ap (λ (t : Bool). sameName s n || t) (go before) ∙ or-true (sameName s n)
 
--- a row of these questions gives 30 or 31 only at its own question
+-- a row of these questions gives each number only at its own question
+row-6 : (a b c d e : Bool) → ask a 6 (ask b 3 (ask (not c) 30 (ask d 31 (ask e 13 0)))) ≡ 6 → a ≡ false
+unfolding ask
+row-6 false b c d e z = refl
+row-6 true false c d e z = absurd (omega (arith, z))
+row-6 true true true d e z = absurd (omega (arith, z))
+row-6 true true false false e z = absurd (omega (arith, z))
+row-6 true true false true false z = absurd (omega (arith, z))
+row-6 true true false true true z = absurd (omega (arith, z))
+
+row-3 : (a b c d e : Bool) → ask a 6 (ask b 3 (ask (not c) 30 (ask d 31 (ask e 13 0)))) ≡ 3 → (a ≡ true) × (b ≡ false)
+unfolding ask
+row-3 false b c d e z = absurd (omega (arith, z))
+row-3 true false c d e z = (refl, refl)
+row-3 true true true d e z = absurd (omega (arith, z))
+row-3 true true false false e z = absurd (omega (arith, z))
+row-3 true true false true false z = absurd (omega (arith, z))
+row-3 true true false true true z = absurd (omega (arith, z))
+
+row-13 : (a b c d e : Bool) → ask a 6 (ask b 3 (ask (not c) 30 (ask d 31 (ask e 13 0)))) ≡ 13
+    → (a ≡ true) × (b ≡ true) × (c ≡ false) × (d ≡ true) × (e ≡ false)
+unfolding ask
+row-13 false b c d e z = absurd (omega (arith, z))
+row-13 true false c d e z = absurd (omega (arith, z))
+row-13 true true true d e z = absurd (omega (arith, z))
+row-13 true true false false e z = absurd (omega (arith, z))
+row-13 true true false true false z = (refl, refl, refl, refl, refl)
+row-13 true true false true true z = absurd (omega (arith, z))
+
+-- and so does Issue's row
+issue-row : (a b c d e f g h : Bool) → ask a 6 (ask b 7 (ask c 8 (ask d 9 (ask e 10 (ask f 11 (ask g 12 (ask h 13 0))))))) ≡ 6 → a ≡ false
+unfolding ask
+issue-row false b c d e f g h z = refl
+issue-row true false c d e f g h z = absurd (omega (arith, z))
+issue-row true true false d e f g h z = absurd (omega (arith, z))
+issue-row true true true false e f g h z = absurd (omega (arith, z))
+issue-row true true true true false f g h z = absurd (omega (arith, z))
+issue-row true true true true true false g h z = absurd (omega (arith, z))
+issue-row true true true true true true false h z = absurd (omega (arith, z))
+issue-row true true true true true true true false z = absurd (omega (arith, z))
+issue-row true true true true true true true true z = absurd (omega (arith, z))
+
 row-30 : (a b c d e : Bool) → ask a 6 (ask b 3 (ask (not c) 30 (ask d 31 (ask e 13 0)))) ≡ 30 → (a ≡ true) × (b ≡ true) × (c ≡ true)
 unfolding ask
 row-30 false b c d e z = absurd (omega (arith, z))
@@ -113,6 +159,28 @@ row-31 true true false false e z = (refl, refl, refl, refl)
 row-31 true true false true false z = absurd (omega (arith, z))
 row-31 true true false true true z = absurd (omega (arith, z))
 
+not-in : (s : Name) (ns : List Name) → (OneOf s ns → ⊥) → isIn s ns ≡ false
+not-in s ns h = bool-no (isIn s ns) (λ e. h (in-one s ns e))
+
+in-none : (s : Name) (ns : List Name) → isIn s ns ≡ false → OneOf s ns → ⊥
+in-none s ns e h = true-is-not-false (sym e ∙ one-in s ns h)
+
+pub change-asks-6-as-issue : ChangeAsks6AsIssue
+unfolding changeNumber serialNumber issueNumberWithin detailsNumberWithin ask
+change-asks-6-as-issue st serial d sig room =
+    ((λ z. rw (row-6 (sound st room) (serialGood serial) (isIn serial (used (st .serials))) (ltb (length (used (st .serials))) 8) (leb (st .length + (8 + serial .len)) room) z)),
+    (λ z. rw (issue-row (sound st room) (numberAbove st d) (dateGood (d .date)) (amountsWithin amountLimit (d .amounts)) (firstGood st d) (newCounter st d .fits) (signatureSized sig) (entryFits st (textOf st d sig) room) z)))
+
+pub bad-serial-gets-3 : BadSerialGets3
+unfolding changeNumber serialNumber ask
+bad-serial-gets-3 =
+    record {
+      only = λ st serial room z.
+          let r = row-3 (sound st room) (serialGood serial) (isIn serial (used (st .serials))) (ltb (length (used (st .serials))) 8) (leb (st .length + (8 + serial .len)) room) z in
+          (r .0, (λ h. true-is-not-false (sym (r .1) ∙ h)));
+      always = λ st serial room s h. rw (s, bool-no (serialGood serial) h);
+    }
+
 pub used-serial-gets-30 : UsedSerialGets30
 unfolding changeNumber serialNumber ask
 used-serial-gets-30 =
@@ -130,18 +198,24 @@ ninth-serial-gets-31 =
       only = λ st serial room z.
           let us = used (st .serials) in
           let r = row-31 (sound st room) (serialGood serial) (isIn serial us) (ltb (length us) 8) (leb (st .length + (8 + serial .len)) room) z in
-          (r .0, r .1, (λ h. true-is-not-false (sym (r .2) ∙ one-in serial us h)), ltb-false (length us) 8 (r .3));
+          (r .0, r .1, in-none serial us (r .2), ltb-false (length us) 8 (r .3));
       always = λ st serial room s g h m.
           let us = used (st .serials) in
           rw (s, g, not-in serial us h, le-ltb (length us) 8 m);
     }
-  where
-    not-in : (s : Name) (ns : List Name) → (OneOf s ns → ⊥) → isIn s ns ≡ false
-    not-in s ns h = go (isIn s ns) refl
-      where
-        go : (t : Bool) → isIn s ns ≡ t → t ≡ false
-        go true e = absurd (h (in-one s ns e))
-        go false e = refl
+
+pub no-room-gets-13 : NoRoomGets13
+unfolding changeNumber serialNumber ask
+no-room-gets-13 =
+    record {
+      only = λ st serial room z.
+          let us = used (st .serials) in
+          let r = row-13 (sound st room) (serialGood serial) (isIn serial us) (ltb (length us) 8) (leb (st .length + (8 + serial .len)) room) z in
+          (r .0, r .1, in-none serial us (r .2), ltb-true (length us) 8 (r .3), leb-false _ _ (r .4));
+      always = λ st serial room s g h m l.
+          let us = used (st .serials) in
+          rw (s, g, not-in serial us h, lt-ltb (length us) 8 m, lt-leb (st .length + (8 + serial .len)) room l);
+    }
 
 -- ---- what Change writes and leaves
 
@@ -161,6 +235,18 @@ module _ (st : State) (serial : Name) (room : ℕ) (z : changeNumber st serial r
   unfolding renewed
   spelled =
       ap settingsNow state-is ∙ (λ i. record { csp = st .csp; id = st .id; serial = newest-added (st .serials) serial (answered .good) i })
+
+  serial-added : SerialAdded st serial (changed st serial room .state)
+  unfolding renewed
+  serial-added =
+      record {
+        serials = ap (λ (x : State). used (x .serials)) state-is ∙ used-added (st .serials) serial (answered .good);
+        empty = ap (λ (x : State). x .section) state-is;
+        last = ap (λ (x : State). x .place + 4) state-is ∙ (omega arith ∙ ap (λ (x : State). x .length) (sym state-is));
+      }
+
+pub change-adds-serial : ChangeAddsSerial
+change-adds-serial st serial room z = serial-added st serial room z
 
 pub changed-serial-is-spelled : ChangedSerialIsSpelled
 changed-serial-is-spelled st serial room z = spelled st serial room z
@@ -202,8 +288,8 @@ change-touches-no-other st serial buf i long h = go (changeNumber st serial (len
 
 runs-on : (st : State) (serial : Name) (k : ℕ) → RunsOn st (ifZero k (renewed st serial) st)
 unfolding ifZero renewed
-runs-on st serial zero = record { counter = refl; last = refl; issued = refl; chain = refl }
-runs-on st serial (suc k) = record { counter = refl; last = refl; issued = refl; chain = refl }
+runs-on st serial zero = record { csp = refl; id = refl; width = refl; key = refl; counter = refl; last = refl; issued = refl; chain = refl }
+runs-on st serial (suc k) = record { csp = refl; id = refl; width = refl; key = refl; counter = refl; last = refl; issued = refl; chain = refl }
 
 pub change-runs-on : ChangeRunsOn
 unfolding changed
@@ -222,6 +308,22 @@ before-end k st j f l = rw (f, le-leb (length j) (st .length) l) (sym (end-none 
 before-21 : (k : List (List ℕ)) (st : State) (j : List ℕ) → full st j ≡ true → st .length < length j → oneStepBefore k st j ≡ stopped 21 st
 unfolding oneStepBefore ask
 before-21 k st j f l = rw (f, lt-leb (length j) (st .length) l)
+
+-- bytes that start no pair got 21, too
+still-21 : (k : List (List ℕ)) (st : State) (j : List ℕ) → full st j ≡ true → st .length < length j → startThere j (st .length) ≡ false → oneStep k st j ≡ oneStepBefore k st j
+unfolding startChecked startNumber ask ifZero
+still-21 k st j f l s = end-start k st j f l ∙ (rw s (sym (before-21 k st j f l)))
+
+-- a step is the same unless a pair starts
+step-before : (k : List (List ℕ)) (st : State) (j : List ℕ) → (full st j ≡ true → st .length < length j → startThere j (st .length) ≡ true → ⊥)
+    → oneStep k st j ≡ oneStepBefore k st j
+step-before k st j h = go (full st j) (leb (length j) (st .length)) (startThere j (st .length)) refl refl refl
+  where
+    go : (t u s : Bool) → full st j ≡ t → leb (length j) (st .length) ≡ u → startThere j (st .length) ≡ s → oneStep k st j ≡ oneStepBefore k st j
+    go false u s f e q = sym (before-entry k st j f)
+    go true true s f e q = sym (before-end k st j f (leb-true _ _ e))
+    go true false true f e q = absurd (h f (leb-false _ _ e) q)
+    go true false false f e q = still-21 k st j f (leb-false _ _ e) q
 
 -- as long as there is no 21, the steps are the same
 same-step : (k : List (List ℕ)) (st : State) (j : List ℕ) → (oneStepBefore k st j .number ≡ 21 → ⊥) → oneStepBefore k st j ≡ oneStep k st j
@@ -423,4 +525,4 @@ accepted-one j key n v z =
 
 pub one-section-as-before : OneSectionAsBefore
 one-section-as-before =
-    record { answers = answers-same; pair = λ j key n v p e. answers-same j key n (λ q. omega (arith, pair-before j key n v p e, q)); one = accepted-one }
+    record { steps = step-before; answers = answers-same; pair = λ j key n v p e. answers-same j key n (λ q. omega (arith, pair-before j key n v p e, q)); one = accepted-one }

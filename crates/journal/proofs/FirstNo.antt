@@ -50,7 +50,7 @@ use Rattle.journal.proofs.Pairs.{wider, emptyPair, run-wider, run-empty
 use Rattle.journal.proofs.Registers.{fresh-holds}
 use Rattle.journal.proofs.FarPairs.{Far, far-of, so-far-of, stateThere, Stands, stands, refuse, far-entry, far-start, far-first}
 
-bool-no : (b : Bool) → (b ≡ true → ⊥) → b ≡ false
+pub bool-no : (b : Bool) → (b ≡ true → ⊥) → b ≡ false
 bool-no true h = absurd (h refl)
 bool-no false h = refl
 

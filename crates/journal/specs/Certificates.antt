@@ -9,11 +9,13 @@ use Rattle.primitives.specs.Aes.{keySchedule}
 use Rattle.primitives.specs.Questions.{ask, ifZero}
 use Rattle.receipt.specs.Settings.{serialGood}
 use Rattle.receipt.specs.declared.settings.Name.{Name}
-use Rattle.journal.specs.Head.{headSettings, pairStart}
+use Rattle.receipt.specs.declared.details.Details.{Details}
+use Rattle.journal.specs.Head.{headSettings, pairStart, startThere}
 use Rattle.journal.specs.State.{noName, used, inEight, serialsGood, settingsNow}
 use Rattle.journal.specs.Step.{fresh, sound}
+use Rattle.journal.specs.Issuing.{issueNumber}
 use Rattle.journal.specs.Changing.{changeNumber, changed, changeBuffer}
-use Rattle.journal.specs.Checking.{stopped, placeChecked, full, refused, headNumber, lastAnswer, takeOver}
+use Rattle.journal.specs.Checking.{stopped, placeChecked, full, oneStep, refused, headNumber, lastAnswer, takeOver}
 use Rattle.journal.specs.Valid.{Pair, Valid}
 use Rattle.journal.specs.declared.state.State.{State}
 use Rattle.journal.specs.declared.state.TakenOver.{TakenOver}
@@ -39,6 +41,17 @@ pub record SerialsGoodExactly : Type 0 where
 
 -- ---- what Change asks
 
+-- "Change undergoes 6 .. as Issue would": either gets 6 with the states and buffers with which the other gets 6
+abbrev pub ChangeAsks6AsIssue : Type 0
+ChangeAsks6AsIssue =
+    (st : State) (serial : Name) (d : Details) (sig : List ℕ) (room : ℕ)
+    → (changeNumber st serial room ≡ 6 → issueNumber st d sig room ≡ 6) × (issueNumber st d sig room ≡ 6 → changeNumber st serial room ≡ 6)
+
+-- 3 for a serial that is not good, with a sound state, and for nothing else
+pub record BadSerialGets3 : Type 0 where
+  pub only : (st : State) (serial : Name) (room : ℕ) → changeNumber st serial room ≡ 3 → (sound st room ≡ true) × (serialGood serial ≡ true → ⊥)
+  pub always : (st : State) (serial : Name) (room : ℕ) → sound st room ≡ true → (serialGood serial ≡ true → ⊥) → changeNumber st serial room ≡ 3
+
 -- a name is at a place of a list
 pub record OneOf (s : Name) (ns : List Name) : Type 0 where
   pub before : List Name
@@ -58,6 +71,14 @@ pub record NinthSerialGets31 : Type 0 where
       → (sound st room ≡ true) × (serialGood serial ≡ true) × (OneOf serial (used (st .serials)) → ⊥) × (8 ≤ length (used (st .serials)))
   pub always : (st : State) (serial : Name) (room : ℕ) → sound st room ≡ true → serialGood serial ≡ true → (OneOf serial (used (st .serials)) → ⊥)
       → 8 ≤ length (used (st .serials)) → changeNumber st serial room ≡ 31
+
+-- 13 for a good serial that a sound state has not had, with room for one more serial in the state but not in the buffer, and for nothing else
+pub record NoRoomGets13 : Type 0 where
+  pub only : (st : State) (serial : Name) (room : ℕ) → changeNumber st serial room ≡ 13
+      → (sound st room ≡ true) × (serialGood serial ≡ true) × (OneOf serial (used (st .serials)) → ⊥) × (length (used (st .serials)) < 8)
+      × (room < st .length + (8 + serial .len))
+  pub always : (st : State) (serial : Name) (room : ℕ) → sound st room ≡ true → serialGood serial ≡ true → (OneOf serial (used (st .serials)) → ⊥)
+      → length (used (st .serials)) < 8 → room < st .length + (8 + serial .len) → changeNumber st serial room ≡ 13
 
 -- ---- what Change writes and leaves
 
@@ -79,8 +100,21 @@ ChangedSerialIsSpelled =
     (st : State) (serial : Name) (room : ℕ) → changeNumber st serial room ≡ 0
     → settingsNow (changed st serial room .state) ≡ record { csp = st .csp; id = st .id; serial = serial }
 
--- "Counter, numbers and chain run on."
+-- the serials are those that were used, and the new one; its section is empty, and its count ends the journal
+pub record SerialAdded (before : State) (serial : Name) (after : State) : Type 0 where
+  pub serials : used (after .serials) ≡ used (before .serials) ++ (serial ∷ [])
+  pub empty : after .section ≡ 0
+  pub last : after .place + 4 ≡ after .length
+
+abbrev pub ChangeAddsSerial : Type 0
+ChangeAddsSerial = (st : State) (serial : Name) (room : ℕ) → changeNumber st serial room ≡ 0 → SerialAdded st serial (changed st serial room .state)
+
+-- "Counter, numbers and chain run on", and CSP, ID, width and key stay
 pub record RunsOn (before after : State) : Type 0 where
+  pub csp : after .csp ≡ before .csp
+  pub id : after .id ≡ before .id
+  pub width : after .width ≡ before .width
+  pub key : after .key ≡ before .key
   pub counter : after .counter ≡ before .counter
   pub last : after .last ≡ before .last
   pub issued : after .issued ≡ before .issued
@@ -107,6 +141,9 @@ takeOverBefore j key n =
 
 -- a journal of one pair is accepted exactly as before, and no answer but 21 has changed
 pub record OneSectionAsBefore : Type 0 where
+  -- a step is the same, unless bytes follow a whole section and start a pair
+  pub steps : (schedule : List (List ℕ)) (st : State) (j : List ℕ) → (full st j ≡ true → st .length < length j → startThere j (st .length) ≡ true → ⊥)
+      → oneStep schedule st j ≡ oneStepBefore schedule st j
   -- every answer but 21 is the same: number, index and state
   pub answers : (j key : List ℕ) (n : ℕ) → (takeOverBefore j key n .number ≡ 21 → ⊥) → takeOver j key n ≡ takeOverBefore j key n
   -- a journal of one pair has the same answer

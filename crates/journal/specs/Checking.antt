@@ -61,7 +61,7 @@ after st text = next st (found st text .entry .fields .details) text
 unfoldable pub entryNumber : List (List ℕ) → State → List ℕ → ℕ
 entryNumber schedule st j = ask (there j (st .length)) 15 (textNumber schedule st (textAt j (st .length)))
 
--- a step that is refused, or that reads nothing
+-- a step that reads no entry: refused, at the end, or at the start of a pair
 unfoldable pub stopped : ℕ → State → Checked
 stopped number st = record { number = number; found = noEntry; state = st }
 
