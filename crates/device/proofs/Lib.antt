@@ -9,6 +9,7 @@ pub mod ReadBackCalls
 pub mod ReadBackLaws
 pub mod Reading
 pub mod Sizes
+pub mod Slots
 pub mod Spelling
 pub mod TextAnswers
 pub mod Writers
