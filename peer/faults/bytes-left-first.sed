@@ -1,2 +1,2 @@
-# src/register.rs: bytes after the last entry asked before that entry
-s/^        let Some\(receipt\) = read_entry/        if index + 1 == count \&\& !reader.rest.is_empty() { return Err(Refused { number: 21, index: count }); }\n&/
+# src/register.rs: bytes after the last entry of a section asked before that entry
+s/^        let Some\(receipt\) = read_entry/        if state.open_receipts + 1 == count \&\& !reader.rest.is_empty() \&\& (Reader { rest: reader.rest }).pair().is_none() { return Err(Refused { number: 21, index: index + 1 }); }\n&/

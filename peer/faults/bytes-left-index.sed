@@ -1,2 +1,2 @@
 # src/register.rs: index of 21 off by one
-s/number: 21, index: count \}/number: 21, index: count.saturating_sub(1) }/
+s/ok_or\(no\(21\)\)/ok_or(Refused { number: 21, index: index.saturating_sub(1) })/

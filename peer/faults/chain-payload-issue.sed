@@ -1,2 +1,2 @@
 # src/register.rs: chain over the payload, in Issue
-s/state\.chain = chain_value\(form\);/state.chain = chain_value(payload.bytes());/
+/^(pub )?fn issue\(/,/^}/ s/state\.chain = chain_value\(form\);/state.chain = chain_value(payload.bytes());/

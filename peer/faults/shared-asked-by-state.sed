@@ -1,2 +1,2 @@
 # src/register.rs: the last byte asked again by 6
-s/self\.settings\.good\(\)\.is_ok\(\)/self.settings.good_to_open(true).is_ok()/
+s/self\.first\(\)\.good\(\)\.is_ok\(\)/self.first().good_to_open(true).is_ok()/

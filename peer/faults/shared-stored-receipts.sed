@@ -1,2 +1,2 @@
 # src/register.rs: a shared key stored as a receipt
-/^pub fn open\(/,/^}/ s/receipts: 0,/receipts: u32::from(shared),/
+s/^    Ok\(State::opened\(settings\)\)/    Ok(State { receipts: u32::from(shared), ..State::opened(settings) })/

@@ -1,2 +1,2 @@
 # src/register.rs: a journal as long as the buffer refused
-s/state\.journal_length > buffer\.len\(\) as u64/state.journal_length >= buffer.len() as u64/
+s/self\.journal_length <= buffer\.len\(\) as u64/self.journal_length < buffer.len() as u64/

@@ -1,2 +1,2 @@
-# src/register.rs: Take over asks no chain of the last entry
-s/if receipt\.chain != chain \{/if index + 1 < count \&\& receipt.chain != chain {/
+# src/register.rs: Take over asks no chain of the last entry of a section
+s/if receipt\.chain != state\.chain \{/if state.open_receipts + 1 < count \&\& receipt.chain != state.chain {/

@@ -5,9 +5,10 @@ use std::time::{Duration, Instant};
 use crate::calls::{Calls, Peer, Written};
 use crate::code::LONGEST_CODE;
 use crate::device::Library;
-use crate::layout::{DETAILS, SETTINGS, SIGNATURE, STATE, details_bytes};
+use crate::layout::{DETAILS, SETTINGS, SIGNATURE, STATE, details_bytes, state_bytes, state_of};
 use crate::line::LONGEST_LINE;
 use crate::receipt::{Date, Details, LONGEST_COMPACT, LONGEST_INPUT};
+use crate::register::State;
 
 const CSP: &[u8] = b"AT1";
 const ID: &[u8] = b"Filiale-Linz-K07";
@@ -126,11 +127,9 @@ impl Work {
         bytes
     }
 
-    /// The state of an opened register: that after the start receipt without its number and count.
+    /// The state of an opened register: that after the start receipt without its number and counts.
     fn before_the_start(&self) -> [u8; STATE] {
-        let mut state = self.started;
-        state[131..139].fill(0);
-        state
+        state_bytes(&State { last_number: 0, receipts: 0, open_receipts: 0, ..state_of(&self.started) })
     }
 
     /// One Take over of the whole journal; its bytes.

@@ -38,10 +38,14 @@ pub trait Calls {
     fn last_number(&self, state: &[u8]) -> u32;
     fn receipts(&self, state: &[u8]) -> u32;
     fn journal_length(&self, state: &[u8]) -> usize;
+    fn serials(&self, state: &[u8]) -> u32;
+    fn serial(&self, state: &[u8], which: u32, output: &mut [u8]) -> Written;
+    fn settings_in(&self, state: &[u8], which: u32, settings: &mut [u8]) -> u32;
     fn open(&self, settings: &[u8], journal: &mut [u8], state: &mut [u8]) -> u32;
     fn open_shared(&self, settings: &[u8], journal: &mut [u8], state: &mut [u8]) -> u32;
     fn prepare(&self, state: &[u8], details: &Details, output: &mut [u8]) -> Written;
     fn issue(&self, state: &mut [u8], details: &Details, signature: &[u8], journal: &mut [u8]) -> u32;
+    fn change(&self, state: &mut [u8], serial: &[u8], journal: &mut [u8]) -> u32;
     fn take_over(&self, journal: &[u8], key: &[u8], width: usize, state: &mut [u8]) -> TakenOver;
     fn read(&self, settings: &[u8], form: &[u8], details: &mut [u8], signature: &mut [u8]) -> Written;
     fn code(&self, form: &[u8], output: &mut [u8]) -> Written;
@@ -77,6 +81,18 @@ fn open(settings: &[u8], shared: bool, journal: &mut [u8], state: &mut [u8]) -> 
     };
     state.copy_from_slice(&state_bytes(&opened));
     number
+}
+
+/// A call that takes a state and writes it again, which stays as it is where the call is refused.
+fn with_state(state: &mut [u8], call: impl FnOnce(&mut State) -> Result<(), u32>) -> u32 {
+    let mut held = state_of(state);
+    match call(&mut held) {
+        Ok(()) => {
+            state.copy_from_slice(&state_bytes(&held));
+            0
+        }
+        Err(number) => number,
+    }
 }
 
 /// The bytes to the start of the output: their length, or 23.
@@ -141,6 +157,23 @@ impl Calls for Peer {
         state_of(state).journal_length as usize
     }
 
+    fn serials(&self, state: &[u8]) -> u32 {
+        state_of(state).used() as u32
+    }
+
+    fn serial(&self, state: &[u8], which: u32, output: &mut [u8]) -> Written {
+        let state = state_of(state);
+        written(put(state.serial_in(which as usize).map_or(b"", Name::shown), output))
+    }
+
+    fn settings_in(&self, state: &[u8], which: u32, settings: &mut [u8]) -> u32 {
+        if settings.len() != SETTINGS {
+            return 23;
+        }
+        settings.copy_from_slice(&settings_bytes(&state_of(state).settings_in(which as usize)));
+        0
+    }
+
     fn open(&self, settings: &[u8], journal: &mut [u8], state: &mut [u8]) -> u32 {
         open(settings, false, journal, state)
     }
@@ -154,14 +187,11 @@ impl Calls for Peer {
     }
 
     fn issue(&self, state: &mut [u8], details: &Details, signature: &[u8], journal: &mut [u8]) -> u32 {
-        let mut held = state_of(state);
-        match register::issue(&mut held, details, signature, journal) {
-            Ok(()) => {
-                state.copy_from_slice(&state_bytes(&held));
-                0
-            }
-            Err(number) => number,
-        }
+        with_state(state, |held| register::issue(held, details, signature, journal))
+    }
+
+    fn change(&self, state: &mut [u8], serial: &[u8], journal: &mut [u8]) -> u32 {
+        with_state(state, |held| register::change(held, serial, journal))
     }
 
     fn take_over(&self, journal: &[u8], key: &[u8], width: usize, state: &mut [u8]) -> TakenOver {
@@ -234,6 +264,7 @@ impl Calls for Peer {
             None => Err(22),
         })
     }
+
     fn base32(&self, data: &[u8], output: &mut [u8]) -> Written {
         written(put(&base32::padded_text(data), output))
     }

@@ -11,15 +11,18 @@ use crate::receipt::Details;
 use crate::text::hex;
 
 /// The calls in the order of the table, with the numbers that each can return.
-pub const CALLS: [(&str, &[u32]); 19] = [
+pub const CALLS: [(&str, &[u32]); 22] = [
     ("version", &[0]),
     ("settings", &[0, 1, 2, 3, 4, 23]),
     ("figures", &[0]),
+    ("serial", &[0, 23]),
+    ("settings_in", &[0, 23]),
     ("open", &[0, 1, 2, 3, 4, 5, 6]),
     ("open_shared", &[0, 1, 2, 3, 4, 5, 6, 32]),
     ("prepare", &[0, 6, 7, 8, 9, 10, 11, 13]),
     ("issue", &[0, 6, 7, 8, 9, 10, 11, 12, 13]),
-    ("take_over", &[0, 4, 6, 14, 15, 16, 17, 18, 19, 20, 21]),
+    ("change", &[0, 3, 6, 13, 30, 31]),
+    ("take_over", &[0, 4, 6, 14, 15, 16, 17, 18, 19, 20, 21, 30, 31]),
     ("read", &[0, 1, 2, 3, 4, 16, 23]),
     ("code", &[0, 22, 23]),
     ("uncode", &[0, 23, 24]),
@@ -173,7 +176,7 @@ impl Compare {
         Ok(number)
     }
 
-    /// The four figures that a state says.
+    /// The five figures that a state says.
     pub fn figures(&mut self, state: &[u8]) -> Compared<()> {
         self.run(
             "figures",
@@ -182,11 +185,33 @@ impl Compare {
             None,
             |side, [state]| {
                 let state = state.get();
-                (side.counter(state), side.last_number(state), side.receipts(state), side.journal_length(state))
+                let numbers = [side.last_number(state), side.receipts(state), side.serials(state)];
+                (side.counter(state), numbers, side.journal_length(state))
             },
             |_| 0,
         )?;
         Ok(())
+    }
+
+    /// One of the serials of a state.
+    pub fn serial(&mut self, state: &[u8], which: u32, output: &mut [u8]) -> Compared<Written> {
+        self.text_call("serial", &format_args!("which {which}"), ("state", state), output, |side, state, output| {
+            side.serial(state, which, output)
+        })
+    }
+
+    /// The settings with one of the serials of a state; `settings` is what lies there before.
+    pub fn settings_in(&mut self, state: &[u8], which: u32, settings: &mut [u8]) -> Compared<u32> {
+        let (number, after) = self.run(
+            "settings_in",
+            &format_args!("which {which}"),
+            [("state", state), ("settings", settings)],
+            None,
+            |side, [state, settings]| side.settings_in(state.get(), which, settings.get_mut()),
+            |number| number,
+        )?;
+        settings.copy_from_slice(after[1].get());
+        Ok(number)
     }
 
     pub fn open(&mut self, settings: &[u8], journal: &mut [u8], state: &mut [u8]) -> Compared<u32> {
@@ -251,6 +276,20 @@ impl Compare {
             |side, [state, signature, journal]| {
                 side.issue(state.get_mut(), details, signature.get(), journal.get_mut())
             },
+            |number| number,
+        )?;
+        state.copy_from_slice(after[0].get());
+        journal.copy_from_slice(after[2].get());
+        Ok(number)
+    }
+
+    pub fn change(&mut self, state: &mut [u8], serial: &[u8], journal: &mut [u8]) -> Compared<u32> {
+        let (number, after) = self.run(
+            "change",
+            &format_args!(""),
+            [("state", state), ("serial", serial), ("journal", journal)],
+            None,
+            |side, [state, serial, journal]| side.change(state.get_mut(), serial.get(), journal.get_mut()),
             |number| number,
         )?;
         state.copy_from_slice(after[0].get());

@@ -17,6 +17,11 @@ unsafe extern "C" {
     fn ditgrux_last_number(state: *const u8, state_length: usize) -> u32;
     fn ditgrux_receipts(state: *const u8, state_length: usize) -> u32;
     fn ditgrux_journal_length(state: *const u8, state_length: usize) -> usize;
+    fn ditgrux_serials(state: *const u8, state_length: usize) -> u32;
+    fn ditgrux_serial(state: *const u8, state_length: usize, which: u32, output: *mut u8, output_length: usize,
+        length: *mut usize) -> u32;
+    fn ditgrux_settings_in(state: *const u8, state_length: usize, which: u32, settings: *mut u8,
+        settings_length: usize) -> u32;
     fn ditgrux_open(settings: *const u8, settings_length: usize, journal: *mut u8, journal_length: usize,
         state: *mut u8, state_length: usize) -> u32;
     fn ditgrux_open_shared(settings: *const u8, settings_length: usize, journal: *mut u8, journal_length: usize,
@@ -27,6 +32,8 @@ unsafe extern "C" {
     fn ditgrux_issue(state: *mut u8, state_length: usize, number: u32, year: u32, month: u32, day: u32, hour: u32,
         minute: u32, second: u32, standard: i64, reduced_1: i64, reduced_2: i64, zero: i64, special: i64, kind: u32,
         signature: *const u8, signature_length: usize, journal: *mut u8, journal_length: usize) -> u32;
+    fn ditgrux_change(state: *mut u8, state_length: usize, serial: *const u8, serial_length: usize, journal: *mut u8,
+        journal_length: usize) -> u32;
     fn ditgrux_take_over(journal: *const u8, journal_length: usize, key: *const u8, key_length: usize, width: usize,
         state: *mut u8, state_length: usize, index: *mut u32) -> u32;
     fn ditgrux_read(settings: *const u8, settings_length: usize, form: *const u8, form_length: usize, details: *mut u8,
@@ -114,6 +121,22 @@ impl Calls for Library {
         unsafe { ditgrux_journal_length(state.as_ptr(), state.len()) }
     }
 
+    fn serials(&self, state: &[u8]) -> u32 {
+        unsafe { ditgrux_serials(state.as_ptr(), state.len()) }
+    }
+
+    fn serial(&self, state: &[u8], which: u32, output: &mut [u8]) -> Written {
+        let mut length = UNWRITTEN_LENGTH;
+        let number = unsafe {
+            ditgrux_serial(state.as_ptr(), state.len(), which, output.as_mut_ptr(), output.len(), &mut length)
+        };
+        Written { number, length }
+    }
+
+    fn settings_in(&self, state: &[u8], which: u32, settings: &mut [u8]) -> u32 {
+        unsafe { ditgrux_settings_in(state.as_ptr(), state.len(), which, settings.as_mut_ptr(), settings.len()) }
+    }
+
     fn open(&self, settings: &[u8], journal: &mut [u8], state: &mut [u8]) -> u32 {
         open_call(ditgrux_open, settings, journal, state)
     }
@@ -171,6 +194,19 @@ impl Calls for Library {
                 details.kind,
                 signature.as_ptr(),
                 signature.len(),
+                journal.as_mut_ptr(),
+                journal.len(),
+            )
+        }
+    }
+
+    fn change(&self, state: &mut [u8], serial: &[u8], journal: &mut [u8]) -> u32 {
+        unsafe {
+            ditgrux_change(
+                state.as_mut_ptr(),
+                state.len(),
+                serial.as_ptr(),
+                serial.len(),
                 journal.as_mut_ptr(),
                 journal.len(),
             )
@@ -252,6 +288,7 @@ impl Calls for Library {
             unsafe { ditgrux_unbase64(url, text.as_ptr(), text.len(), output.as_mut_ptr(), output.len(), &mut length) };
         Written { number, length }
     }
+
     fn base32(&self, data: &[u8], output: &mut [u8]) -> Written {
         text_call(ditgrux_base32, data, output)
     }

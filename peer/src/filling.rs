@@ -101,11 +101,11 @@ impl<'a> Filling<'a> {
     /// The journal with one more receipt, whatever its amounts are.
     fn with(&self, details: &Details) -> Vec<u8> {
         let mut journal = Journal::of(self.whole());
-        let place = journal.entries.len();
-        journal.entries.push(Entry::with(self.settings, &(*details, Vec::new())));
-        journal.count += 1;
-        journal.counters_right(place, &self.settings.key, self.width());
-        journal.chain_right(place);
+        let pair = &mut journal.pairs[0];
+        let place = pair.entries.len();
+        pair.entries.push(Entry::with(self.settings, &(*details, Vec::new())));
+        pair.count += 1;
+        journal.all_right(place, self.settings);
         journal.bytes()
     }
 }

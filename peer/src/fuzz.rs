@@ -7,7 +7,7 @@ use crate::base32::padded_letters;
 use crate::calls::{Calls, Peer};
 use crate::compare::{Compare, Compared, demand};
 use crate::layout::{DETAILS, SETTINGS, SIGNATURE, STATE};
-use crate::model::Journal;
+use crate::model::{Journal, Pair, SERIAL};
 use crate::receipt::{Date, Details, LONGEST_INPUT};
 
 const KEY: [u8; 32] = [7; 32];
@@ -16,7 +16,7 @@ const WIDTH: usize = 5;
 /// Does one input.
 pub fn one_input(compare: &mut Compare, input: &[u8]) -> Compared<()> {
     let Some((choice, rest)) = input.split_first() else { return Ok(()) };
-    match choice % 11 {
+    match choice % 13 {
         0 => take_over(compare, rest),
         1 => edited_journal(compare, rest),
         2 => code(compare, rest),
@@ -27,7 +27,9 @@ pub fn one_input(compare: &mut Compare, input: &[u8]) -> Compared<()> {
         7 => line(compare, rest),
         8 => unline(compare, rest),
         9 => base32(compare, rest),
-        _ => unbase32(compare, rest),
+        10 => unbase32(compare, rest),
+        11 => change(compare, rest),
+        _ => edited_pairs(compare, rest),
     }
 }
 
@@ -44,21 +46,22 @@ fn take_over(compare: &mut Compare, input: &[u8]) -> Compared<()> {
 fn edited_journal(compare: &mut Compare, input: &[u8]) -> Compared<()> {
     let Some((repair, mut rest)) = input.split_first() else { return Ok(()) };
     let mut journal = valid_journal().clone();
-    let entries = journal.entries.len();
+    let pair = &mut journal.pairs[0];
+    let entries = pair.entries.len();
     let mut first = entries;
     while let [entry, part, length, after @ ..] = rest {
         let place = *entry as usize % entries;
         let (text, after) = after.split_at(after.len().min(*length as usize));
         rest = after;
         first = first.min(place);
-        let entry = &mut journal.entries[place];
+        let entry = &mut pair.entries[place];
         match *part {
             field @ 0..12 => entry.fields[field as usize] = text.to_vec(),
             12 => entry.header = text.to_vec(),
             13 => entry.lead = text.to_vec(),
             14 => entry.signature = text.to_vec(),
             15 => entry.raw = Some(text.to_vec()),
-            16 => journal.count = text.iter().fold(0, |count, &byte| count << 8 | byte as u32),
+            16 => pair.count = text.iter().fold(0, |count, &byte| count << 8 | byte as u32),
             _ => {
                 let mut raw = entry.form();
                 for pair in text.as_chunks::<2>().0 {
@@ -90,7 +93,7 @@ fn edited_journal(compare: &mut Compare, input: &[u8]) -> Compared<()> {
 
 fn read_entries(compare: &mut Compare, journal: &Journal) -> Compared<()> {
     let settings = valid_settings();
-    for entry in &journal.entries {
+    for entry in journal.entries() {
         compare.read(&settings, &entry.form(), &mut [0xaa; DETAILS], &mut [0xaa; SIGNATURE])?;
     }
     Ok(())
@@ -117,6 +120,75 @@ fn valid_journal() -> &'static Journal {
         }
         Journal::of(&buffer[..Peer.journal_length(&state)])
     })
+}
+
+/// Edits of a valid journal of pairs: three bytes each (pair, part, length) and the new bytes of that part. Then nothing, the
+/// chain, or counters and chain, are made right, and the journal is taken over.
+fn edited_pairs(compare: &mut Compare, input: &[u8]) -> Compared<()> {
+    let Some((repair, mut rest)) = input.split_first() else { return Ok(()) };
+    let mut journal = valid_pairs().clone();
+    let mut after = Vec::new();
+    while let [pair, part, length, tail @ ..] = rest {
+        let pairs = journal.pairs.len();
+        let place = *pair as usize % pairs;
+        let (text, tail) = tail.split_at(tail.len().min(*length as usize));
+        rest = tail;
+        let pair = &mut journal.pairs[place];
+        match part % 6 {
+            0 => pair.serial = text.to_vec(),
+            1 => pair.count = text.iter().fold(0, |count, &byte| count << 8 | byte as u32),
+            2 => pair.entries.iter_mut().for_each(|entry| entry.fields[SERIAL] = text.to_vec()),
+            3 if pairs < 12 => journal.pairs.insert(place + 1, Pair::empty(text)),
+            4 => {
+                let entry = pair.entries.pop();
+                journal.pairs[0].entries.extend(entry);
+            }
+            _ => after.extend(text),
+        }
+    }
+    match repair % 3 {
+        0 => (),
+        1 => journal.chain_right(0),
+        _ => {
+            journal.counters_right(0, &KEY, WIDTH);
+            journal.chain_right(0);
+        }
+    }
+    compare.take_over(&[journal.bytes(), after].concat(), &KEY, WIDTH, &mut [0xaa; STATE])?;
+    Ok(())
+}
+
+/// The four receipts of the valid journal in four pairs, the first of them and the third without any.
+fn valid_pairs() -> &'static Journal {
+    static JOURNAL: OnceLock<Journal> = OnceLock::new();
+    JOURNAL.get_or_init(|| {
+        let mut journal = valid_journal().clone();
+        let mut second = Pair { serial: b"2b".to_vec(), ..journal.pairs[0].clone() };
+        let last = second.entries.split_off(2);
+        let mut fourth = Pair { serial: b"0".to_vec(), count: 2, entries: last };
+        second.count = 2;
+        for pair in [&mut second, &mut fourth] {
+            let serial = pair.serial.clone();
+            pair.entries.iter_mut().for_each(|entry| entry.fields[SERIAL] = serial.clone());
+        }
+        journal.pairs = vec![Pair::empty(b"2a"), second, Pair::empty(b"f00d"), fourth];
+        journal.chain_right(0);
+        journal
+    })
+}
+
+/// 447 bytes of state, the size of the buffer in two bytes, and a serial.
+fn change(compare: &mut Compare, input: &[u8]) -> Compared<()> {
+    let Some((state, rest)) = input.split_at_checked(STATE) else { return Ok(()) };
+    let Some(([high, low], serial)) = rest.split_first_chunk() else { return Ok(()) };
+    compare.figures(state)?;
+    for which in 0..9 {
+        compare.serial(state, which, &mut [0xaa; 32])?;
+        compare.settings_in(state, which, &mut [0xaa; SETTINGS])?;
+    }
+    let mut journal = vec![0xaa; u16::from_be_bytes([*high, *low]) as usize % 1000];
+    compare.change(&mut state.to_vec(), serial, &mut journal)?;
+    Ok(())
 }
 
 /// The room in the output, and a compact form.
@@ -146,7 +218,7 @@ fn unbase64(compare: &mut Compare, input: &[u8]) -> Compared<()> {
     Ok(())
 }
 
-/// 155 bytes of state, the room after the journal in two bytes, number, date, kind and amounts, and the signature.
+/// 447 bytes of state, the size of the buffer in two bytes, number, date, kind and amounts, and the signature.
 fn issue(compare: &mut Compare, input: &[u8]) -> Compared<()> {
     let Some((state, rest)) = input.split_at_checked(STATE) else { return Ok(()) };
     let Some((figures, signature)) = rest.split_at_checked(2 + 4 + 2 + 5 + 1 + 40) else { return Ok(()) };

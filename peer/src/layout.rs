@@ -1,13 +1,23 @@
-//! Settings, state and details as the bytes of the C interface: numbers big-endian. The state begins with the settings.
+//! Settings, state and details as the bytes of the C interface: numbers big-endian. A name is 32 bytes and its length in
+//! eight.
 //!
 //! ```text
 //!     0    3  CSP
-//!     3   32  register ID            35    8  its length
-//!    43   32  serial                 75    8  its length
-//!    83    8  width                  91   32  key
-//!   123    8  counter in cents      131    4  last receipt number
-//!   135    4  receipts issued       139    8  chain value
-//!   147    8  length of the journal
+//!     3   40  register ID             43   40  serial
+//!    83    8  width                   91   32  key
+//! ```
+//!
+//! The state:
+//!
+//! ```text
+//!     0    3  CSP
+//!     3   40  register ID             43  320  eight serials
+//!   363    8  width                  371   32  key
+//!   403    8  counter in cents       411    4  last receipt number
+//!   415    4  receipts issued        419    8  chain value
+//!   427    8  length of the journal
+//!   435    4  receipts in the open section
+//!   439    8  place of its count
 //! ```
 //!
 //! The details of a receipt, with four bytes for each part of the date and eight for each amount:
@@ -22,10 +32,10 @@ use crate::register::State;
 use crate::settings::{Name, Settings};
 
 /// The version of these layouts.
-pub const VERSION: u32 = 1;
+pub const VERSION: u32 = 2;
 
 pub const SETTINGS: usize = 123;
-pub const STATE: usize = 155;
+pub const STATE: usize = 447;
 pub const DETAILS: usize = 72;
 pub const SIGNATURE: usize = 64;
 
@@ -37,6 +47,18 @@ fn put(bytes: &mut [u8], place: usize, part: &[u8]) {
     bytes[place..place + part.len()].copy_from_slice(part);
 }
 
+/// The bytes of a name with its length.
+const NAME: usize = 40;
+
+fn name(bytes: &[u8], place: usize) -> Name {
+    Name { bytes: part(bytes, place), length: u64::from_be_bytes(part(bytes, place + 32)) }
+}
+
+fn put_name(bytes: &mut [u8], place: usize, name: &Name) {
+    put(bytes, place, &name.bytes);
+    put(bytes, place + 32, &name.length.to_be_bytes());
+}
+
 /// The settings that any 123 bytes say; all zero where there are more or fewer.
 pub fn settings_of(bytes: &[u8]) -> Settings {
     if bytes.len() != SETTINGS {
@@ -44,8 +66,8 @@ pub fn settings_of(bytes: &[u8]) -> Settings {
     }
     Settings {
         csp: part(bytes, 0),
-        id: Name { bytes: part(bytes, 3), length: u64::from_be_bytes(part(bytes, 35)) },
-        serial: Name { bytes: part(bytes, 43), length: u64::from_be_bytes(part(bytes, 75)) },
+        id: name(bytes, 3),
+        serial: name(bytes, 43),
         width: u64::from_be_bytes(part(bytes, 83)),
         key: part(bytes, 91),
     }
@@ -54,38 +76,50 @@ pub fn settings_of(bytes: &[u8]) -> Settings {
 pub fn settings_bytes(settings: &Settings) -> [u8; SETTINGS] {
     let mut bytes = [0; SETTINGS];
     put(&mut bytes, 0, &settings.csp);
-    put(&mut bytes, 3, &settings.id.bytes);
-    put(&mut bytes, 35, &settings.id.length.to_be_bytes());
-    put(&mut bytes, 43, &settings.serial.bytes);
-    put(&mut bytes, 75, &settings.serial.length.to_be_bytes());
+    put_name(&mut bytes, 3, &settings.id);
+    put_name(&mut bytes, 43, &settings.serial);
     put(&mut bytes, 83, &settings.width.to_be_bytes());
     put(&mut bytes, 91, &settings.key);
     bytes
 }
 
-/// The state that any 155 bytes say; the unopened one where there are more or fewer.
+/// The state that any 447 bytes say; the unopened one where there are more or fewer.
 pub fn state_of(bytes: &[u8]) -> State {
     if bytes.len() != STATE {
         return State::default();
     }
     State {
-        settings: settings_of(&bytes[..SETTINGS]),
-        counter: i64::from_be_bytes(part(bytes, 123)),
-        last_number: u32::from_be_bytes(part(bytes, 131)),
-        receipts: u32::from_be_bytes(part(bytes, 135)),
-        chain: part(bytes, 139),
-        journal_length: u64::from_be_bytes(part(bytes, 147)),
+        csp: part(bytes, 0),
+        id: name(bytes, 3),
+        serials: std::array::from_fn(|i| name(bytes, 43 + NAME * i)),
+        width: u64::from_be_bytes(part(bytes, 363)),
+        key: part(bytes, 371),
+        counter: i64::from_be_bytes(part(bytes, 403)),
+        last_number: u32::from_be_bytes(part(bytes, 411)),
+        receipts: u32::from_be_bytes(part(bytes, 415)),
+        chain: part(bytes, 419),
+        journal_length: u64::from_be_bytes(part(bytes, 427)),
+        open_receipts: u32::from_be_bytes(part(bytes, 435)),
+        open_place: u64::from_be_bytes(part(bytes, 439)),
     }
 }
 
 pub fn state_bytes(state: &State) -> [u8; STATE] {
     let mut bytes = [0; STATE];
-    put(&mut bytes, 0, &settings_bytes(&state.settings));
-    put(&mut bytes, 123, &state.counter.to_be_bytes());
-    put(&mut bytes, 131, &state.last_number.to_be_bytes());
-    put(&mut bytes, 135, &state.receipts.to_be_bytes());
-    put(&mut bytes, 139, &state.chain);
-    put(&mut bytes, 147, &state.journal_length.to_be_bytes());
+    put(&mut bytes, 0, &state.csp);
+    put_name(&mut bytes, 3, &state.id);
+    for (i, serial) in state.serials.iter().enumerate() {
+        put_name(&mut bytes, 43 + NAME * i, serial);
+    }
+    put(&mut bytes, 363, &state.width.to_be_bytes());
+    put(&mut bytes, 371, &state.key);
+    put(&mut bytes, 403, &state.counter.to_be_bytes());
+    put(&mut bytes, 411, &state.last_number.to_be_bytes());
+    put(&mut bytes, 415, &state.receipts.to_be_bytes());
+    put(&mut bytes, 419, &state.chain);
+    put(&mut bytes, 427, &state.journal_length.to_be_bytes());
+    put(&mut bytes, 435, &state.open_receipts.to_be_bytes());
+    put(&mut bytes, 439, &state.open_place.to_be_bytes());
     bytes
 }
 

@@ -1,11 +1,13 @@
 //! A journal and a code in their parts, to be changed and put together again.
 
+use std::ops::Range;
+
 use crate::crypto::Aes256;
 use crate::receipt::{
     Details, FAILURE, HEADER, Kind, chain_value, counter_after, counter_iv, encrypt_counter, push_date, read_cents,
     read_compact,
 };
-use crate::settings::Settings;
+use crate::settings::{Name, Settings};
 use crate::text::Text;
 use crate::{base32, base64};
 
@@ -35,6 +37,7 @@ pub type Given = (Details, Vec<u8>);
 pub const NUMBER: usize = 2;
 pub const FIRST_AMOUNT: usize = 4;
 pub const COUNTER: usize = 9;
+pub const SERIAL: usize = 10;
 pub const CHAIN: usize = 11;
 
 #[derive(Clone)]
@@ -192,25 +195,93 @@ pub fn joined<T: AsRef<[u8]>>(texts: &[T]) -> Vec<u8> {
     bytes
 }
 
+/// A serial, and the receipts that have it.
 #[derive(Clone)]
-pub struct Journal {
-    pub csp: Vec<u8>,
-    pub id: Vec<u8>,
+pub struct Pair {
     pub serial: Vec<u8>,
+    /// The receipts count, whatever the entries are.
     pub count: u32,
     pub entries: Vec<Entry>,
 }
 
-impl Journal {
-    /// The journal of these receipts, whatever their amounts and numbers are: counters and chain are right.
-    pub fn with(settings: &Settings, receipts: &[Given]) -> Journal {
-        let mut journal = Journal {
-            csp: settings.csp.to_vec(),
-            id: settings.id().to_vec(),
+impl Pair {
+    /// A pair of these receipts; chain fields and counter fields are empty.
+    pub fn with(settings: &Settings, receipts: &[Given]) -> Pair {
+        Pair {
             serial: settings.serial().to_vec(),
             count: receipts.len() as u32,
             entries: receipts.iter().map(|given| Entry::with(settings, given)).collect(),
+        }
+    }
+
+    /// A pair without receipts.
+    pub fn empty(serial: &[u8]) -> Pair {
+        Pair { serial: serial.to_vec(), count: 0, entries: Vec::new() }
+    }
+}
+
+/// Where a pair stands in a journal: the serial's count, the receipts count, the entries with their lengths, and the end.
+#[derive(Clone, Debug)]
+pub struct PairPlaces {
+    pub start: usize,
+    pub count: usize,
+    pub entries: Vec<Range<usize>>,
+    pub end: usize,
+}
+
+impl PairPlaces {
+    /// Where the serial stands.
+    pub fn serial(&self) -> Range<usize> {
+        self.start + 4..self.count
+    }
+}
+
+fn number_at(bytes: &[u8], place: usize, length: usize) -> usize {
+    bytes[place..place + length].iter().fold(0, |number, &byte| number << 8 | byte as usize)
+}
+
+/// The pairs of a valid journal, as the C header walks them.
+pub fn pair_places(journal: &[u8]) -> Vec<PairPlaces> {
+    let mut pairs = Vec::new();
+    let mut at = 0;
+    for _ in 0..2 {
+        at += 4 + number_at(journal, at, 4);
+    }
+    while at < journal.len() {
+        let start = at;
+        let count = start + 4 + number_at(journal, start, 4);
+        at = count + 4;
+        let mut entries = Vec::new();
+        for _ in 0..number_at(journal, count, 4) {
+            let end = at + 2 + number_at(journal, at, 2);
+            entries.push(at..end);
+            at = end;
+        }
+        pairs.push(PairPlaces { start, count, entries, end: at });
+    }
+    pairs
+}
+
+#[derive(Clone)]
+pub struct Journal {
+    pub csp: Vec<u8>,
+    pub id: Vec<u8>,
+    pub pairs: Vec<Pair>,
+}
+
+impl Journal {
+    /// The journal of these receipts in one pair, whatever their amounts and numbers are: counters and chain are right.
+    pub fn with(settings: &Settings, receipts: &[Given]) -> Journal {
+        Journal::with_pairs(settings, &[(settings.serial().to_vec(), receipts.to_vec())])
+    }
+
+    /// The journal of these pairs, each of a serial and its receipts.
+    pub fn with_pairs(settings: &Settings, pairs: &[(Vec<u8>, Vec<Given>)]) -> Journal {
+        let pair = |(serial, receipts): &(Vec<u8>, Vec<Given>)| {
+            Pair::with(&Settings { serial: Name::of(serial), ..*settings }, receipts)
         };
+        let mut journal =
+            Journal { csp: settings.csp.to_vec(), id: settings.id().to_vec(), pairs: pairs.iter().map(pair).collect() };
         journal.counters_right(0, &settings.key, settings.width as usize);
         journal.chain_right(0);
         journal
@@ -218,49 +289,73 @@ impl Journal {
 
     /// The parts of a valid journal.
     pub fn of(journal: &[u8]) -> Journal {
-        let mut rest = journal;
-        let mut take = |length: usize| {
-            let (taken, after) = rest.split_at(length);
-            rest = after;
-            taken.to_vec()
+        let places = pair_places(journal);
+        let pair = |places: &PairPlaces| Pair {
+            serial: journal[places.serial()].to_vec(),
+            count: places.entries.len() as u32,
+            entries: places.entries.iter().map(|entry| Entry::of(&journal[entry.start + 2..entry.end])).collect(),
         };
-        let number = |bytes: Vec<u8>| bytes.iter().fold(0usize, |number, &byte| number << 8 | byte as usize);
-        let [csp, id, serial] = std::array::from_fn(|_| {
-            let length = number(take(4));
-            take(length)
-        });
-        let count = number(take(4));
-        let entries = (0..count)
-            .map(|_| {
-                let length = number(take(2));
-                Entry::of(&take(length))
-            })
-            .collect();
-        Journal { csp, id, serial, count: count as u32, entries }
+        let id = 7 + 4..places[0].start;
+        Journal { csp: journal[4..7].to_vec(), id: journal[id].to_vec(), pairs: places.iter().map(pair).collect() }
     }
 
     pub fn bytes(&self) -> Vec<u8> {
         let mut bytes = Vec::new();
-        for section in [&self.csp, &self.id, &self.serial] {
-            bytes.extend((section.len() as u32).to_be_bytes());
-            bytes.extend(section);
-        }
-        bytes.extend(self.count.to_be_bytes());
-        for entry in &self.entries {
-            let form = entry.form();
-            bytes.extend((form.len() as u16).to_be_bytes());
-            bytes.extend(form);
+        push_section(&mut bytes, &self.csp);
+        push_section(&mut bytes, &self.id);
+        for pair in &self.pairs {
+            push_section(&mut bytes, &pair.serial);
+            bytes.extend(pair.count.to_be_bytes());
+            for entry in &pair.entries {
+                let form = entry.form();
+                bytes.extend((form.len() as u16).to_be_bytes());
+                bytes.extend(form);
+            }
         }
         bytes
     }
 
+    /// The entries of all pairs.
+    pub fn entries(&self) -> Vec<&Entry> {
+        self.pairs.iter().flat_map(|pair| &pair.entries).collect()
+    }
+
+    /// The entries of all pairs, to be changed.
+    pub fn entries_mut(&mut self) -> Vec<&mut Entry> {
+        self.pairs.iter_mut().flat_map(|pair| &mut pair.entries).collect()
+    }
+
+    /// One of all entries.
+    pub fn entry(&mut self, index: usize) -> &mut Entry {
+        let (pair, place) = self.place(index);
+        &mut self.pairs[pair].entries[place]
+    }
+
+    /// The pair in which this one of all entries stands, and its place there.
+    pub fn place(&self, index: usize) -> (usize, usize) {
+        let mut place = index;
+        for (i, pair) in self.pairs.iter().enumerate() {
+            if place < pair.entries.len() {
+                return (i, place);
+            }
+            place -= pair.entries.len();
+        }
+        panic!("no entry {index}");
+    }
+
+    /// How many entries stand before this pair.
+    pub fn before(&self, pair: usize) -> usize {
+        self.pairs[..pair].iter().map(|pair| pair.entries.len()).sum()
+    }
+
     /// Makes the chain fields right from this entry on, raw entries aside.
     pub fn chain_right(&mut self, from: usize) {
-        for i in from..self.entries.len() {
-            let previous = if i == 0 { self.id.clone() } else { self.entries[i - 1].form() };
-            if let Some(field) = self.entries[i].fields.get_mut(CHAIN) {
+        let mut previous = self.id.clone();
+        for (i, entry) in self.entries_mut().into_iter().enumerate() {
+            if let Some(field) = entry.fields.get_mut(CHAIN).filter(|_| i >= from) {
                 *field = padded_text(&chain_value(&previous));
             }
+            previous = entry.form();
         }
     }
 
@@ -268,14 +363,27 @@ impl Journal {
     /// bytes.
     pub fn counters_right(&mut self, from: usize, key: &[u8; 32], width: usize) {
         let aes = Aes256::new(key);
+        let id = self.id.clone();
         let mut counter = 0;
-        for (i, entry) in self.entries.iter_mut().enumerate() {
+        for (i, entry) in self.entries_mut().into_iter().enumerate() {
             let kind = entry.kind();
             counter = counter_after(counter, kind, &entry.amounts()) as i64;
             if i >= from && kind == Kind::Standard && entry.fields.len() > COUNTER {
-                let iv = counter_iv(&self.id, &entry.fields[NUMBER]);
+                let iv = counter_iv(&id, &entry.fields[NUMBER]);
                 entry.fields[COUNTER] = padded_text(&encrypt_counter(&aes, &iv, counter, width)[..width]);
             }
         }
     }
+
+    /// Makes counters and chain right from this entry on.
+    pub fn all_right(&mut self, from: usize, settings: &Settings) {
+        self.counters_right(from, &settings.key, settings.width as usize);
+        self.chain_right(from);
+    }
+}
+
+/// A section of bytes after its count.
+fn push_section(bytes: &mut Vec<u8>, section: &[u8]) {
+    bytes.extend((section.len() as u32).to_be_bytes());
+    bytes.extend(section);
 }

@@ -1,5 +1,5 @@
-//! A register: open, prepare, issue, take over, and read. The questions stand in the order of the paper, those of read in
-//! that of the C header; `Err` holds the number of the first one that is answered by "no".
+//! A register: open, prepare, issue, change, take over, and read. The questions stand in the order of the paper, those of
+//! read in that of the C header; `Err` holds the number of the first one that is answered by "no".
 
 use crate::crypto::Aes256;
 use crate::receipt::{
@@ -8,24 +8,102 @@ use crate::receipt::{
 };
 use crate::settings::{Name, Number, Settings, csp_good, id_good, serial_good, width_good};
 
+/// So many serials a register can have, one after the other.
+pub const SERIALS: usize = 8;
+
 /// The state of a register. Any values are possible; the default is the unopened state.
 #[derive(Clone, Copy, Debug, Default, PartialEq, Eq)]
 pub struct State {
-    pub settings: Settings,
+    pub csp: [u8; 3],
+    pub id: Name,
+    /// Those used, the newest last, then zeros.
+    pub serials: [Name; SERIALS],
+    /// N, the bytes of the counter.
+    pub width: u64,
+    pub key: [u8; 32],
     pub counter: i64,
     pub last_number: u32,
+    /// Receipts issued, in all sections.
     pub receipts: u32,
     pub chain: [u8; 8],
     pub journal_length: u64,
+    /// The receipts in the open section.
+    pub open_receipts: u32,
+    /// The place of the open section's count in the journal.
+    pub open_place: u64,
 }
 
 impl State {
-    /// Question 6 without the buffer: settings good, counter fits, receipts ≤ last number, head ≤ journal length.
+    /// The state of a register that was just opened with good settings.
+    pub fn opened(settings: &Settings) -> State {
+        let mut state = State {
+            csp: settings.csp,
+            id: settings.id,
+            width: settings.width,
+            key: settings.key,
+            chain: chain_value(settings.id()),
+            journal_length: settings.head_length() as u64,
+            open_place: settings.head_length() as u64 - 4,
+            ..State::default()
+        };
+        state.serials[0] = settings.serial;
+        state
+    }
+
+    /// How many serials are used: those before the first of length 0.
+    pub fn used(&self) -> usize {
+        self.serials.iter().position(|serial| serial.length == 0).unwrap_or(SERIALS)
+    }
+
+    /// A serial that is used, by its place from 0.
+    pub fn serial_in(&self, which: usize) -> Option<&Name> {
+        self.serials[..self.used()].get(which)
+    }
+
+    /// The settings with one of the serials, by its place from 0; with an empty serial where there is no such one.
+    pub fn settings_in(&self, which: usize) -> Settings {
+        let serial = self.serial_in(which).copied().unwrap_or_default();
+        Settings { csp: self.csp, id: self.id, serial, width: self.width, key: self.key }
+    }
+
+    /// The settings with the serial of the head.
+    pub fn first(&self) -> Settings {
+        self.settings_in(0)
+    }
+
+    /// The settings with the serial that receipts have now.
+    pub fn newest(&self) -> Settings {
+        self.settings_in(self.used().saturating_sub(1))
+    }
+
+    /// One to eight good serials with zeros after them?
+    fn serials_good(&self) -> bool {
+        let (used, after) = self.serials.split_at(self.used());
+        !used.is_empty()
+            && used.iter().all(|serial| serial.text().is_some_and(serial_good))
+            && after.iter().all(|serial| *serial == Name::default())
+    }
+
+    /// Does the count of the open section end within the journal length?
+    fn count_within(&self) -> bool {
+        self.open_place.checked_add(4).is_some_and(|end| end <= self.journal_length)
+    }
+
+    /// Question 6 without the buffer: settings and serials good, counter fits, receipts ≤ last number, head ≤ journal
+    /// length, receipts in the open section ≤ receipts, and its count within the journal.
     fn sound(&self) -> bool {
-        self.settings.good().is_ok()
-            && counter_fits(self.counter as i128, self.settings.width)
+        self.first().good().is_ok()
+            && self.serials_good()
+            && counter_fits(self.counter as i128, self.width)
             && self.receipts <= self.last_number
-            && self.settings.head_length() as u64 <= self.journal_length
+            && self.first().head_length() as u64 <= self.journal_length
+            && self.open_receipts <= self.receipts
+            && self.count_within()
+    }
+
+    /// Question 6 for a journal in this buffer.
+    fn sound_in(&self, buffer: &[u8]) -> bool {
+        self.sound() && self.journal_length <= buffer.len() as u64
     }
 
     /// Questions 7 to 11 on a sound state: the kind, and the counter after the receipt.
@@ -45,10 +123,30 @@ impl State {
             return Err(10);
         }
         let counter = counter_after(self.counter, kind, &details.amounts);
-        if !counter_fits(counter, self.settings.width) {
+        if !counter_fits(counter, self.width) {
             return Err(11);
         }
         Ok((kind, counter as i64))
+    }
+
+    /// Questions 30 and 31 on a good serial: its place among those used.
+    fn place_of(&self, serial: &[u8]) -> Result<usize, Number> {
+        let used = self.used();
+        if self.serials[..used].contains(&Name::of(serial)) {
+            return Err(30);
+        }
+        if used == SERIALS {
+            return Err(31);
+        }
+        Ok(used)
+    }
+
+    /// Opens an empty section for this serial, whose pair starts at the end of the journal.
+    fn add_pair(&mut self, place: usize, serial: &[u8]) {
+        self.serials[place] = Name::of(serial);
+        self.open_receipts = 0;
+        self.open_place = self.journal_length + 4 + serial.len() as u64;
+        self.journal_length = self.open_place + 4;
     }
 }
 
@@ -61,14 +159,7 @@ pub fn open(settings: &Settings, shared: bool, buffer: &mut [u8]) -> Result<Stat
         return Err(5);
     }
     settings.write_head(0, &mut buffer[..length]);
-    Ok(State {
-        settings: *settings,
-        counter: 0,
-        last_number: 0,
-        receipts: 0,
-        chain: chain_value(settings.id()),
-        journal_length: length as u64,
-    })
+    Ok(State::opened(settings))
 }
 
 /// Writes what the device signs to the start of the output and returns its length.
@@ -77,7 +168,7 @@ pub fn prepare(state: &State, details: &Details, output: &mut [u8]) -> Result<us
         return Err(6);
     }
     let (kind, counter) = state.accepts(details)?;
-    let payload = payload(&state.settings, details, kind, counter, &state.chain);
+    let payload = payload(&state.newest(), details, kind, counter, &state.chain);
     let input = signing_input::<LONGEST_INPUT>(payload.bytes());
     let length = input.bytes().len();
     if length > output.len() {
@@ -87,9 +178,9 @@ pub fn prepare(state: &State, details: &Details, output: &mut [u8]) -> Result<us
     Ok(length)
 }
 
-/// Appends an entry and rewrites the receipts count. Refused, it changes neither the state nor the buffer.
+/// Appends an entry and rewrites the count of the open section. Refused, it changes neither the state nor the buffer.
 pub fn issue(state: &mut State, details: &Details, signature: &[u8], buffer: &mut [u8]) -> Result<(), Number> {
-    if !state.sound() || state.journal_length > buffer.len() as u64 {
+    if !state.sound_in(buffer) {
         return Err(6);
     }
     let (kind, counter) = state.accepts(details)?;
@@ -98,7 +189,7 @@ pub fn issue(state: &mut State, details: &Details, signature: &[u8], buffer: &mu
         0 => FAILURE,
         _ => return Err(12),
     };
-    let payload = payload(&state.settings, details, kind, counter, &state.chain);
+    let payload = payload(&state.newest(), details, kind, counter, &state.chain);
     let form = compact_form(payload.bytes(), signature);
     let form = form.bytes();
     let start = state.journal_length as usize;
@@ -114,8 +205,32 @@ pub fn issue(state: &mut State, details: &Details, signature: &[u8], buffer: &mu
     state.receipts += 1;
     state.chain = chain_value(form);
     state.journal_length = end as u64;
-    let head = state.settings.head_length();
-    buffer[head - 4..head].copy_from_slice(&state.receipts.to_be_bytes());
+    state.open_receipts += 1;
+    let place = state.open_place as usize;
+    buffer[place..place + 4].copy_from_slice(&state.open_receipts.to_be_bytes());
+    Ok(())
+}
+
+/// Appends the pair of a new serial: its section, and an empty section of receipts. Refused, it changes neither the state
+/// nor the buffer.
+pub fn change(state: &mut State, serial: &[u8], buffer: &mut [u8]) -> Result<(), Number> {
+    if !state.sound_in(buffer) {
+        return Err(6);
+    }
+    if !serial_good(serial) {
+        return Err(3);
+    }
+    let place = state.place_of(serial)?;
+    let start = state.journal_length as usize;
+    if 4 + serial.len() + 4 > buffer.len() - start {
+        return Err(13);
+    }
+
+    state.add_pair(place, serial);
+    let pair = &mut buffer[start..state.journal_length as usize];
+    pair.fill(0);
+    pair[..4].copy_from_slice(&(serial.len() as u32).to_be_bytes());
+    pair[4..4 + serial.len()].copy_from_slice(serial);
     Ok(())
 }
 
@@ -159,15 +274,67 @@ impl<'a> Reader<'a> {
     fn head(&mut self, key: &[u8; 32], width: u64) -> Option<(Settings, u32)> {
         let csp = self.section().filter(|csp| csp_good(csp))?;
         let id = self.section().filter(|id| id_good(id))?;
-        let serial = self.section().filter(|serial| serial_good(serial))?;
-        let receipts = self.count()?;
+        let (serial, receipts) = self.pair()?;
         let settings =
             Settings { csp: csp.try_into().ok()?, id: Name::of(id), serial: Name::of(serial), width, key: *key };
         Some((settings, receipts))
     }
+
+    /// The start of a pair: a good serial, and a whole receipts count.
+    fn pair(&mut self) -> Option<(&'a [u8], u32)> {
+        let serial = self.section().filter(|serial| serial_good(serial))?;
+        Some((serial, self.count()?))
+    }
 }
 
-/// Checks a whole journal and returns the state after it.
+/// Reads the entries of one section and adds them to the state, whose newest serial they have: questions 15 to 20.
+fn take_section(reader: &mut Reader, count: u32, aes: &Aes256, state: &mut State) -> Result<(), Refused> {
+    let settings = state.newest();
+    for _ in 0..count {
+        let index = state.receipts;
+        let no = |number| Err(Refused { number, index });
+        let Some(form) = reader.entry() else { return no(15) };
+        let Some(receipt) = read_entry(&settings, form) else { return no(16) };
+        if receipt.number <= state.last_number {
+            return no(17);
+        }
+        if index == 0 && (receipt.kind != Kind::Standard || receipt.amounts != [0; 5]) {
+            return no(18);
+        }
+        if receipt.chain != state.chain {
+            return no(19);
+        }
+        let sum = counter_after(state.counter, receipt.kind, &receipt.amounts);
+        if !counter_fits(sum, settings.width) {
+            return no(20);
+        }
+        state.counter = sum as i64;
+        if receipt.kind == Kind::Standard {
+            let iv = counter_iv(settings.id(), digits(receipt.number as u64).bytes());
+            if decrypt_counter(aes, &iv, &receipt.encrypted, settings.width as usize) != state.counter {
+                return no(20);
+            }
+        }
+        state.last_number = receipt.number;
+        state.chain = chain_value(form);
+        state.receipts += 1;
+        state.open_receipts += 1;
+        state.journal_length += 2 + form.len() as u64;
+    }
+    Ok(())
+}
+
+/// Reads the start of the next pair and adds it to the state: questions 21, 30 and 31. Returns the receipts count.
+fn take_pair(reader: &mut Reader, state: &mut State) -> Result<u32, Refused> {
+    let index = state.receipts;
+    let no = |number| Refused { number, index };
+    let (serial, count) = reader.pair().ok_or(no(21))?;
+    let place = state.place_of(serial).map_err(no)?;
+    state.add_pair(place, serial);
+    Ok(count)
+}
+
+/// Checks a whole journal, pair by pair, and returns the state after it.
 pub fn take_over(journal: &[u8], key: &[u8; 32], width: u64) -> Result<State, Refused> {
     if !width_good(width) {
         return Err(Refused { number: 4, index: 0 });
@@ -177,41 +344,13 @@ pub fn take_over(journal: &[u8], key: &[u8; 32], width: u64) -> Result<State, Re
         return Err(Refused { number: 14, index: 0 });
     };
     let aes = Aes256::new(key);
-    let mut counter = 0;
-    let mut last_number = 0;
-    let mut chain = chain_value(settings.id());
-
-    for index in 0..count {
-        let no = |number| Err(Refused { number, index });
-        let Some(form) = reader.entry() else { return no(15) };
-        let Some(receipt) = read_entry(&settings, form) else { return no(16) };
-        if receipt.number <= last_number {
-            return no(17);
-        }
-        if index == 0 && (receipt.kind != Kind::Standard || receipt.amounts != [0; 5]) {
-            return no(18);
-        }
-        if receipt.chain != chain {
-            return no(19);
-        }
-        let sum = counter_after(counter, receipt.kind, &receipt.amounts);
-        if !counter_fits(sum, width) {
-            return no(20);
-        }
-        counter = sum as i64;
-        if receipt.kind == Kind::Standard {
-            let iv = counter_iv(settings.id(), digits(receipt.number as u64).bytes());
-            if decrypt_counter(&aes, &iv, &receipt.encrypted, width as usize) != counter {
-                return no(20);
-            }
-        }
-        last_number = receipt.number;
-        chain = chain_value(form);
+    let mut state = State::opened(&settings);
+    take_section(&mut reader, count, &aes, &mut state)?;
+    while !reader.rest.is_empty() {
+        let count = take_pair(&mut reader, &mut state)?;
+        take_section(&mut reader, count, &aes, &mut state)?;
     }
-    if !reader.rest.is_empty() {
-        return Err(Refused { number: 21, index: count });
-    }
-    Ok(State { settings, counter, last_number, receipts: count, chain, journal_length: journal.len() as u64 })
+    Ok(state)
 }
 
 /// The receipt that one compact form spells under the settings of a register.

@@ -2,18 +2,24 @@
 
 mod limits;
 mod lines;
+mod pairs;
 mod shared;
+
+use std::ops::Range;
 
 use crate::calls::{Calls, Peer};
 use crate::compare::{Compare, Compared, demand};
 use crate::filling::fill_width;
 use crate::layout::{DETAILS, SETTINGS, SIGNATURE, STATE, details_of, settings_bytes, state_bytes, state_of};
-use crate::model::{CHAIN, COUNTER, Entry, FIRST_AMOUNT, Given, Journal, NUMBER, padded_text, spelled, url_text};
+use crate::model::{
+    CHAIN, COUNTER, Entry, FIRST_AMOUNT, Given, Journal, NUMBER, PairPlaces, padded_text, pair_places, spelled,
+    url_text,
+};
 use crate::random::Random;
 use crate::receipt::{
     AMOUNT_LIMIT, Date, Details, FAILURE, LONGEST_COMPACT, LONGEST_INPUT, LONGEST_PAYLOAD, chain_value,
 };
-use crate::register::State;
+use crate::register::{SERIALS, State};
 use crate::sample;
 use crate::settings::{Name, Settings};
 
@@ -32,6 +38,10 @@ pub fn round(compare: &mut Compare, seed: u64, number: u64) -> Compared<()> {
     round.key_streams()?;
     round.shared_list()?;
     round.list_from_earlier()?;
+    round.order_of_change()?;
+    round.serials_to_change_to()?;
+    round.places_of_the_count()?;
+    round.serials_of_a_state()?;
     for _ in 0..12 {
         round.state_made_by_hand()?;
     }
@@ -46,6 +56,8 @@ pub fn round(compare: &mut Compare, seed: u64, number: u64) -> Compared<()> {
         round.rebuilt(&written)?;
     }
     round.wrong_by_design(&written)?;
+    round.list_to_the_last_serial()?;
+    round.pairs_by_design()?;
     round.sums_at_the_end()?;
     if round.random.once_in(16) {
         round.cut_everywhere(&written)?;
@@ -96,11 +108,21 @@ impl Accepted {
         self.settings.width as usize
     }
 
+    /// The pairs in the journal: the serial, and the compact forms.
+    fn pairs(&self) -> Vec<(Vec<u8>, Vec<Vec<u8>>)> {
+        let form = |entry: &Range<usize>| self.journal[entry.start + 2..entry.end].to_vec();
+        let pair = |pair: &PairPlaces| (self.journal[pair.serial()].to_vec(), pair.entries.iter().map(form).collect());
+        pair_places(&self.journal).iter().map(pair).collect()
+    }
+
     /// The compact forms in the journal.
     fn forms(&self) -> Vec<Vec<u8>> {
-        let places = entry_places(&self.journal, self.settings.head_length());
-        let ends = places.iter().skip(1).copied().chain([self.journal.len()]);
-        places.iter().zip(ends).map(|(&start, end)| self.journal[start + 2..end].to_vec()).collect()
+        self.pairs().into_iter().flat_map(|(_, forms)| forms).collect()
+    }
+
+    /// The settings of the receipts with this serial.
+    fn settings_with(&self, serial: &[u8]) -> Settings {
+        Settings { serial: Name::of(serial), ..self.settings }
     }
 }
 
@@ -125,7 +147,7 @@ impl Round<'_> {
         }
     }
 
-    /// The same bytes in another length, as 155 or 123 bytes must not be.
+    /// The same bytes in another length, as 447 or 123 bytes must not be.
     fn other_length(&self, bytes: &[u8]) -> Vec<u8> {
         let length = bytes.len();
         let other = self.random.pick(&[0, 1, length - 1, length + 1, 2 * length]);
@@ -227,7 +249,7 @@ impl Round<'_> {
                     5 => serial = vec![b'a'; self.random.pick(&[0, 33, 64, 256 + 3])],
                     6 => width = sample::bad_width(&self.random) as usize,
                     7 => key = vec![9; self.random.pick(&[0, 1, 31, 33, 64])],
-                    _ => room = self.random.pick(&[0, 1, 122, 124, 155]),
+                    _ => room = self.random.pick(&[0, 1, 122, 124, 447]),
                 }
                 if id.is_empty() || serial.is_empty() {
                     break;
@@ -300,8 +322,13 @@ impl Round<'_> {
         demand((number, opened) == (0, 0), "good settings are opened", &journal)?;
 
         let mut receipts = Vec::new();
+        let changes = self.random.pick(&[0, 3, 5]);
         for _ in 0..1 + self.random.below(14) {
-            receipts.extend(self.next_of_a_list(&mut state, &mut journal)?);
+            if changes > 0 && self.random.once_in(changes) {
+                self.next_change(&mut state, &mut journal)?;
+            } else {
+                receipts.extend(self.next_of_a_list(&mut state, &mut journal)?);
+            }
         }
 
         journal.truncate(state_of(&state).journal_length as usize);
@@ -328,7 +355,7 @@ impl Round<'_> {
             self.issued_into_room(state, &details, &signature, journal)?;
         }
         let number = self.compare.issue(state, &details, &signature, journal)?;
-        self.compare.figures(state)?;
+        self.said(state)?;
         Ok((number == 0).then_some((details, signature)))
     }
 
@@ -360,19 +387,27 @@ impl Round<'_> {
         Ok(())
     }
 
-    /// Writes an accepted journal again, entry by entry, as demand 3 says: a twin register issues what Read gives of each.
+    /// Writes an accepted journal again, pair by pair and entry by entry, as demand 3 says: a twin register changes to each
+    /// later serial and issues what Read gives of each receipt.
     fn written_again(&mut self, accepted: &Accepted) -> Compared<()> {
-        let settings = settings_bytes(&accepted.settings);
         let mut journal = self.garbage(accepted.journal.len());
         let mut state = [0; STATE];
-        self.compare.open(&settings, &mut journal, &mut state)?;
-        let forms = accepted.forms();
-        demand(forms.len() == accepted.receipts.len(), "a receipt has one entry", &accepted.journal)?;
-        for (form, given) in forms.iter().zip(&accepted.receipts) {
-            let (details, signature) = self.read_back(&settings, form, given)?;
-            let number = self.compare.issue(&mut state, &details, &signature, &mut journal)?;
-            demand(number == 0, "a receipt of an accepted journal is issued", &accepted.journal)?;
+        self.compare.open(&settings_bytes(&accepted.settings), &mut journal, &mut state)?;
+        let mut receipts = accepted.receipts.iter();
+        for (which, (serial, forms)) in accepted.pairs().iter().enumerate() {
+            if which > 0 {
+                let number = self.compare.change(&mut state, serial, &mut journal)?;
+                demand(number == 0, "a serial of an accepted journal is changed to", &accepted.journal)?;
+            }
+            let settings = self.settings_said(&state, which)?;
+            demand(settings == settings_bytes(&accepted.settings_with(serial)), "a pair has its settings", &state)?;
+            for (form, given) in forms.iter().zip(receipts.by_ref()) {
+                let (details, signature) = self.read_back(&settings, form, given)?;
+                let number = self.compare.issue(&mut state, &details, &signature, &mut journal)?;
+                demand(number == 0, "a receipt of an accepted journal is issued", &accepted.journal)?;
+            }
         }
+        demand(accepted.forms().len() == accepted.receipts.len(), "a receipt has one entry", &accepted.journal)?;
         demand(journal == accepted.journal, "the journal written again is the same", &accepted.journal)?;
         let mut taken = self.garbage(STATE);
         let answer = self.compare.take_over(&journal, &accepted.settings.key, accepted.width(), &mut taken)?;
@@ -416,7 +451,8 @@ impl Round<'_> {
         if self.random.once_in(10) {
             bytes = self.other_length(&bytes);
         }
-        self.compare.figures(&bytes)?;
+        self.said(&bytes)?;
+        self.changed_by_hand(&state, &bytes, &journal)?;
         self.prepared(&bytes, &details)?;
         if self.random.once_in(2) {
             self.issued_into_room(&bytes, &details, &signature, &journal)?;
@@ -436,7 +472,7 @@ impl Round<'_> {
         Ok(())
     }
 
-    /// A sound state with one bit or byte of its 155 changed, and 155 random bytes.
+    /// A sound state with one bit or byte of its 447 changed, and 447 random bytes.
     fn spoiled_bytes_of_a_state(&mut self) -> Compared<()> {
         for _ in 0..6 {
             let state = sample::sound_state(&self.random, 20);
@@ -453,9 +489,10 @@ impl Round<'_> {
                     bytes[bit / 8] ^= 1 << (bit % 8);
                 }
             }
-            self.compare.figures(&bytes)?;
+            self.said(&bytes)?;
             self.prepared(&bytes, &details)?;
             let journal = self.garbage(500);
+            self.changed_by_hand(&state, &bytes, &journal)?;
             self.issued(bytes, &details, &[], journal)?;
         }
         Ok(())
@@ -511,12 +548,13 @@ impl Round<'_> {
     /// The bytes of an accepted journal, damaged.
     fn damaged(&mut self, accepted: &Accepted) -> Compared<()> {
         let mut journal = accepted.journal.clone();
-        let head = accepted.settings.head_length();
+        let pairs = pair_places(&journal);
+        let entries: Vec<usize> = pairs.iter().flat_map(|pair| &pair.entries).map(|entry| entry.start).collect();
         match self.random.below(10) {
-            // the head: a count, or a byte
+            // a count of the head or of a pair, or a byte of the head
             0 => {
-                let id = accepted.settings.id().len();
-                let place = self.random.pick(&[0, 7, 11 + id, head - 4]);
+                let pair = &pairs[self.random.below(pairs.len())];
+                let place = self.random.pick(&[0, 7, pair.start, pair.count]);
                 let count = u32::from_be_bytes(*journal[place..].first_chunk().expect("a count"));
                 let other = self.random.pick(&[
                     count.wrapping_add(1),
@@ -532,7 +570,7 @@ impl Round<'_> {
                 journal[place..place + 4].copy_from_slice(&other.to_be_bytes());
             }
             1 => {
-                let place = self.random.below(head);
+                let place = self.random.below(pairs[0].count + 4);
                 journal[place] = self.random.pick(b"_ \0a0A\x7f\xff");
             }
             // bytes after the last entry
@@ -541,9 +579,8 @@ impl Round<'_> {
                 journal.extend(self.garbage(after));
             }
             // the length of an entry
-            3 if journal.len() > head => {
-                let places = entry_places(&journal, head);
-                let place = places[self.random.below(places.len())];
+            3 if !entries.is_empty() => {
+                let place = entries[self.random.below(entries.len())];
                 let length = u16::from_be_bytes([journal[place], journal[place + 1]]);
                 let rest = (journal.len() - place - 2) as u16;
                 let other = self.random.pick(&[
@@ -558,9 +595,8 @@ impl Round<'_> {
                 journal[place..place + 2].copy_from_slice(&other.to_be_bytes());
             }
             // a byte cut out or put in and the entry's length made right
-            4 if journal.len() > head => {
-                let places = entry_places(&journal, head);
-                let place = places[self.random.below(places.len())];
+            4 if !entries.is_empty() => {
+                let place = entries[self.random.below(entries.len())];
                 let length = u16::from_be_bytes([journal[place], journal[place + 1]]) as usize;
                 let mut form = journal[place + 2..place + 2 + length].to_vec();
                 self.damage_bytes(&mut form);
@@ -570,9 +606,8 @@ impl Round<'_> {
             }
             // a cut
             5 => journal.truncate(self.random.below(accepted.journal.len() + 1)),
-            6 if journal.len() > head => {
-                let places = entry_places(&journal, head);
-                let place = places[self.random.below(places.len())];
+            6 if !entries.is_empty() => {
+                let place = entries[self.random.below(entries.len())];
                 journal.truncate(place + self.random.below(3));
             }
             7 => journal = self.random_journal(),
@@ -618,37 +653,37 @@ impl Round<'_> {
     /// again, so that later questions are reached.
     fn rebuilt(&mut self, accepted: &Accepted) -> Compared<()> {
         let mut journal = Journal::of(&accepted.journal);
-        if journal.entries.is_empty() {
+        if journal.entries().is_empty() {
             return self.take_over(accepted, &accepted.journal);
         }
-        let mut first = journal.entries.len();
+        let mut first = journal.entries().len();
         for _ in 0..self.random.pick(&[1, 1, 1, 2]) {
-            let place = self.random.below(journal.entries.len());
-            first = first.min(place);
+            let length = journal.entries().len();
+            let index = self.random.below(length);
+            let (pair, place) = journal.place(index);
+            first = first.min(index);
             match self.random.below(12) {
                 // swapped, dropped or doubled
                 0 => {
-                    let other = self.random.below(journal.entries.len());
+                    let other = self.random.below(length);
                     first = first.min(other);
-                    journal.entries.swap(place, other);
+                    let copy = journal.entry(index).clone();
+                    *journal.entry(index) = std::mem::replace(journal.entry(other), copy);
                 }
-                1 if journal.entries.len() > 1 => {
-                    journal.entries.remove(place);
-                    journal.count -= self.random.pick(&[0, 1, 1]);
+                1 if length > 1 => {
+                    journal.pairs[pair].entries.remove(place);
+                    journal.pairs[pair].count -= self.random.pick(&[0, 1, 1]);
                 }
                 2 => {
-                    let copy = journal.entries[place].clone();
-                    journal.entries.insert(place, copy);
-                    journal.count += self.random.pick(&[0, 1, 1]);
+                    let copy = journal.entry(index).clone();
+                    journal.pairs[pair].entries.insert(place, copy);
+                    journal.pairs[pair].count += self.random.pick(&[0, 1, 1]);
                 }
                 // signed again
-                3 => journal.entries[place].signature = self.random.pick(&[&[3; 64][..], FAILURE]).to_vec(),
-                4 => self.respell_compact(&mut journal.entries[place]),
-                5 | 6 => self.say_otherwise(&mut journal.entries[place]),
-                _ => self.respell_field(&mut journal.entries[place]),
-            }
-            if journal.entries.is_empty() {
-                break;
+                3 => journal.entry(index).signature = self.random.pick(&[&[3; 64][..], FAILURE]).to_vec(),
+                4 => self.respell_compact(journal.entry(index)),
+                5 | 6 => self.say_otherwise(journal.entry(index)),
+                _ => self.respell_field(journal.entry(index)),
             }
         }
         // the chain of the changed entry itself, too, but for a change of that very field
@@ -936,13 +971,13 @@ impl Round<'_> {
     /// Journals of the peer's own parts with one thing wrong, for 16 to 20 each.
     fn wrong_by_design(&mut self, accepted: &Accepted) -> Compared<()> {
         let (key, width) = (accepted.settings.key, accepted.width());
-        let good = self.built(accepted, 3);
+        let good = self.built_in_pairs(accepted, 3);
         let bytes = good.bytes();
         self.take_over(accepted, &bytes)?;
 
         // 17: numbers that stay or fall
         let mut journal = good.clone();
-        journal.entries[2].fields[NUMBER] = journal.entries[self.random.below(2)].fields[NUMBER].clone();
+        journal.entry(2).fields[NUMBER] = journal.entry(self.random.below(2)).fields[NUMBER].clone();
         journal.counters_right(2, &key, width);
         journal.chain_right(2);
         let bytes = journal.bytes();
@@ -951,11 +986,11 @@ impl Round<'_> {
         // 18: the first one another kind, or with amounts whose sum is 0
         let mut journal = good.clone();
         match self.random.below(3) {
-            0 => journal.entries[0].fields[COUNTER] = b"U1RP".to_vec(),
-            1 => journal.entries[0].fields[COUNTER] = b"VFJB".to_vec(),
+            0 => journal.entry(0).fields[COUNTER] = b"U1RP".to_vec(),
+            1 => journal.entry(0).fields[COUNTER] = b"VFJB".to_vec(),
             _ => {
-                journal.entries[0].fields[FIRST_AMOUNT] = b"0,01".to_vec();
-                journal.entries[0].fields[FIRST_AMOUNT + 4] = b"-0,01".to_vec();
+                journal.entry(0).fields[FIRST_AMOUNT] = b"0,01".to_vec();
+                journal.entry(0).fields[FIRST_AMOUNT + 4] = b"-0,01".to_vec();
             }
         }
         journal.counters_right(0, &key, width);
@@ -966,17 +1001,17 @@ impl Round<'_> {
         // 19: a chain field over another text, the entries after it right
         let mut journal = good.clone();
         let place = self.random.below(3);
-        let (payload, id) = (journal.entries[0].payload(), journal.id.clone());
-        let printed = journal.entries[0].code();
-        let signed = journal.entries[0].form();
+        let (payload, id) = (journal.entry(0).payload(), journal.id.clone());
+        let printed = journal.entry(0).code();
+        let signed = journal.entry(0).form();
         let signed = signed[..signed.len() - 1].to_vec();
         let text = self.random.pick(&[&payload[..], &printed, &signed, &id, b""]);
         let mut value = chain_value(text);
         if place == 0 || self.random.once_in(3) {
-            value = chain_value(&if place == 0 { id } else { journal.entries[place - 1].form() });
+            value = chain_value(&if place == 0 { id } else { journal.entry(place - 1).form() });
             value[self.random.below(8)] ^= 1 << self.random.below(8);
         }
-        journal.entries[place].fields[CHAIN] = padded_text(&value);
+        journal.entry(place).fields[CHAIN] = padded_text(&value);
         journal.chain_right(place + 1);
         let bytes = journal.bytes();
         self.take_over(accepted, &bytes)?;
@@ -984,13 +1019,13 @@ impl Round<'_> {
         // 20: the counter before the receipt, or another one, the entries after it right
         let mut journal = good.clone();
         let mut before = good.clone();
-        before.entries[2].fields[FIRST_AMOUNT..FIRST_AMOUNT + 5].fill(b"0,00".to_vec());
+        before.entry(2).fields[FIRST_AMOUNT..FIRST_AMOUNT + 5].fill(b"0,00".to_vec());
         before.counters_right(2, &key, width);
-        journal.entries[2].fields[COUNTER] = before.entries[2].fields[COUNTER].clone();
+        journal.entry(2).fields[COUNTER] = before.entry(2).fields[COUNTER].clone();
         if self.random.once_in(2) {
             let mut encrypted = self.garbage(width);
             encrypted[0] ^= 1;
-            journal.entries[2].fields[COUNTER] = padded_text(&encrypted);
+            journal.entry(2).fields[COUNTER] = padded_text(&encrypted);
         }
         journal.chain_right(3);
         let bytes = journal.bytes();
@@ -998,7 +1033,7 @@ impl Round<'_> {
 
         // 16: a thing of the second receipt respelled, all after it right
         let mut journal = good;
-        self.respell_field(&mut journal.entries[1]);
+        self.respell_field(journal.entry(1));
         journal.chain_right(2);
         let bytes = journal.bytes();
         self.take_over(accepted, &bytes)
@@ -1015,6 +1050,17 @@ impl Round<'_> {
             })
             .collect();
         Journal::with(&accepted.settings, &receipts)
+    }
+
+    /// The same in pairs: a certificate is changed before any of the receipts.
+    fn built_in_pairs(&self, accepted: &Accepted, entries: usize) -> Journal {
+        let mut journal = self.built(accepted, entries);
+        let serials = sample::serials(&self.random, accepted.settings.serial(), SERIALS);
+        for serial in &serials[1..1 + self.random.pick(&[0, 1, 2, SERIALS - 1])] {
+            self.split(&mut journal, serial);
+        }
+        journal.all_right(0, &accepted.settings);
+        journal
     }
 
     /// Width 5 at both ends: a sum that just fits, and sums over the width that come back, in a standard receipt or a
@@ -1056,10 +1102,10 @@ impl Round<'_> {
 
     /// Code of a form, and Uncode and Fields of it, whole and damaged.
     fn codes_of(&mut self, accepted: &Accepted) -> Compared<()> {
-        let entries = Journal::of(&accepted.journal).entries;
-        let mut entry = match entries.len() {
-            0 => self.built(accepted, 1).entries.remove(0),
-            length => entries[self.random.below(length)].clone(),
+        let mut journal = Journal::of(&accepted.journal);
+        let mut entry = match journal.entries().len() {
+            0 => self.built(accepted, 1).entry(0).clone(),
+            length => journal.entry(self.random.below(length)).clone(),
         };
         let mut form = entry.form();
         let code = self.coded(&form)?;
@@ -1179,23 +1225,24 @@ impl Round<'_> {
         let details = Details { kind, ..sample::details(&self.random, &state) };
         let signature = sample::signature(&self.random);
         let form = self.form_issued(state, &details, &signature)?;
-        Ok((settings_bytes(&state.settings), form, (details, signature)))
+        Ok((settings_bytes(&state.newest()), form, (details, signature)))
     }
 
     /// A sound state of this width and counter, which has its first receipt.
     fn started_state(&self, width: u64, counter: i64) -> State {
         let mut state = sample::sound_state(&self.random, 0);
-        state.settings.width = width;
+        state.width = width;
         state.counter = counter;
         state.last_number = state.last_number.clamp(1, u32::MAX - 1);
         state.receipts = 1;
+        state.open_receipts = state.open_receipts.min(1);
         state
     }
 
     /// The form that Issue writes with good details to a journal of the head alone.
     fn form_issued(&mut self, state: State, details: &Details, signature: &[u8]) -> Compared<Vec<u8>> {
-        let head = state.settings.head_length();
-        let mut bytes = state_bytes(&State { journal_length: head as u64, ..state });
+        let head = state.first().head_length();
+        let mut bytes = state_bytes(&State { journal_length: head as u64, open_place: head as u64 - 4, ..state });
         let mut journal = self.garbage(head + 2 + LONGEST_COMPACT);
         let number = self.compare.issue(&mut bytes, details, signature, &mut journal)?;
         demand(number == 0, "a sound state issues good details", &journal)?;
@@ -1204,13 +1251,13 @@ impl Round<'_> {
 
     /// A form of the journal, or another text, under the right settings or others, into outputs of some lengths.
     fn read_in_any_way(&mut self, accepted: &Accepted) -> Compared<()> {
-        let mut form = self.form_of(accepted);
+        let (given, mut form) = self.form_of(accepted);
         if self.random.once_in(2) {
             form = self.other_form(&form);
         }
-        let mut settings = settings_bytes(&accepted.settings).to_vec();
+        let mut settings = settings_bytes(&given).to_vec();
         if self.random.once_in(2) {
-            settings = self.other_settings(&accepted.settings);
+            settings = self.other_settings(&given);
         }
         let (mut details, mut signature) = (self.garbage(DETAILS), self.garbage(SIGNATURE));
         if self.random.once_in(2) {
@@ -1221,11 +1268,15 @@ impl Round<'_> {
         Ok(())
     }
 
-    /// One of the journal's forms; where it has none, one made of parts.
-    fn form_of(&self, accepted: &Accepted) -> Vec<u8> {
-        let mut forms = accepted.forms();
+    /// One of the journal's forms with its settings; where it has none, one made of parts.
+    fn form_of(&self, accepted: &Accepted) -> (Settings, Vec<u8>) {
+        let with = |(serial, forms): (Vec<u8>, Vec<Vec<u8>>)| {
+            let settings = accepted.settings_with(&serial);
+            forms.into_iter().map(move |form| (settings, form))
+        };
+        let mut forms: Vec<(Settings, Vec<u8>)> = accepted.pairs().into_iter().flat_map(with).collect();
         if forms.is_empty() {
-            forms.push(self.built(accepted, 1).entries[0].form());
+            forms.push((accepted.settings, self.built(accepted, 1).entry(0).form()));
         }
         forms.swap_remove(self.random.below(forms.len()))
     }
@@ -1272,8 +1323,8 @@ impl Round<'_> {
             6 => other.key = sample::key(&self.random),
             7 => sample::spoil_settings(&self.random, &mut other),
             8 => return self.other_length(&settings_bytes(settings)),
-            // the whole state in place of its first 123 bytes
-            _ => return state_bytes(&State { settings: *settings, ..State::default() }).to_vec(),
+            // the whole state in place of settings
+            _ => return state_bytes(&State::opened(settings)).to_vec(),
         }
         settings_bytes(&other).to_vec()
     }
@@ -1299,9 +1350,9 @@ impl Round<'_> {
         let settings = settings_bytes(&accepted.settings);
         for error in 0..5 {
             let mut journal = self.built(accepted, 2);
-            let good = journal.entries[1].form();
-            misspell(&mut journal.entries[1], error);
-            let (bytes, form) = (journal.bytes(), journal.entries[1].form());
+            let good = journal.entry(1).form();
+            misspell(journal.entry(1), error);
+            let (bytes, form) = (journal.bytes(), journal.entry(1).form());
             self.take_over(accepted, &bytes)?;
             let read = self.compare.read(&settings, &form, &mut [0x5a; DETAILS], &mut [0xa5; SIGNATURE])?;
             // six bytes of counter have no padding to leave out
@@ -1312,8 +1363,8 @@ impl Round<'_> {
 
     /// A form of the journal cut at every place, and with a bit changed in every byte.
     fn read_with_every_change(&mut self, accepted: &Accepted) -> Compared<()> {
-        let settings = settings_bytes(&accepted.settings);
-        let form = self.form_of(accepted);
+        let (settings, form) = self.form_of(accepted);
+        let settings = settings_bytes(&settings);
         for place in 0..form.len() {
             let mut other = form.clone();
             other[place] ^= 1 << self.random.below(8);
@@ -1325,25 +1376,14 @@ impl Round<'_> {
 
     /// A form of the journal under settings with any one bit changed.
     fn read_under_every_change(&mut self, accepted: &Accepted) -> Compared<()> {
-        let form = self.form_of(accepted);
+        let (given, form) = self.form_of(accepted);
         for bit in 0..8 * SETTINGS {
-            let mut settings = settings_bytes(&accepted.settings);
+            let mut settings = settings_bytes(&given);
             settings[bit / 8] ^= 1 << (bit % 8);
             self.compare.read(&settings, &form, &mut [0x5a; DETAILS], &mut [0xa5; SIGNATURE])?;
         }
         Ok(())
     }
-}
-
-/// Where the entries of a valid journal start.
-fn entry_places(journal: &[u8], head: usize) -> Vec<usize> {
-    let mut places = Vec::new();
-    let mut place = head;
-    while place < journal.len() {
-        places.push(place);
-        place += 2 + u16::from_be_bytes([journal[place], journal[place + 1]]) as usize;
-    }
-    places
 }
 
 /// Makes one of the five student errors in the spelling of a receipt.

@@ -1,23 +1,30 @@
-//! Rows of the test tables that the peer computes: what lies at the limits of request E4 and next to them, and both ways to
-//! open a register (request E7). In their tables they come last, after the published rows. The answers are the peer's; the
-//! tests ask them of the library, too.
+//! Rows of the test tables that the peer computes: what lies at the limits of request E4 and next to them, both ways to open a
+//! register (request E7), and changes of the certificate (request E5). In their tables they come last, after the published
+//! rows. The answers are the peer's; the tests ask them of the library, too.
+
+mod change;
+mod pairs;
 
 use crate::calls::{Calls, Peer, Written};
 use crate::layout::{STATE, settings_bytes, state_bytes};
 use crate::model::{CHAIN, COUNTER, Given, Journal, Printed, SIGNED, spelled};
-use crate::receipt::{AMOUNT_LIMIT, Date, Details, LONGEST_COMPACT, LONGEST_INPUT, LONGEST_PAYLOAD, chain_value};
+use crate::receipt::{AMOUNT_LIMIT, Date, Details, LONGEST_COMPACT, LONGEST_INPUT, LONGEST_PAYLOAD};
 use crate::register::State;
 use crate::sample::{ENDS, FIVE_LARGEST, LAST_AMOUNTS, NEW_AMOUNTS, NEXT_AMOUNTS, PAYLOAD_EDGES, width_end};
 use crate::settings::{Name, Settings};
 use crate::text::hex;
 
+pub use change::change_answer;
+
 /// Computes the rows of a table.
 pub type Rows = fn() -> Vec<String>;
 
 /// The tables with such rows, by their place as seen from the peer's folder.
-pub const TABLES: [(&str, Rows); 6] = [
+pub const TABLES: [(&str, Rows); 8] = [
+    ("../tests/takeover-pairs.tsv", pairs::takeover_pairs),
     ("../tests/takeover.tsv", takeover),
     ("tests/data/amount.tsv", amount),
+    ("tests/data/change.tsv", change::change),
     ("tests/data/code.tsv", code),
     ("tests/data/issue-limits.tsv", issue_limits),
     ("tests/data/ocr-line.tsv", ocr_line),
@@ -87,8 +94,11 @@ fn longest_row(name: &str, width: u64, receipts: &[Receipt]) -> String {
 }
 
 fn takeover_row(name: &str, settings: &Settings, receipts: &[Given]) -> String {
-    let journal = Journal::with(settings, receipts).bytes();
-    let input = [&[settings.width as u8], &settings.key[..], &journal].concat();
+    bytes_row(name, settings, &Journal::with(settings, receipts).bytes())
+}
+
+fn bytes_row(name: &str, settings: &Settings, journal: &[u8]) -> String {
+    let input = [&[settings.width as u8], &settings.key[..], journal].concat();
     [name, &hex(&input), "0", &takeover_line(&Peer, &input)].join("\t")
 }
 
@@ -217,8 +227,8 @@ fn longest_lines(name: &str, counter: usize, chain: usize) -> Vec<String> {
 /// The longest receipt of a width.
 fn receipt_lines(width: u64) -> [String; 2] {
     let receipts = given(&[([-AMOUNT_LIMIT; 5], 0)], u32::MAX);
-    let entry = &Journal::with(&longest_settings(width), &receipts).entries[1];
-    line_rows(&format!("longest-receipt-width-{width}"), &Printed::of(&entry.code()))
+    let mut journal = Journal::with(&longest_settings(width), &receipts);
+    line_rows(&format!("longest-receipt-width-{width}"), &Printed::of(&journal.entry(1).code()))
 }
 
 fn line_rows(name: &str, printed: &Printed) -> [String; 2] {
@@ -232,8 +242,7 @@ pub const KINDS: [&str; 3] = ["standard", "cancellation", "training"];
 /// Issue from a state of this width and counter: the number, which is also that of Prepare, and the counter after the call.
 pub fn issue_answer(side: &dyn Calls, width: u64, before: i64, (amounts, kind): Receipt) -> (u32, i64) {
     let settings = short_settings(width);
-    let journal_length = settings.head_length() as u64;
-    let state = State { settings, counter: before, last_number: 1, receipts: 1, journal_length, ..State::default() };
+    let state = State { counter: before, last_number: 1, receipts: 1, open_receipts: 1, ..State::opened(&settings) };
     let mut bytes = state_bytes(&state);
     let details = Details { number: 2, date: DATE, amounts, kind };
     let prepared = side.prepare(&bytes, &details, &mut [0; LONGEST_INPUT]);
@@ -296,13 +305,10 @@ pub fn open_answer(side: &dyn Calls, settings: &Settings, room: usize, shared: b
     } else {
         side.open(&bytes, &mut journal, &mut state)
     };
-    let (mut head, mut opened) = (0, State::default());
-    if number == 0 {
-        head = settings.head_length();
-        opened.settings = *settings;
-        opened.chain = chain_value(settings.id());
-        opened.journal_length = head as u64;
-    }
+    let (head, opened) = match number {
+        0 => (settings.head_length(), State::opened(settings)),
+        _ => (0, State::default()),
+    };
     assert_eq!(state, state_bytes(&opened), "{settings:?}");
     assert!(journal[head..].iter().all(|&byte| byte == 0xaa), "{settings:?}");
     journal.truncate(head);

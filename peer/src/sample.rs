@@ -4,7 +4,7 @@ use crate::base64;
 use crate::model::{CHAIN, COUNTER, Printed, SIGNED};
 use crate::random::Random;
 use crate::receipt::{AMOUNT_LIMIT, Date, Details, FAILURE, LONGEST_PAYLOAD};
-use crate::register::State;
+use crate::register::{SERIALS, State};
 use crate::settings::{Name, Number, Settings};
 
 // ---- settings
@@ -55,6 +55,38 @@ pub fn id_without_digit(random: &Random) -> Vec<u8> {
 pub fn serial(random: &Random) -> Vec<u8> {
     let length = name_length(random);
     (0..length).map(|_| random.pick(b"0123456789abcdef")).collect()
+}
+
+/// No good serial: a foreign letter, a wrong length, or like one of those used.
+pub fn bad_serial(random: &Random, used: &[Vec<u8>]) -> Vec<u8> {
+    let mut serial = serial(random);
+    match random.below(4) {
+        0 => return vec![b'a'; random.pick(&[0, 33, 34, 64, 256 + 5])],
+        1 => return bad_serial_like(random, used),
+        _ => {
+            let place = random.below(serial.len());
+            serial[place] = no_serial_byte(random);
+        }
+    }
+    serial
+}
+
+/// No good serial, but one that could be taken for one of those used, or for an empty place after them.
+pub fn bad_serial_like(random: &Random, used: &[Vec<u8>]) -> Vec<u8> {
+    let Some(mut serial) = used.get(random.below(used.len().max(1))).cloned() else { return Vec::new() };
+    match random.below(4) {
+        0 => serial.clear(),
+        1 => serial.push(0),
+        2 => serial.resize(random.pick(&[33, 40, 64]), 0),
+        _ => {
+            let place = random.below(serial.len());
+            serial[place] = match serial[place] {
+                letter @ b'a'..=b'f' => letter.to_ascii_uppercase(),
+                digit => digit | 0x80,
+            };
+        }
+    }
+    serial
 }
 
 pub fn key(random: &Random) -> [u8; 32] {
@@ -152,7 +184,52 @@ pub fn width_end(width: u64) -> i64 {
 /// The most that one receipt adds to the counter.
 pub const FIVE_LARGEST: i64 = 5 * AMOUNT_LIMIT;
 
-/// A sound state that mostly no list reaches; its journal length is at most `longest` bytes after the head.
+/// So many good serials, all different, the first of them given.
+pub fn serials(random: &Random, first: &[u8], number: usize) -> Vec<Vec<u8>> {
+    let mut serials = vec![first.to_vec()];
+    while serials.len() < number {
+        let next = next_serial(random, &serials);
+        serials.push(next);
+    }
+    serials
+}
+
+/// A good serial that is none of these, but often like the last of them.
+pub fn next_serial(random: &Random, used: &[Vec<u8>]) -> Vec<u8> {
+    loop {
+        let mut next = serial(random);
+        if let Some(last) = used.last().filter(|_| random.once_in(2)) {
+            next = serial_like(random, last);
+        }
+        if !used.contains(&next) {
+            return next;
+        }
+    }
+}
+
+/// A good serial like this one: another letter, one more, or one less.
+fn serial_like(random: &Random, serial: &[u8]) -> Vec<u8> {
+    let mut other = serial.to_vec();
+    match random.below(3) {
+        0 => other.push(random.pick(b"0f")),
+        1 => {
+            other.pop();
+        }
+        _ => {
+            let place = random.pick(&[0, other.len() - 1, random.below(other.len())]);
+            other[place] = random.pick(b"0123456789abcdef");
+        }
+    }
+    if (1..=32).contains(&other.len()) { other } else { serial.to_vec() }
+}
+
+/// The first of these serials, and zeros where there are fewer than eight.
+pub fn slots(serials: &[Vec<u8>]) -> [Name; SERIALS] {
+    std::array::from_fn(|i| serials.get(i).map_or(Name::default(), |serial| Name::of(serial)))
+}
+
+/// A sound state that mostly no list reaches; its journal length is at most `longest` bytes after the head, and the count
+/// of the open section may stand anywhere.
 pub fn sound_state(random: &Random, longest: usize) -> State {
     let settings = settings(random);
     let end = width_end(settings.width);
@@ -181,29 +258,100 @@ pub fn sound_state(random: &Random, longest: usize) -> State {
         _ => random.between(0, last_number as i64) as u32,
     };
     let after = random.pick(&[0, 1, random.below(longest + 1)]);
-    let journal_length = (settings.head_length() + after) as u64;
-    State { settings, counter, last_number, receipts, chain: random.array(), journal_length }
+    let head = settings.head_length();
+    let last_place = head + after - 4;
+    let number = random.pick(&[1, 1, 2, 3, SERIALS - 1, SERIALS, 1 + random.below(SERIALS)]);
+    let mut serials = slots(&serials(random, settings.serial(), number));
+    if number > 1 && random.once_in(8) {
+        // equal ones: this is not asked
+        serials[1 + random.below(number - 1)] = serials[random.below(number)];
+    }
+    let open_receipts = random.pick(&[0, receipts, receipts.min(1), random.between(0, receipts as i64) as u32]);
+    let open_place = random.pick(&[head - 4, head - 4, 0, 3, last_place, random.below(last_place + 1)]);
+    State {
+        serials,
+        counter,
+        last_number,
+        receipts,
+        chain: random.array(),
+        journal_length: (head + after) as u64,
+        open_receipts,
+        open_place: open_place as u64,
+        ..State::opened(&settings)
+    }
 }
 
 /// Makes a sound state unsound in one way (a counter of width 8 can't be made so). `room` is the buffer's length.
 pub fn spoil_state(random: &Random, state: &mut State, room: usize) {
-    let end = width_end(state.settings.width);
-    match random.below(8) {
-        0..=2 => spoil_settings(random, &mut state.settings),
-        3 if state.settings.width < 8 => {
+    let end = width_end(state.width);
+    match random.below(13) {
+        0 => state.csp = bad_csp(random),
+        1 => spoil_name(random, &mut state.id, no_id_byte(random)),
+        2 => state.width = bad_width(random),
+        3 if state.width < 8 => {
             state.counter = random.pick(&[end + 1, !end - 1, i64::MAX, i64::MIN, end * 2 + 1, !end * 2])
         }
         4 | 5 if state.last_number < u32::MAX => {
             state.receipts = random.pick(&[state.last_number + 1, u32::MAX]);
         }
         6 => {
-            let head = state.settings.head_length() as u64;
-            state.journal_length = random.pick(&[head - 1, head - 4, 19, 1, 0]).min(head - 1);
+            let head = state.first().head_length() as u64;
+            state.journal_length = random.pick(&[head - 1, head - 1, head - 4, 19, 1, 0]).min(head - 1);
+            // the count may still be within
+            state.open_place = state.open_place.min(state.journal_length.saturating_sub(4));
         }
+        7..=9 => spoil_serials(random, state),
+        10 if state.receipts < u32::MAX => {
+            state.open_receipts = random.pick(&[state.receipts + 1, u32::MAX]);
+        }
+        11 => state.open_place = place_beyond(random, state.journal_length),
         _ => {
             let room = room as u64;
             state.journal_length =
                 random.pick(&[room + 1, room + 4, (1 << 32) + state.journal_length, 1 << 63, u64::MAX - 1, u64::MAX]);
+        }
+    }
+}
+
+/// A place whose count does not end within the journal length, also where four bytes after it are beyond 64 bits.
+pub fn place_beyond(random: &Random, journal_length: u64) -> u64 {
+    let last = journal_length - 4;
+    random.pick(&[
+        last + 1,
+        last + 4,
+        last | 1 << 32,
+        last | 1 << 63,
+        u64::MAX - 4,
+        u64::MAX - 3,
+        u64::MAX - 1,
+        u64::MAX,
+    ])
+}
+
+/// Makes the serials of a sound state bad: one of them, none at all, a gap, or something after them.
+pub fn spoil_serials(random: &Random, state: &mut State) {
+    let used = state.used();
+    match random.below(5) {
+        // a slot of length 0 with a byte in it
+        0 if used < SERIALS => {
+            let after = random.pick(&[used, SERIALS - 1, random.between(used as i64, 7) as usize]);
+            state.serials[after].bytes[random.pick(&[0, 31, random.below(32)])] = random.pick(b"0af\x01\x80");
+        }
+        // one more after a gap
+        1 if used + 1 < SERIALS => {
+            let after = random.pick(&[used + 1, SERIALS - 1, random.between(used as i64 + 1, 7) as usize]);
+            state.serials[after] = Name::of(&serial(random));
+        }
+        2 if used > 1 => state.serials[random.below(used - 1)] = Name::default(),
+        3 if used == 1 => state.serials[0] = Name::default(),
+        _ => {
+            let which = random.pick(&[0, used - 1, random.below(used)]);
+            let before = state.serials[which];
+            spoil_name(random, &mut state.serials[which], no_serial_byte(random));
+            // one less is no fault
+            if state.serials[which] == Name::default() {
+                state.serials[which] = Name { length: 0, ..before };
+            }
         }
     }
 }
@@ -328,7 +476,7 @@ pub fn details(random: &Random, state: &State) -> Details {
     }
     details.kind = random.pick(&[0, 0, 0, 1, 2]);
     details.amounts = std::array::from_fn(|_| amount(random));
-    let width = state.settings.width.clamp(5, 8);
+    let width = state.width.clamp(5, 8);
     let most = FIVE_LARGEST as i128;
     if random.once_in(3) {
         let end = width_end(width) as i128;

@@ -48,6 +48,11 @@ impl Name {
         let (text, after) = self.bytes.split_at_checked(length)?;
         after.iter().all(|&byte| byte == 0).then_some(text)
     }
+
+    /// The bytes up to the end; all of them where the length is over 32.
+    pub fn shown(&self) -> &[u8] {
+        &self.bytes[..self.length.min(32) as usize]
+    }
 }
 
 #[derive(Clone, Copy, Debug, Default, PartialEq, Eq)]

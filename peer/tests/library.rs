@@ -70,6 +70,11 @@ fn takeover() {
 }
 
 #[test]
+fn takeover_pairs() {
+    vectors::takeover_pairs(&Library);
+}
+
+#[test]
 fn paper() {
     vectors::paper(&Library);
 }
@@ -87,6 +92,26 @@ fn open() {
 #[test]
 fn one_key_for_two_registers() {
     vectors::one_key_for_two_registers(&Library);
+}
+
+#[test]
+fn change() {
+    vectors::change(&Library);
+}
+
+#[test]
+fn changes_by_hand() {
+    vectors::changes_by_hand(&Library);
+}
+
+#[test]
+fn serials_of_a_state() {
+    vectors::serials_of_a_state(&Library);
+}
+
+#[test]
+fn counts_at_any_place() {
+    vectors::counts_at_any_place(&Library);
 }
 
 #[test]

@@ -6,13 +6,13 @@ use peer::base64;
 use peer::calls::Peer;
 use peer::code::LONGEST_CODE;
 use peer::crypto::Aes256;
-use peer::layout::{DETAILS, STATE, details_bytes, details_of, state_bytes, state_of};
+use peer::layout::{DETAILS, SETTINGS, STATE, details_bytes, details_of, state_bytes, state_of};
 use peer::line::{LONGEST_ANY_LINE, LONGEST_LINE};
 use peer::receipt::{
     Kind, LONGEST_COMPACT, LONGEST_INPUT, LONGEST_PAYLOAD, counter_fits, counter_iv, decrypt_counter, encrypt_counter,
     push_amount, read_amount, read_date, read_entry, read_number,
 };
-use peer::register::State;
+use peer::register::{SERIALS, State};
 use peer::rows::TABLES;
 use peer::settings::{Name, Settings};
 use peer::text::Text;
@@ -79,6 +79,11 @@ fn takeover() {
 }
 
 #[test]
+fn takeover_pairs() {
+    vectors::takeover_pairs(&Peer);
+}
+
+#[test]
 fn paper() {
     vectors::paper(&Peer);
 }
@@ -96,6 +101,26 @@ fn open() {
 #[test]
 fn one_key_for_two_registers() {
     vectors::one_key_for_two_registers(&Peer);
+}
+
+#[test]
+fn change() {
+    vectors::change(&Peer);
+}
+
+#[test]
+fn changes_by_hand() {
+    vectors::changes_by_hand(&Peer);
+}
+
+#[test]
+fn serials_of_a_state() {
+    vectors::serials_of_a_state(&Peer);
+}
+
+#[test]
+fn counts_at_any_place() {
+    vectors::counts_at_any_place(&Peer);
 }
 
 #[test]
@@ -228,20 +253,27 @@ fn rows_of_the_peer() {
     }
 }
 
-/// The sizes of the header are those that follow from the limits.
+/// The sizes of the header are those of the layouts, and those that follow from the limits.
 #[test]
 fn sizes_of_the_header() {
     let header = header();
     for (name, size) in [
-        ("PAYLOAD", LONGEST_PAYLOAD),
-        ("INPUT", LONGEST_INPUT),
-        ("COMPACT", LONGEST_COMPACT),
-        ("ENTRY", 2 + LONGEST_COMPACT),
-        ("CODE", LONGEST_CODE),
-        ("LINE", LONGEST_LINE),
-        ("ANY_LINE", LONGEST_ANY_LINE),
+        ("SETTINGS", SETTINGS),
+        ("STATE", STATE),
+        ("DETAILS", DETAILS),
+        ("SERIALS", SERIALS),
+        ("LONGEST_NAME", 32),
+        ("LONGEST_HEAD", 19 + 32 + 32),
+        ("LONGEST_CHANGE", 8 + 32),
+        ("LONGEST_PAYLOAD", LONGEST_PAYLOAD),
+        ("LONGEST_INPUT", LONGEST_INPUT),
+        ("LONGEST_COMPACT", LONGEST_COMPACT),
+        ("LONGEST_ENTRY", 2 + LONGEST_COMPACT),
+        ("LONGEST_CODE", LONGEST_CODE),
+        ("LONGEST_LINE", LONGEST_LINE),
+        ("LONGEST_ANY_LINE", LONGEST_ANY_LINE),
     ] {
-        let start = format!("DITGRUX_LONGEST_{name} = ");
+        let start = format!("DITGRUX_{name} = ");
         let number = header.split_once(&start).expect("a size").1.split(|letter: char| !letter.is_ascii_digit()).next();
         assert_eq!(number, Some(size.to_string().as_str()), "{name}");
     }
@@ -375,7 +407,7 @@ fn entries_read() {
     assert_eq!(seen, 13);
 }
 
-/// Any 155 bytes are a state with one spelling; other lengths are the unopened state.
+/// Any 447 bytes are a state with one spelling; other lengths are the unopened state.
 #[test]
 fn states_as_bytes() {
     let mut bytes = [0u8; STATE];
@@ -385,7 +417,7 @@ fn states_as_bytes() {
             assert_eq!(state_bytes(&state_of(&bytes)), bytes);
         }
     }
-    for length in [0, 1, 154, 156, 310] {
+    for length in [0, 1, 155, 446, 448, 894] {
         assert_eq!(state_of(&vec![0xff; length]), State::default());
     }
     assert_eq!(state_bytes(&State::default()), [0; STATE]);

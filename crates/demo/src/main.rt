@@ -1,4 +1,4 @@
-// A register's day on the screen: it is opened, receipts are issued, the journal is taken over, and a broken one is refused.
+// A register's day on the screen: it is opened, receipts are issued, the certificate is changed, the journal is taken over, and a broken one is refused.
 use journal::State;
 use primitives::Alphabet;
 use receipt::DateTime;
@@ -97,6 +97,23 @@ fn issue(title: &[u8], st: State, d: Details, signature: &[u8], buf: &mut [u8]) 
     next
 }
 
+// Changes the certificate and shows what came of it.
+fn change(title: &[u8], st: State, serial: &[u8], buf: &mut [u8]) -> State {
+    printing::text(title);
+    let r = journal::change(st, receipt::name_of(serial), buf);
+    let next = r.state;
+    if r.number != 0 {
+        printing::text(b"  refused ");
+        printing::number(r.number as u64);
+        printing::text(b"\n");
+        return next;
+    }
+    printing::text(b"  receipts now name serial ");
+    printing::text(serial);
+    printing::text(b"\n");
+    next
+}
+
 // What a take-over of the first n bytes answers.
 fn take_over(title: &[u8], buf: &[u8], n: usize, key: [u8; 32]) {
     printing::text(title);
@@ -176,6 +193,20 @@ fn evening(st: State, buf: &mut [u8]) -> State {
     )
 }
 
+// The certificate is changed, a receipt names the new serial, and the old one cannot come back.
+fn night(st: State, buf: &mut [u8]) -> State {
+    let sign = [0x3cu8; 64];
+    let a = change(b"a new certificate\n", st, b"4d5e6f", buf);
+    let b = issue(
+        b"a sale under the new certificate\n",
+        a,
+        details(6, 40, [0, 0, 275, 0, 0], Kind::Standard),
+        &sign,
+        buf,
+    );
+    change(b"the old certificate again\n", b, b"1a2b3c", buf)
+}
+
 // One letter changed into another one of BASE64-URL.
 fn flip(buf: &mut [u8], at: usize) {
     if at < buf.len() {
@@ -196,7 +227,8 @@ fn main() {
     printing::text(b"register SHOP-1 opened\n");
     let first = morning(opened, &mut buf);
     let second = noon(first, &mut buf);
-    let st = evening(second, &mut buf);
+    let third = evening(second, &mut buf);
+    let st = night(third, &mut buf);
     take_over(b"the journal is taken over\n", &buf, st.length, key);
     flip(&mut buf, 190);
     take_over(

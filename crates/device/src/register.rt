@@ -176,7 +176,12 @@ fn serial_in(st: State, which: u32) -> Name
 
 // Writes one of the register's serials, as text.
 #[no_mangle]
-pub extern "C" fn ditgrux_serial(state: &[u8], which: u32, output: &mut [u8], length: &mut usize) -> u32
+pub extern "C" fn ditgrux_serial(
+    state: &[u8],
+    which: u32,
+    output: &mut [u8],
+    length: &mut usize,
+) -> u32
     ensures { λ r.
         let text : _ = nameText (serialIn (stateOf (now (state .entry))) which) in
         let a : _ = serialAnswer text (lib.ListN.length (now (output .entry))) in

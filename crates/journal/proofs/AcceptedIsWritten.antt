@@ -45,14 +45,14 @@ use Rattle.journal.specs.Demands.{beforeCount, Again, AcceptedIsWritten}
 use Rattle.journal.specs.declared.state.State.{State}
 use Rattle.journal.specs.declared.state.TakenOver.{TakenOver}
 use Rattle.journal.proofs.Check.{RightAt, textIn, step, first-yes, right-new, step-length}
-use Rattle.journal.proofs.Serials.{Zeroed, added-zeroed, serials-good, good-snoc}
+use Rattle.journal.proofs.Serials.{serials-good}
 use Rattle.journal.proofs.Answers.{Sound, Detailed, issue-yes, change-yes}
 use Rattle.journal.proofs.Placing.{Core, startCore, stepCore, runCore, coreAfter, run-append, run-after, RightFor, AllRight, right-split, Begun, Names, serials-append, length-serials, names-split}
 use Rattle.journal.proofs.Placing as placing
 use Rattle.journal.proofs.Passing.{at-settings, right-here, text-is, under, run, runPairs, kept, renewed-length, typed-for, good-for}
 use Rattle.journal.proofs.Accepting.{Work, blank, valid-work, valid-taken, ownerIn, journal-head}
-use Rattle.journal.proofs.Pairs.{wider, emptyPair, run-last, all-append, all-wider, all-empty, last-placed, journal-longer, journal-open, pairs-longer, pair-long, no-pairs, length-owner, Open, last-begun}
-use Rattle.journal.proofs.Registers.{Holds, holds-open, entryIn, call-state, change-state, issue-holds, issue-length, change-holds, counter-sum, opening-holds, opening-length, entries-all}
+use Rattle.journal.proofs.Pairs.{wider, emptyPair, run-last, all-append, all-wider, all-empty, last-placed, journal-longer, journal-open, pairs-longer, pair-long, no-pairs, length-owner, Open, open-of, last-begun}
+use Rattle.journal.proofs.Registers.{Holds, holds-open, entryIn, call-state, change-state, issue-holds, issue-length, change-holds, counter-sum, opening-holds, opening-length, run-zeroed}
 
 -- ---- the signature of an entry, as a slice
 
@@ -218,39 +218,27 @@ head-fits o n [] g h ns = absurd (omega arith)
 head-fits o n (p ∷ ps) g h (placing.more b ns) =
     omega (arith, length-append (ownerText o) (pairTexts o n (p ∷ ps)), length-owner o g, pairs-longer o n p ps, pair-long o n p (b .typed) (b .good))
 
-serials-of : (st : State) (s : Name) → renewed st s .serials ≡ added (st .serials) s
-unfolding renewed
-serials-of st s = refl
-
-zeroed : (k : List ℕ) (n : ℕ) (o : Owner) (g : Register) (ps : List Pair) (p : Pair) → Holds k n o g (ps ++ (p ∷ [])) → Zeroed (g .state .serials)
-zeroed k n o g ps p h =
-    let ns = names-split [] ps (p ∷ []) (h .work .names) in
-    let st₀ = runPairs (blank o k n) ps in
-    let e : g .state .serials ≡ added (st₀ .serials) (p .serial) =
-    ap (λ (x : State). x .serials) (h .state ∙ run-last (blank o k n) ps p) ∙ (kept (p .entries) (renewed st₀ (p .serial)) .serials ∙ serials-of st₀ (p .serial)) in
-    subst Zeroed (sym e) (added-zeroed (st₀ .serials) (p .serial) (last-begun _ p (ns .1) .good))
-
-pub holds-sound : (k : List ℕ) (n : ℕ) (o : Owner) (g : Register) (ps : List Pair) (p : Pair) → Holds k n o g (ps ++ (p ∷ [])) → Sound (g .state)
-holds-sound k n o g ps p h =
+pub run-sound : (k : List ℕ) (n : ℕ) (o : Owner) (ps : List Pair) (p : Pair) → Work k n o (ps ++ (p ∷ [])) → Sound (runPairs (blank o k n) (ps ++ (p ∷ [])))
+run-sound k n o ps p w =
     let qs = ps ++ (p ∷ []) in
-    let st = g .state in
-    let q = holds-open ps p h in
-    let b = bounds k n (startCore o) (allPlaced o qs) (h .work .right) (start-bounds n o (h .work .width)) in
+    let st = runPairs (blank o k n) qs in
+    let q = open-of k n o ps p w in
+    let b = bounds k n (startCore o) (allPlaced o qs) (w .right) (start-bounds n o (w .width)) in
     let base = q .at .base in
     let c = base .core in
     let ic : st .issued ≡ length (allPlaced o qs) = ap (λ (x : Core). x .issued) c ∙ run-issued n o (allPlaced o qs) in
-    let zs = zeroed k n o g ps p h in
+    let zs = run-zeroed k n o ps p w in
     let u = base .serials in
     let lu : length (used (st .serials)) ≡ length qs = ap length u ∙ length-serials qs in
     let f : record { csp = st .csp; id = st .id; serial = getD (st .serials) 0 noName } ≡ headOf o qs =
-    (λ i. record { csp = base .csp i; id = base .id i; serial = getD ((zs ∙ ap inEight u) i) 0 noName }) ∙ first-serial o qs (h .work .some) in
+    (λ i. record { csp = base .csp i; id = base .id i; serial = getD ((zs ∙ ap inEight u) i) 0 noName }) ∙ first-serial o qs (w .some) in
     let t = texts (settingsFor o (p .serial)) n (p .entries) in
     let kb = bytesOf 4 (length (p .entries)) in
     record {
-      csp = ap cspGood (base .csp) ∙ h .work .good .csp;
-      id = ap idGood (base .id) ∙ h .work .good .id;
-      serials = serials-good (st .serials) zs (omega (arith, lu, h .work .some)) (ap allGood u ∙ names-good [] qs (h .work .names));
-      width = ap widthGood (base .width) ∙ h .work .width;
+      csp = ap cspGood (base .csp) ∙ w .good .csp;
+      id = ap idGood (base .id) ∙ w .good .id;
+      serials = serials-good (st .serials) zs (omega (arith, lu, w .some)) (ap allGood u ∙ names-good [] qs (w .names));
+      width = ap widthGood (base .width) ∙ w .width;
       counter = (λ i. counterFits (base .width i) (c i .counter)) ∙ b .counter;
       issued = subst (λ (x : Core). x .issued ≤ x .last) (sym c) (b .issued);
       section = omega (arith, q .section, ic, last-length o ps p);
@@ -264,8 +252,11 @@ holds-sound k n o g ps p h =
             length-append kb t,
             length-bytesOf 4 (length (p .entries)),
           );
-      head = subst (λ (x : Settings). headLength x ≤ st .length) (sym f) (omega (arith, q .size, head-fits o n qs (h .work .good) (h .work .some) (h .work .names)));
+      head = subst (λ (x : Settings). headLength x ≤ st .length) (sym f) (omega (arith, q .size, head-fits o n qs (w .good) (w .some) (w .names)));
     }
+
+pub holds-sound : (k : List ℕ) (n : ℕ) (o : Owner) (g : Register) (ps : List Pair) (p : Pair) → Holds k n o g (ps ++ (p ∷ [])) → Sound (g .state)
+holds-sound k n o g ps p h = subst Sound (sym (h .state)) (run-sound k n o ps p (h .work))
 
 -- ---- calls of which none is refused
 

@@ -96,7 +96,7 @@ pub record Stands (j key : List ℕ) (n : ℕ) (o : Owner) (ps : List Pair) (p :
   pub counter : st .counter ≡ sum (receiptsIn (entriesOf (soFar o ps p)))
   pub chain : st .chain ≡ chainOf n (chainValue (nameText (o .id))) (soFar o ps p)
 
-core-start : (n : ℕ) (o : Owner) (xs : List Placed) → coreAfter n (startCore o) xs
+pub core-start : (n : ℕ) (o : Owner) (xs : List Placed) → coreAfter n (startCore o) xs
     ≡ record { counter = sum (receiptsIn (entriesOf xs)); last = lastOf 0 (entriesOf xs); issued = length xs; chain = chainOf n (chainValue (nameText (o .id))) xs }
 unfolding coreAfter startCore
 core-start n o xs =

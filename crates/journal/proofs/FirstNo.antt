@@ -46,7 +46,7 @@ use Rattle.journal.proofs.Heads.{head-good, read-settings, good-head, r
 use Rattle.journal.proofs.Starting.{StartAt, start-at, serial-read, start-there}
 use Rattle.journal.proofs.Check.{first-yes, first-true, above-yes, above-true, new-yes, new-fits, right-yes, right-fits, right-true, bytes-text, step, scheduleOf}
 use Rattle.journal.proofs.Stepping.{full-yes, full-no, full-true, full-false, end-none, entry-passed, entry-refused, start-passed, start-refused, Case, an-entry, at-end, a-start, step-case, idle, refused-step, passed-step}
-use Rattle.journal.proofs.Placing.{places-out, out-places, length-serials, names-length}
+use Rattle.journal.proofs.Placing.{in-place, places-out, out-places, length-serials, names-length}
 use Rattle.journal.proofs.Passing.{typed-for, at-settings, at-schedule, number-of, state-of}
 use Rattle.journal.proofs.Accepting.{entry-at, blank, takes-head, answer-number, ownerIn, good-owner, fresh-is}
 use Rattle.journal.proofs.Pairs.{wider, emptyPair, run-wider, run-empty}
@@ -373,7 +373,7 @@ module _ (j key : List ℕ) (n : ℕ) (b : AllBytes j) where
       let serial = serialAt j (stateThere o key n ps p .length) in
       ask-case (not (isIn serial us)) 30 (ask (ltb (length us) 8) 31 0) (suc y) (sym (serial-asks j key n o ps p m rest b f serial) ∙ z₁)
       (λ q w. subst (λ (a : ℕ). NoAt j key n a (index o ps p)) w
-      (used-before x t (λ h. true-is-not-false (sym (places-out serial (ps ++ (p ∷ [])) h) ∙ not-false _ q))))
+      (used-before x t (in-place serial (ps ++ (p ∷ [])) (not-false _ q))))
       (λ q₂ z₂. ask-case (ltb (length us) 8) 31 0 (suc y) z₂
       (λ q w.
       let l = ltb-false (length us) 8 q in
@@ -542,7 +542,7 @@ module _ (j key : List ℕ) (n : ℕ) (b : AllBytes j) where
   answer y i (used-before {o} {ps} {p} {rest} {serial} {k} {more} x t h) =
       full-no-start 29 x
       (start-asks j key n o ps p (length (p .entries)) rest b (far-of (x .so-far)) serial k more t
-      ∙ rw (bool-yes (isIn serial (serialsOf (ps ++ (p ∷ [])))) (λ z. h (out-places serial (ps ++ (p ∷ [])) z))))
+      ∙ rw (bool-yes (isIn serial (serialsOf (ps ++ (p ∷ [])))) (λ z. out-places serial (ps ++ (p ∷ [])) z (h .before) (h .pair) (h .later) (h .is) (h .same))))
   answer y i (a-ninth {o} {ps} {p} {rest} {serial} {k} {more} x t h e) =
       let l : 8 ≤ length (serialsOf (ps ++ (p ∷ []))) = omega (arith, length-serials (ps ++ (p ∷ [])), e) in
       full-no-start 30 x

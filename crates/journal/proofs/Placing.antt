@@ -17,7 +17,7 @@ use Rattle.receipt.specs.declared.settings.Settings.{Settings}
 use Rattle.receipt.specs.declared.entry.Entry.{Entry}
 use Rattle.journal.specs.Receipts.{receiptOf, receiptsIn, sum}
 use Rattle.journal.specs.State.{sameName, isIn, TypedName}
-use Rattle.journal.specs.Valid.{Owner, Pair, Placed, placed, entriesOf, lastOf, chainOf, serialsOf, Right, RightAfter, NotIn, Begins}
+use Rattle.journal.specs.Valid.{Owner, Pair, Placed, placed, entriesOf, lastOf, chainOf, serialsOf, Right, RightAfter, UsedIn, NotIn, Begins}
 use Rattle.journal.proofs.Serials.{same-name-is, same-name-refl}
 
 -- ---- what runs on from entry to entry
@@ -187,6 +187,17 @@ places-out s (p ∷ ps) h = go (sameName s (p .serial)) refl (places-out s ps (�
     go : (t : Bool) → sameName s (p .serial) ≡ t → isIn s (serialsOf ps) ≡ false → t || isIn s (serialsOf ps) ≡ false
     go true e r = absurd (h [] p ps refl (sym (same-name-is s (p .serial) e)))
     go false e r = r
+
+pub in-place : (s : Name) (ps : List Pair) → isIn s (serialsOf ps) ≡ true → UsedIn s ps
+unfolding serialsOf isIn
+in-place s [] e = true-is-not-false e
+in-place s (p ∷ ps) e = go (sameName s (p .serial)) refl e (in-place s ps)
+  where
+    go : (t : Bool) → sameName s (p .serial) ≡ t → t || isIn s (serialsOf ps) ≡ true → (isIn s (serialsOf ps) ≡ true → UsedIn s ps) → UsedIn s (p ∷ ps)
+    go true q z rec = record { before = []; pair = p; later = ps; is = refl; same = sym (same-name-is s (p .serial) q) }
+    go false q z rec =
+        let w = rec z in
+        record { before = p ∷ w .before; pair = w .pair; later = w .later; is = ap (λ (l : List Pair). p ∷ l) (w .is); same = w .same }
 
 abbrev pub EachBegins : List Pair → Type 0
 EachBegins ps = (before : List Pair) (p : Pair) (later : List Pair) → ps ≡ before ++ (p ∷ later) → Begins before p

@@ -26,7 +26,7 @@ use Rattle.receipt.specs.declared.settings.Name.{Name}
 use Rattle.receipt.specs.declared.settings.Settings.{Settings}
 use Rattle.receipt.specs.declared.entry.Entry.{Entry}
 use Rattle.journal.specs.Head.{head, headLength, entryText, pairStart}
-use Rattle.journal.specs.State.{unopened, isIn, TypedName}
+use Rattle.journal.specs.State.{unopened, added, isIn, TypedName}
 use Rattle.journal.specs.Step.{fresh, fieldsOf, next, renewed}
 use Rattle.journal.specs.Opening.{openNumber, opened, openBuffer}
 use Rattle.journal.specs.Issuing.{entryOf, textOf, issueNumberWithin, issuedWithin, withEntry, issueBufferWithin}
@@ -41,11 +41,12 @@ use Rattle.journal.proofs.Sections.{length-start}
 use Rattle.journal.proofs.Heads.{length-head}
 use Rattle.journal.proofs.Check.{RightAt, textIn, step, step-length}
 use Rattle.journal.proofs.Answers.{Eight, chain-eight, Answered, issue-zero, right-call, change-zero}
-use Rattle.journal.proofs.Placing.{Core, startCore, stepCore, runCore, coreAfter, run-after, RightFor, AllRight, right-append}
+use Rattle.journal.proofs.Serials.{Zeroed, added-zeroed}
+use Rattle.journal.proofs.Placing.{Core, startCore, stepCore, runCore, coreAfter, run-after, RightFor, AllRight, right-append, names-split}
 use Rattle.journal.proofs.Placing as placing
-use Rattle.journal.proofs.Passing.{coreOf, at-settings, right-there, text-is, under, run, runPairs, renewed-length}
+use Rattle.journal.proofs.Passing.{coreOf, at-settings, right-there, text-is, under, run, runPairs, kept, renewed-length}
 use Rattle.journal.proofs.Accepting.{Work, blank, blank-base, fresh-is, head-pair, ownerIn, good-owner}
-use Rattle.journal.proofs.Pairs.{texts-snoc, wider, emptyPair, run-wider, run-empty, all-wider, all-empty, names-wider, names-empty, no-pairs, ran, journal-open, journal-empty, Open, open-of}
+use Rattle.journal.proofs.Pairs.{texts-snoc, wider, emptyPair, run-last, last-begun, run-wider, run-empty, all-wider, all-empty, names-wider, names-empty, no-pairs, ran, journal-open, journal-empty, Open, open-of}
 
 -- ---- the buffer after an Issue: the entry after the journal, and the count of the open section, which stands after p, rewritten
 
@@ -380,12 +381,31 @@ pub receipts-same : (cs : List Call) (g : Register) (s : Name) → receiptsIn (e
 unfolding receiptsIn
 receipts-same cs g s = receipts-from cs g (emptyPair s)
 
+-- ---- the serials of a register that holds pairs
+
+serials-of : (st : State) (s : Name) → renewed st s .serials ≡ added (st .serials) s
+unfolding renewed
+serials-of st s = refl
+
+pub run-zeroed : (k : List ℕ) (n : ℕ) (o : Owner) (ps : List Pair) (p : Pair) → Work k n o (ps ++ (p ∷ [])) → Zeroed (runPairs (blank o k n) (ps ++ (p ∷ [])) .serials)
+run-zeroed k n o ps p w =
+    let ns = names-split [] ps (p ∷ []) (w .names) in
+    let st = runPairs (blank o k n) ps in
+    let e : runPairs (blank o k n) (ps ++ (p ∷ [])) .serials ≡ added (st .serials) (p .serial) =
+    ap (λ (x : State). x .serials) (run-last (blank o k n) ps p) ∙ (kept (p .entries) (renewed st (p .serial)) .serials ∙ serials-of st (p .serial)) in
+    subst Zeroed (sym e) (added-zeroed (st .serials) (p .serial) (last-begun _ p (ns .1) .good))
+
 -- ---- the counter is the sum
 
 pub entries-placed : (s : Settings) (es : List Entry) (xs : List Placed) → entriesOf (placed s es ++ xs) ≡ es ++ entriesOf xs
 unfolding entriesOf placed
 entries-placed s [] xs = refl
 entries-placed s (e ∷ es) xs = ap (λ (l : List Entry). e ∷ l) (entries-placed s es xs)
+
+pub length-entries : (xs : List Placed) → length (entriesOf xs) ≡ length xs
+unfolding entriesOf
+length-entries [] = refl
+length-entries (x ∷ xs) = ap suc (length-entries xs)
 
 pub entries-all : (o : Owner) (ps : List Pair) → entriesOf (allPlaced o ps) ≡ entriesIn ps
 unfolding entriesOf allPlaced entriesIn

@@ -10,7 +10,7 @@ use Rattle.primitives.specs.Questions.{ask, ifZero}
 use Rattle.receipt.specs.Settings.{serialGood}
 use Rattle.receipt.specs.declared.settings.Name.{Name}
 use Rattle.journal.specs.Head.{headSettings, pairStart}
-use Rattle.journal.specs.State.{noName, used, inEight, serialsGood, settingsNow, TypedName}
+use Rattle.journal.specs.State.{noName, used, inEight, serialsGood, settingsNow}
 use Rattle.journal.specs.Step.{fresh, sound}
 use Rattle.journal.specs.Changing.{changeNumber, changed, changeBuffer}
 use Rattle.journal.specs.Checking.{stopped, placeChecked, full, refused, headNumber, lastAnswer, takeOver}
@@ -34,14 +34,16 @@ pub record GoodSerials (slots ns : List Name) : Type 0 where
   pub places : slots ≡ inEight ns
 
 pub record SerialsGoodExactly : Type 0 where
-  pub only : (slots : List Name) → length slots ≡ 8 → ((i : ℕ) → i < 8 → TypedName (getD slots i noName)) → serialsGood slots ≡ true → GoodSerials slots (used slots)
+  pub only : (slots : List Name) → length slots ≡ 8 → serialsGood slots ≡ true → GoodSerials slots (used slots)
   pub always : (slots ns : List Name) → GoodSerials slots ns → (serialsGood slots ≡ true) × (used slots ≡ ns)
 
 -- ---- what Change asks
 
 -- a name is at a place of a list
-abbrev pub OneOf : Name → List Name → Type 0
-OneOf s ns = (((before : List Name) (n : Name) (later : List Name) → ns ≡ before ++ (n ∷ later) → n ≡ s → ⊥) → ⊥)
+pub record OneOf (s : Name) (ns : List Name) : Type 0 where
+  pub before : List Name
+  pub later : List Name
+  pub is : ns ≡ before ++ (s ∷ later)
 
 -- 30 for a good serial that a sound state has had, and for nothing else
 pub record UsedSerialGets30 : Type 0 where

@@ -16,7 +16,7 @@ use Rattle.receipt.specs.declared.entry.Entry.{Entry}
 use Rattle.journal.specs.Head.{section, pairStart, head, entryText}
 use Rattle.journal.specs.Receipts.{receiptsIn, sum}
 use Rattle.journal.specs.State.{TypedName}
-use Rattle.journal.specs.Valid.{Owner, Pair, settingsFor, texts, pairTexts, ownerText, Placed, allPlaced, entriesOf, lastOf, chainOf, Counted, RightAfter, NotIn, Begins, GoodOwner}
+use Rattle.journal.specs.Valid.{Owner, Pair, settingsFor, texts, pairTexts, ownerText, Placed, allPlaced, entriesOf, lastOf, chainOf, Counted, RightAfter, UsedIn, NotIn, Begins, GoodOwner}
 
 -- 14: the journal starts with a good head whose count is k
 pub record Headed (j : List ℕ) (s : Settings) (k : ℕ) (more : List ℕ) : Type 0 where
@@ -112,6 +112,6 @@ pub data NoAt (j key : List ℕ) (n : ℕ) : ℕ → ℕ → Type 0 where
   no-start : {o : Owner} {ps : List Pair} {p : Pair} {rest : List ℕ} → Full j key n o ps p rest
       → ((serial : Name) (k : ℕ) (more : List ℕ) → StartThere rest serial k more → ⊥) → NoAt j key n 21 (index o ps p)
   used-before : {o : Owner} {ps : List Pair} {p : Pair} {rest : List ℕ} {serial : Name} {k : ℕ} {more : List ℕ} → Full j key n o ps p rest
-      → StartThere rest serial k more → (NotIn serial (ps ++ (p ∷ [])) → ⊥) → NoAt j key n 30 (index o ps p)
+      → StartThere rest serial k more → UsedIn serial (ps ++ (p ∷ [])) → NoAt j key n 30 (index o ps p)
   a-ninth : {o : Owner} {ps : List Pair} {p : Pair} {rest : List ℕ} {serial : Name} {k : ℕ} {more : List ℕ} → Full j key n o ps p rest
       → StartThere rest serial k more → NotIn serial (ps ++ (p ∷ [])) → length (ps ++ (p ∷ [])) ≡ 8 → NoAt j key n 31 (index o ps p)

@@ -159,7 +159,15 @@ RightAfterWithin limit o key n before x =
 
 -- ---- a pair at its place
 
--- a name is no serial of these pairs
+-- a name is the serial of one of these pairs
+pub record UsedIn (serial : Name) (ps : List Pair) : Type 0 where
+  pub before : List Pair
+  pub pair : Pair
+  pub later : List Pair
+  pub is : ps ≡ before ++ (pair ∷ later)
+  pub same : pair .serial ≡ serial
+
+-- or of none
 abbrev pub NotIn : Name → List Pair → Type 0
 NotIn serial ps = (a : List Pair) (q : Pair) (b : List Pair) → ps ≡ a ++ (q ∷ b) → q .serial ≡ serial → ⊥
 

@@ -21,5 +21,6 @@ pub use state::Issued;
 pub use state::Opened;
 pub use state::State;
 pub use state::TakenOver;
+pub use state::settings_now;
 pub use state::unopened;
 pub use state::used_count;

@@ -194,7 +194,7 @@ pub(crate) fn added(slots: [Name; 8], serial: Name) -> [Name; 8]
 // ---- what a state says
 
 // The settings in force: the next receipt is spelled with them.
-pub(crate) fn settings_now(st: State) -> Settings
+pub fn settings_now(st: State) -> Settings
     ensures { λ r. ⌜ r ≡ settingsNow st ⌝ }
 {
     let csp = st.csp;

@@ -192,7 +192,7 @@ fn take_over(name: &[u8], buf: &[u8], st: State) {
     let key = st.key;
     let t = journal::take_over(&buf[0..n], key, st.width);
     let found = t.state;
-    let settings = found.settings;
+    let settings = journal::settings_now(found);
     print_taken(name, t);
     print_settings(name, settings, found.width);
     print_state(name, found);

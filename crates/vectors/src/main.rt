@@ -104,8 +104,21 @@ fn run_journals() {
     run(b't', b"takeover-8.tsv");
 }
 
+fn run_pairs() {
+    run(b't', b"takeover-pairs-1.tsv");
+    run(b't', b"takeover-pairs-2.tsv");
+    run(b't', b"takeover-pairs-3.tsv");
+    run(b't', b"takeover-pairs-4.tsv");
+    run(b't', b"takeover-pairs-5.tsv");
+    run(b't', b"takeover-pairs-6.tsv");
+    run(b't', b"takeover-pairs-7.tsv");
+    run(b't', b"takeover-pairs-8.tsv");
+    run(b't', b"takeover-pairs-9.tsv");
+}
+
 fn main() {
     run_primitives();
     run_receipts();
     run_journals();
+    run_pairs();
 }

@@ -50,12 +50,12 @@ impl Round<'_> {
         details.number = 2;
         details.amounts[self.random.below(5)] = amount;
         details.kind = self.random.pick(&[0, 1, 2]);
-        let journal = Journal::with(&settings, &[start, (details, sample::signature(&self.random))]);
+        let mut journal = Journal::with(&settings, &[start, (details, sample::signature(&self.random))]);
 
         let (bytes, number) = (journal.bytes(), if good { 0 } else { 16 });
         let taken = self.compare.take_over(&bytes, &settings.key, settings.width as usize, &mut [0x5a; STATE])?;
         demand(taken.number == number, "an amount is taken over up to the limit", &bytes)?;
-        let form = journal.entries[1].form();
+        let form = journal.entry(1).form();
         let read =
             self.compare.read(&settings_bytes(&settings), &form, &mut [0x5a; DETAILS], &mut [0x5a; SIGNATURE])?;
         demand(read.number == number, "an amount is read up to the limit", &form)

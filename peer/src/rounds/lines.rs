@@ -480,7 +480,7 @@ impl Round<'_> {
 
     /// A receipt's code and its line cut at every place, and with a byte changed at every place.
     pub(super) fn lines_with_every_change(&mut self, accepted: &Accepted) -> Compared<()> {
-        let form = self.form_of(accepted);
+        let (_, form) = self.form_of(accepted);
         let printed = self.printed_of(&form)?;
         let (code, line) = (printed.code(), printed.line());
         for place in 0..code.len() {

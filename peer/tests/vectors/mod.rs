@@ -1,12 +1,12 @@
 //! The vectors, published ones and those of the peer, asked of either side through the interface.
 
-use peer::calls::{Calls, Written};
+use peer::calls::{Calls, TakenOver, Written};
 use peer::code::LONGEST_CODE;
 use peer::crypto::Aes256;
 use peer::layout::{DETAILS, SETTINGS, SIGNATURE, STATE, details_bytes, settings_bytes, state_bytes, state_of};
 use peer::receipt::{Date, Details, LONGEST_COMPACT, LONGEST_INPUT, LONGEST_PAYLOAD, counter_iv};
-use peer::register::State;
-use peer::rows::{KINDS, issue_answer, open_answer, takeover_line, text_answer};
+use peer::register::{SERIALS, State};
+use peer::rows::{KINDS, change_answer, issue_answer, open_answer, takeover_line, text_answer};
 use peer::settings::{Name, Settings};
 
 /// A file by its place as seen from the peer's folder.
@@ -62,8 +62,7 @@ const GOOD_DATE: Date = Date { year: 2016, month: 2, day: 29, hour: 8, minute: 5
 /// A sound state made by hand.
 fn state(id: &str, key: [u8; 32], width: u64, counter: i64, last_number: u32, receipts: u32) -> State {
     let settings = Settings { csp: *b"AT0", id: Name::of(id.as_bytes()), serial: Name::of(b"2a"), width, key };
-    let journal_length = settings.head_length() as u64;
-    State { settings, counter, last_number, receipts, chain: [7; 8], journal_length }
+    State { counter, last_number, receipts, open_receipts: receipts, chain: [7; 8], ..State::opened(&settings) }
 }
 
 /// The twelve fields of what Prepare writes.
@@ -325,7 +324,16 @@ pub fn journals(side: &dyn Calls) {
 }
 
 pub fn takeover(side: &dyn Calls) {
-    for row in rows("../tests/takeover.tsv", 325) {
+    takeover_rows(side, "../tests/takeover.tsv", 325);
+}
+
+/// Journals of several pairs.
+pub fn takeover_pairs(side: &dyn Calls) {
+    takeover_rows(side, "../tests/takeover-pairs.tsv", 303);
+}
+
+fn takeover_rows(side: &dyn Calls, table: &str, count: usize) {
+    for row in rows(table, count) {
         let mut input = unhex(&row[1]);
         input.resize(input.len() + row[2].parse::<usize>().expect("a number of zeros"), 0);
         assert_eq!(takeover_line(side, &input), row[3], "{}", row[0]);
@@ -456,6 +464,141 @@ pub fn one_key_for_two_registers(side: &dyn Calls) {
     let (mut alone, mut held) = ([0xaa; 30], [0xaa; STATE]);
     assert_eq!(side.open(&settings_bytes(&register("A")), &mut alone, &mut held), 0);
     assert_eq!((journal, state), (alone, held));
+}
+
+// ---- changing the certificate
+
+/// States and serials, good or bad, and what Change makes of them.
+pub fn change(side: &dyn Calls) {
+    for row in rows("tests/data/change.tsv", 226) {
+        let expected = (row[4].parse().expect("a number"), unhex(&row[5]), unhex(&row[6]));
+        let answer = change_answer(side, &unhex(&row[1]), &unhex(&row[2]), row[3].parse().expect("a size"));
+        assert_eq!(answer, expected, "{}", row[0]);
+    }
+}
+
+fn assert_issued(side: &dyn Calls, held: &mut [u8], number: u32, amounts: [i64; 5], journal: &mut [u8]) {
+    let details = Details { number, date: GOOD_DATE, amounts, kind: 0 };
+    assert_eq!(side.issue(held, &details, &[number as u8; 64], journal), 0, "{number}");
+}
+
+/// The head of K-1 with serial 2a and a count of receipts, and what a change to 2b and one to c0ffee append.
+const HEAD_BY_HAND: &str = "00000003 415430 00000003 4b2d31 00000002 3261";
+const SECOND_BY_HAND: &str = "00000002 3262";
+const THIRD_BY_HAND: &str = "00000006 633066666565";
+
+fn unhex_parts(parts: &[&str]) -> Vec<u8> {
+    unhex(&parts.concat().replace(' ', ""))
+}
+
+/// Three serials and three receipts, none under the second serial: every byte but those of the entries is spelled here.
+pub fn changes_by_hand(side: &dyn Calls) {
+    let (mut journal, mut held) = (vec![0xaa; 900], [0xaa; STATE]);
+    assert_eq!(side.open(&settings_bytes(&by_hand()), &mut journal, &mut held), 0);
+    assert_issued(side, &mut held, 1, [0; 5], &mut journal);
+    let first = side.journal_length(&held);
+    assert_eq!(side.change(&mut held, b"2b", &mut journal), 0);
+    assert_eq!(side.change(&mut held, b"c0ffee", &mut journal), 0);
+    let third = side.journal_length(&held);
+    assert_eq!(third, first + 10 + 14);
+    assert_eq!(journal[..24], unhex_parts(&[HEAD_BY_HAND, "00000001"]));
+    assert_eq!(journal[first..third], unhex_parts(&[SECOND_BY_HAND, "00000000", THIRD_BY_HAND, "00000000"]));
+    assert!(journal[third..].iter().all(|&byte| byte == 0xaa));
+
+    let sale = Details { number: 7, date: GOOD_DATE, amounts: [1050, 0, 0, 0, 0], kind: 0 };
+    let fields = prepared_fields(side, &state_of(&held), &sale).expect("not refused");
+    assert_eq!((fields[2].as_str(), fields[10].as_str()), ("7", "c0ffee"));
+    assert_issued(side, &mut held, 7, [1050, 0, 0, 0, 0], &mut journal);
+    assert_issued(side, &mut held, 8, [-50, 0, 0, 0, 0], &mut journal);
+    assert_eq!(journal[..24], unhex_parts(&[HEAD_BY_HAND, "00000001"]));
+    assert_eq!(journal[first..third], unhex_parts(&[SECOND_BY_HAND, "00000000", THIRD_BY_HAND, "00000002"]));
+
+    assert_eq!((side.receipts(&held), side.counter(&held), side.last_number(&held)), (3, 1000, 8));
+    assert_eq!(held[435..439], [0, 0, 0, 2]);
+    assert_eq!(held[439..447], (third as u64 - 4).to_be_bytes());
+    assert_serials(side, &held, &[b"2a", b"2b", b"c0ffee"]);
+    let (journal, mut taken) = (&journal[..side.journal_length(&held)], [0xaa; STATE]);
+    assert_eq!(side.take_over(journal, &by_hand().key, 5, &mut taken), TakenOver { number: 0, index: 0 });
+    assert_eq!(taken, held);
+}
+
+/// A state says these serials, and settings with each of them.
+fn assert_serials(side: &dyn Calls, held: &[u8], serials: &[&[u8]]) {
+    assert_eq!(side.serials(held) as usize, serials.len());
+    let settings = state_of(held).first();
+    for which in 0..SERIALS + 2 {
+        let (serial, mut bytes) = (serials.get(which).copied().unwrap_or_default(), [0xaa; SETTINGS]);
+        let call = |held: &[u8], output: &mut [u8]| side.serial(held, which as u32, output);
+        assert_writes_up_to(&call, held, serial, "a serial");
+        assert_eq!(side.settings_in(held, which as u32, &mut bytes), 0);
+        assert_eq!(bytes, settings_bytes(&Settings { serial: Name::of(serial), ..settings }), "{which}");
+    }
+}
+
+/// The eight places of a state in every way: what it says of them, whatever they hold, and of other lengths.
+pub fn serials_of_a_state(side: &dyn Calls) {
+    let state = state("K-1", [9; 32], 5, 0, 1, 1);
+    let with = |serials: &[&[u8]]| {
+        let slot = |which: usize| serials.get(which).map_or(Name::default(), |serial| Name::of(serial));
+        state_bytes(&State { serials: std::array::from_fn(slot), ..state })
+    };
+    let longest = [b'f'; 32];
+    let names: [&[u8]; SERIALS] = [b"2a", b"0", &longest, b"2b", b"00", b"1", b"f", b"9"];
+    for used in 0..=SERIALS {
+        assert_serials(side, &with(&names[..used]), &names[..used]);
+    }
+    // up to the first that is empty
+    assert_serials(side, &with(&[b"2a", b"", b"0"]), &[b"2a"]);
+    assert_serials(side, &with(&[b"", b"2a"]), &[]);
+    // a place of length 0 is empty, whatever its bytes are; they are not checked
+    let mut held = with(&[b"2a", b"G_", b"0"]);
+    assert_serials(side, &held, &[b"2a", b"G_", b"0"]);
+    held[43 + 40 + 39] = 0;
+    assert_serials(side, &held, &[b"2a"]);
+    for length in [0, 155, 446, 448] {
+        let other = vec![0x33; length];
+        assert_eq!(side.serials(&other), 0);
+        assert_eq!(side.serial(&other, 0, &mut [0xaa; 32]), Written { number: 0, length: 0 });
+        let mut settings = [0xaa; SETTINGS];
+        assert_eq!((side.settings_in(&other, 0, &mut settings), settings), (0, [0; SETTINGS]));
+    }
+    for length in [0, 122, 124, 447] {
+        let mut settings = vec![0xaa; length];
+        assert_eq!(side.settings_in(&held, 0, &mut settings), 23);
+        assert!(settings.iter().all(|&byte| byte == 0xaa));
+    }
+}
+
+/// Issue writes the count of the open section where the state says, wherever that is before the journal's end; it asks no
+/// more of the place, and Change writes nothing there.
+pub fn counts_at_any_place(side: &dyn Calls) {
+    let details = Details { number: 2, date: GOOD_DATE, amounts: [0; 5], kind: 0 };
+    let held = State { journal_length: 60, open_receipts: 255, last_number: 300, receipts: 299, ..state_by_hand() };
+    let details = Details { number: 301, ..details };
+    for place in [0, 1, 10, 20, 24, 40, 55, 56] {
+        let (mut bytes, mut journal) = (state_bytes(&State { open_place: place, ..held }), [0xaa; 500]);
+        assert_eq!(side.issue(&mut bytes, &details, &[], &mut journal), 0, "{place}");
+        let mut expected = [0xaa; 60];
+        expected[place as usize..place as usize + 4].copy_from_slice(&[0, 0, 1, 0]);
+        assert_eq!(journal[..60], expected, "{place}");
+        assert_eq!((state_of(&bytes).open_place, state_of(&bytes).open_receipts), (place, 256));
+    }
+    for place in [57, 60, 1 << 32, 1 << 63, u64::MAX - 4, u64::MAX - 3, u64::MAX - 2, u64::MAX] {
+        let (mut bytes, mut journal) = (state_bytes(&State { open_place: place, ..held }), [0xaa; 500]);
+        assert_eq!(side.prepare(&bytes, &details, &mut [0; LONGEST_INPUT]), Written { number: 6, length: 0 });
+        assert_eq!(side.issue(&mut bytes, &details, &[], &mut journal), 6, "{place}");
+        assert_eq!(side.change(&mut bytes, b"2b", &mut journal), 6, "{place}");
+        assert_eq!(journal, [0xaa; 500]);
+    }
+    // Prepare asks nothing of the buffer: the longest journal has room for a count up to its end
+    for (place, number) in [(u64::MAX - 5, 0), (u64::MAX - 4, 0), (u64::MAX - 3, 6), (u64::MAX, 6)] {
+        let bytes = state_bytes(&State { open_place: place, journal_length: u64::MAX, ..held });
+        assert_eq!(side.prepare(&bytes, &details, &mut [0; LONGEST_INPUT]).number, number, "{place}");
+    }
+}
+
+fn state_by_hand() -> State {
+    State::opened(&by_hand())
 }
 
 // ---- receipts read back
@@ -684,6 +827,12 @@ type TextCall<'a> = &'a dyn Fn(&[u8], &mut [u8]) -> Written;
 
 /// What the call writes to an output that is exactly long enough. One byte less gets 23, and one more stays as it is.
 fn assert_writes(call: TextCall, text: &[u8], expected: &[u8], name: &str) {
+    assert_writes_up_to(call, text, expected, name);
+    assert_refuses(call, text, 23, &[0], name);
+}
+
+/// The same where nothing may be what is written, for which no output is too short.
+fn assert_writes_up_to(call: TextCall, text: &[u8], expected: &[u8], name: &str) {
     let needed = expected.len();
     for room in [needed, needed + 1] {
         let mut output = vec![0xaa; room];
@@ -691,7 +840,9 @@ fn assert_writes(call: TextCall, text: &[u8], expected: &[u8], name: &str) {
         assert_eq!(&output[..needed], expected, "{name}");
         assert!(output[needed..].iter().all(|&byte| byte == 0xaa), "{name}: a byte after the end is changed");
     }
-    assert_refuses(call, text, 23, &[needed - 1, 0], name);
+    if needed > 0 {
+        assert_refuses(call, text, 23, &[needed - 1], name);
+    }
 }
 
 /// The call is refused with this number, whatever the room, and changes no output.
@@ -895,13 +1046,7 @@ pub fn longest_line_of_a_receipt(side: &dyn Calls) {
         let names = [Name::of(&[b'~'; 32]), Name::of(&[b'f'; 32])];
         let settings = Settings { csp: *b"ZZ9", id: names[0], serial: names[1], width, key: [9; 32] };
         let head = settings.head_length();
-        let held = State {
-            settings,
-            last_number: 4_294_967_294,
-            receipts: 1,
-            journal_length: head as u64,
-            ..State::default()
-        };
+        let held = State { last_number: 4_294_967_294, receipts: 1, ..State::opened(&settings) };
         let details = Details { number: 4_294_967_295, date: GOOD_DATE, amounts: [-99_999_999_999; 5], kind };
         let (mut held, mut journal, mut code) = (state_bytes(&held), [0; 83 + 2 + LONGEST_COMPACT], [0; LONGEST_CODE]);
         assert_eq!(side.issue(&mut held, &details, &[0xa5; 64], &mut journal), 0);

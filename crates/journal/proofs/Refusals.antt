@@ -1,0 +1,72 @@
+-- What a refused call leaves.
+use Prim.Native.Nat.{ℕ, zero, suc}
+use mathlib.Core.Bool.{Bool}
+use mathlib.Core.Path.{_≡_, refl}
+use mathlib.Core.List.{List}
+use lib.ListN.{length}
+use Rattle.receipt.specs.declared.settings.Name.{Name}
+use Rattle.receipt.specs.declared.settings.Settings.{Settings}
+use Rattle.receipt.specs.declared.details.Details.{Details}
+use Rattle.journal.specs.State.{unopened}
+use Rattle.journal.specs.Step.{fresh}
+use Rattle.primitives.specs.Questions.{ifZero}
+use Rattle.journal.specs.Opening.{openNumber, opened, openBuffer}
+use Rattle.journal.specs.Issuing.{issueNumber, issued, issuedWithin, issueBuffer, issueBufferWithin}
+use Rattle.journal.specs.Changing.{changeNumber, changed, changeBuffer}
+use Rattle.journal.specs.Preparing.{prepareNumber, prepareAnswer, prepareBuffer}
+use Rattle.journal.specs.Checking.{headNumber, refused, accepted, takeOver, lastAnswer, steps}
+use Rattle.journal.specs.Head.{headSettings}
+use Rattle.journal.specs.Demands.{RefusedChangesNothing}
+use Rattle.journal.specs.declared.state.State.{State}
+use Rattle.journal.specs.declared.state.TakenOver.{TakenOver}
+use Rattle.primitives.proofs.Rows.{ifZero-no}
+use Rattle.journal.specs.declared.checking.Step.{Step}
+use Rattle.primitives.specs.Aes.{keySchedule}
+
+open-refused : (s : Settings) (key : List ℕ) (shared : Bool) (n : ℕ) (buf : List ℕ) → (opened s key shared n (length buf) .number ≡ 0 → ⊥)
+    → (opened s key shared n (length buf) .state ≡ unopened) × (openBuffer s shared n buf ≡ buf)
+unfolding opened openBuffer
+open-refused s key shared n buf h = (ifZero-no (openNumber s shared n (length buf)) _ _ h, ifZero-no (openNumber s shared n (length buf)) _ _ h)
+
+issue-refused : (st : State) (d : Details) (sig buf : List ℕ) → (issued st d sig (length buf) .number ≡ 0 → ⊥)
+    → (issued st d sig (length buf) .state ≡ st) × (issueBuffer st d sig buf ≡ buf)
+unfolding issuedWithin issueBufferWithin
+issue-refused st d sig buf h = (ifZero-no (issueNumber st d sig (length buf)) _ _ h, ifZero-no (issueNumber st d sig (length buf)) _ _ h)
+
+change-refused : (st : State) (serial : Name) (buf : List ℕ) → (changed st serial (length buf) .number ≡ 0 → ⊥)
+    → (changed st serial (length buf) .state ≡ st) × (changeBuffer st serial buf ≡ buf)
+unfolding changed changeBuffer
+change-refused st serial buf h = (ifZero-no (changeNumber st serial (length buf)) _ _ h, ifZero-no (changeNumber st serial (length buf)) _ _ h)
+
+prepare-refused : (st : State) (d : Details) (out : List ℕ) → (prepareAnswer st d (length out) .number ≡ 0 → ⊥)
+    → (prepareAnswer st d (length out) .length ≡ 0) × (prepareBuffer st d out ≡ out)
+unfolding prepareAnswer prepareBuffer
+prepare-refused st d out h = (ifZero-no (prepareNumber st d (length out)) _ _ h, ifZero-no (prepareNumber st d (length out)) _ _ h)
+
+-- a refusal has the unopened state
+refused-state : (k i : ℕ) → refused k i .state ≡ unopened
+unfolding refused
+refused-state k i = refl
+
+-- a number picks the refusal, or the answer that is left
+pick : (k i : ℕ) (t : TakenOver) → ((t .number ≡ 0 → ⊥) → t .state ≡ unopened) → (ifZero k t (refused k i) .number ≡ 0 → ⊥) → ifZero k t (refused k i) .state ≡ unopened
+unfolding ifZero
+pick zero i t f h = f h
+pick (suc k) i t f h = refused-state (suc k) i
+
+zero-number : (st : State) → accepted st .number ≡ 0
+unfolding accepted
+zero-number st = refl
+
+answer-refused : (s : Step) → (lastAnswer s .number ≡ 0 → ⊥) → lastAnswer s .state ≡ unopened
+unfolding lastAnswer
+answer-refused s = pick (s .number) (s .state .issued) (accepted (s .state)) (λ h. absurd (h (zero-number (s .state))))
+
+take-refused : (j key : List ℕ) (n : ℕ) → (takeOver j key n .number ≡ 0 → ⊥) → takeOver j key n .state ≡ unopened
+unfolding takeOver
+take-refused j key n =
+    let s = steps (keySchedule key) (length j) (fresh (headSettings j) n key) j in
+    pick (headNumber j n) 0 (lastAnswer s) (answer-refused s)
+
+pub refused-changes-nothing : RefusedChangesNothing
+refused-changes-nothing = record { opens = open-refused; issues = issue-refused; changes = change-refused; prepares = prepare-refused; takes = take-refused }

@@ -1,0 +1,2 @@
+# src/register.rs: 13 before 30 in Change
+/^(pub )?fn change\(/,/^}/ s/^    let place = state\.place_of\(serial\)\?;/    if 8 + serial.len() > buffer.len() - state.journal_length as usize {\n        return Err(13);\n    }\n&/

@@ -1,0 +1,2 @@
+# src/calls.rs: a Change refused with 13 keeps the new serial
+s/^        with_state\(state, \|held\| register::change\(held, serial, journal\)\)/        let number = with_state(state, |held| register::change(held, serial, journal));\n        if number == 13 {\n            let mut held = state_of(state);\n            held.serials[held.used()] = Name::of(serial);\n            state.copy_from_slice(\&state_bytes(\&held));\n        }\n        number/

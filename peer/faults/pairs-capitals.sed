@@ -1,0 +1,2 @@
+# src/register.rs: a serial in capitals taken over
+/^(pub )?fn take_pair\(/,/^}/ s/^    let \(serial, count\) = reader\.pair\(\)\.ok_or\(no\(21\)\)\?;/    let length = reader.rest.first_chunk().map_or(0, |length| u32::from_be_bytes(*length) as usize);\n    if reader.rest.get(4..4 + length).is_some_and(|serial| !serial_good(serial) \&\& serial_good(\&serial.to_ascii_lowercase())) \&\& reader.rest.len() >= 8 + length {\n        reader.take(8 + length);\n        return Ok(0);\n    }\n&/
