@@ -1,30 +1,37 @@
 -- Laws of definitions of the lower crates that those crates do not state. Apart from proofs/Zeros.antt, which computes, this is the only
 -- file of the crate that unfolds a definition of a lower one.
-use Prim.Native.Nat.{ℕ, _<_}
-use mathlib.Core.Path.{_≡_, refl}
+use Prim.Native.Nat.{ℕ, _^_, _<_}
+use mathlib.Core.Path.{_≡_, refl, sym, ap, _∙_, subst}
 use mathlib.Core.Bool.{Bool, true, cond}
 use mathlib.Core.List.{List, [], _∷_, _++_}
 use native.Mathlib.Omega.{arith}
-use borrow.Author.Tests.{leb-true}
+use borrow.Author.Tests.{leb-true, lt-ltb}
 use lib.Dec.{leb}
 use lib.ListN.{length, take}
-use Rattle.primitives.specs.Place.{room}
+use lib.Signed.{mag}
+use Rattle.primitives.specs.Counter.{counterFits}
 use Rattle.primitives.specs.Questions.{ifZero}
-use Rattle.primitives.proofs.Rows.{both}
+use Rattle.primitives.proofs.Rows.{both, ifZero-yes}
+use Rattle.primitives.proofs.Twos.{width-true, half-small, fits-below, fits-64, counted}
 use Rattle.receipt.specs.DateTime.{daysIn, dayGood, timeGood, dateGood}
 use Rattle.receipt.specs.declared.settings.Name.{Name}
 use Rattle.receipt.specs.declared.settings.Settings.{Settings}
 use Rattle.receipt.specs.declared.datetime.DateTime.{DateTime}
 use Rattle.receipt.specs.declared.details.Details.{Details}
+use Rattle.receipt.specs.declared.details.After.{After}
 use Rattle.receipt.specs.declared.entry.Entry.{Entry}
 use Rattle.receipt.proofs.Dates.{days-few}
 use Rattle.journal.specs.Opening.{openNumber, opened, openBuffer}
-use Rattle.journal.specs.Issuing.{issueNumber, issued, issuedWithin, issueBuffer}
+use Rattle.journal.specs.State.{TypedState}
+use Rattle.journal.specs.Step.{newCounter, next}
+use Rattle.journal.specs.Issuing.{textOf, issueNumber, issued, issuedWithin, issueBuffer}
 use Rattle.journal.specs.Checking.{accepted}
 use Rattle.journal.specs.Changing.{changeNumber, changed, changeBuffer}
-use Rattle.journal.specs.Valid.{Pair}
+use Rattle.journal.specs.Valid.{Owner, Pair, settingsFor, placed, allPlaced, headOf}
 use Rattle.journal.specs.Calls.{Order, Call, issue, change, Register, journalOf, opening, numberOf, numbersOf, receiptOfCall, receiptsOf, Section, sectionsFrom, call, callWithin, calls, callsWithin, orderOf, issuesOf, laterCalls, callsOf}
 use Rattle.journal.specs.declared.state.State.{State}
+use Rattle.journal.proofs.Check.{new-fits, new-is}
+use Rattle.journal.proofs.Answers.{chain-eight, issue-zero}
 
 -- ---- receipt
 
@@ -155,6 +162,34 @@ pub changed-number : (st : State) (s : Name) (room : ℕ) → changed st s room 
 unfolding changed
 changed-number st s room = refl
 
+-- what the types say of the state after an Issue that is not refused
+pub issued-typed : (st : State) (d : Details) (sig : List ℕ) (room : ℕ) → TypedState st → d .number < 4294967296 → room < 18446744073709551616
+    → issueNumber st d sig room ≡ 0 → TypedState (issued st d sig room .state)
+unfolding issuedWithin next
+issued-typed st d sig room t number small z =
+    let a = issue-zero st d sig room z in
+    let x = newCounter st d .counter in
+    let e = ap (λ (y : After). y .counter) (new-is st d (a .details .counter)) in
+    let f = counted (st .width) x (ap (counterFits (st .width)) e ∙ new-fits st d (a .details .counter) .fits) in
+    let c = chain-eight (textOf st d sig) in
+    subst TypedState (sym (ifZero-yes (next st d (textOf st d sig)) st z)) (record {
+      csp = t .csp;
+      id = t .id;
+      eight = t .eight;
+      serials = t .serials;
+      width = t .width;
+      keyLength = t .keyLength;
+      keyBytes = t .keyBytes;
+      counter = fits-64 x ∙ lt-ltb (mag x) (2 ^ 63) (omega (arith, fits-below (st .width) x (f .fits), half-small (st .width) (width-true (st .width) (f .width) .most)));
+      last = number;
+      issued = omega (arith, a .sound .issued, a .details .above);
+      chain = c .long;
+      chainBytes = c .bytes;
+      inJournal = omega (arith, a .fits);
+      section = omega (arith, a .sound .section, a .sound .issued, a .details .above);
+      place = t .place;
+    })
+
 -- ---- journal: the calls of entries and pairs
 
 pub order-details : (e : Entry) → orderOf e .details ≡ e .fields .details
@@ -188,3 +223,17 @@ pairs-none = refl
 pub pairs-more : (p : Pair) (ps : List Pair) → callsOf (p ∷ ps) ≡ issuesOf (p .entries) ++ laterCalls ps
 unfolding callsOf
 pairs-more p ps = refl
+
+-- ---- journal: the entries of pairs
+
+pub placed-more : (s : Settings) (e : Entry) (es : List Entry) → placed s (e ∷ es) ≡ record { settings = s; entry = e } ∷ placed s es
+unfolding placed
+placed-more s e es = refl
+
+pub all-more : (o : Owner) (p : Pair) (ps : List Pair) → allPlaced o (p ∷ ps) ≡ placed (settingsFor o (p .serial)) (p .entries) ++ allPlaced o ps
+unfolding allPlaced
+all-more o p ps = refl
+
+pub head-is : (o : Owner) (p : Pair) (ps : List Pair) → headOf o (p ∷ ps) ≡ settingsFor o (p .serial)
+unfolding headOf
+head-is o p ps = refl

@@ -11,6 +11,7 @@ pub mod Reading
 pub mod Sizes
 pub mod Slots
 pub mod Spelling
+pub mod StateCalls
 pub mod TextAnswers
 pub mod Writers
 pub mod Zeros

@@ -20,7 +20,7 @@ use Rattle.journal.specs.State.{unopened, TypedRegister}
 use Rattle.journal.specs.Opening.{opened}
 use Rattle.journal.specs.Checking.{takeOver}
 use Rattle.journal.specs.declared.state.State.{State}
-use Rattle.device.specs.Layout.{stateBytes, arrayOf, settingsOf, widthOf, keyOf, kept}
+use Rattle.device.specs.Layout.{stateBytes, arrayOf, settingsOf, widthOf, keyOf, stateOf, kept}
 use Rattle.device.specs.Calls.{settingsFrom, widthWith, openAnswer, takeOverAnswer}
 
 -- ---- arrays and keys
@@ -80,6 +80,10 @@ good-register s n key t good width l b =
     }
 
 -- ---- states
+
+pub state-none : (b : List ℕ) → (length b ≡ 447 → ⊥) → stateOf b ≡ unopened
+unfolding stateOf
+state-none b h = rw (ne-eqb (length b) 447 h)
 
 pub kept-not : (b : List ℕ) (st : State) → (length b ≡ 447 → ⊥) → kept b st ≡ b
 unfolding kept
