@@ -19,8 +19,8 @@ use Rattle.primitives.proofs.Cipher.{schedule-bytes}
 use Rattle.primitives.proofs.Numbers.{length-bytesOf}
 use Rattle.primitives.proofs.Rows.{ask-yes}
 use Rattle.primitives.proofs.Twos.{width-true, half-twice, below-fits, fits-wide}
-use Rattle.receipt.specs.Settings.{cspGood, idGood, serialGood, settingsGood}
-use Rattle.receipt.specs.Details.{standard, counted}
+use Rattle.receipt.specs.Settings.{cspGood, idGood, settingsGood}
+use Rattle.receipt.specs.Details.{standard}
 use Rattle.receipt.specs.Payload.{counterGood}
 use Rattle.receipt.specs.Chain.{encryptedCounter, decryptedCounter}
 use Rattle.receipt.specs.Compact.{compact, signatureZero, TypedEntry}
@@ -32,14 +32,14 @@ use Rattle.receipt.specs.declared.entry.Signature.{Signature}
 use Rattle.receipt.specs.declared.entry.Entry.{Entry}
 use Rattle.receipt.proofs.Entries.{Admitted, admitted, standard-is, counter-after, counter-none, failed-bytes, encrypt-back}
 use Rattle.receipt.proofs.Names.{settings-yes, id-own}
-use Rattle.journal.specs.Head.{headLength, entryText, pairStart}
-use Rattle.journal.specs.State.{noName, used, inEight, added, newest, isIn, allGood, settingsNow, TypedName}
-use Rattle.journal.specs.Step.{newCounter, fieldsOf, renewed}
+use Rattle.journal.specs.Head.{headLength, entryText}
+use Rattle.journal.specs.State.{noName, used, inEight, isIn, allGood, settingsNow, TypedName}
+use Rattle.journal.specs.Step.{newCounter, fieldsOf}
 use Rattle.journal.specs.Opening.{openNumber}
 use Rattle.journal.specs.Issuing.{signatureSized, givenSignature, entryOf, textOf, issueNumber}
 use Rattle.journal.specs.Changing.{changeNumber}
 use Rattle.journal.specs.Checking.{accepted, takeOver}
-use Rattle.journal.specs.Valid.{Owner, Pair, settingsFor, texts, pairText, pairTexts, ownerText, journalText, Placed, placed, allPlaced, serialsOf, GoodOwner, Valid, headOf}
+use Rattle.journal.specs.Valid.{Owner, Pair, settingsFor, texts, pairTexts, ownerText, journalText, Placed, placed, allPlaced, serialsOf, GoodOwner, Valid, headOf}
 use Rattle.journal.specs.Calls.{Order, TypedOrder, Call, issue, change, issues, changes, TypedCalls, none, more, Register, opening, numberOf, call, calls, callsWithin, numbersOf, orderOf, issuesOf, laterCalls, callsOf}
 use Rattle.journal.specs.Demands.{beforeCount, Again, AcceptedIsWritten}
 use Rattle.journal.specs.declared.state.State.{State}
@@ -47,11 +47,11 @@ use Rattle.journal.specs.declared.state.TakenOver.{TakenOver}
 use Rattle.journal.proofs.Check.{RightAt, textIn, step, first-yes, right-new, step-length}
 use Rattle.journal.proofs.Serials.{serials-good}
 use Rattle.journal.proofs.Answers.{Sound, Detailed, issue-yes, change-yes}
-use Rattle.journal.proofs.Placing.{Core, startCore, stepCore, runCore, coreAfter, run-append, run-after, RightFor, AllRight, right-split, Begun, Names, serials-append, length-serials, names-split}
+use Rattle.journal.proofs.Placing.{Core, startCore, stepCore, runCore, coreAfter, run-append, run-after, RightFor, AllRight, right-split, Begun, Names, serials-append, length-serials}
 use Rattle.journal.proofs.Placing as placing
-use Rattle.journal.proofs.Passing.{at-settings, right-here, text-is, under, run, runPairs, kept, renewed-length, typed-for, good-for}
-use Rattle.journal.proofs.Accepting.{Work, blank, valid-work, valid-taken, ownerIn, journal-head}
-use Rattle.journal.proofs.Pairs.{wider, emptyPair, run-last, all-append, all-wider, all-empty, last-placed, journal-longer, journal-open, pairs-longer, pair-long, no-pairs, length-owner, Open, open-of, last-begun}
+use Rattle.journal.proofs.Passing.{right-here, text-is, under, runPairs, renewed-length, typed-for, good-for}
+use Rattle.journal.proofs.Accepting.{Work, blank, valid-work, valid-taken}
+use Rattle.journal.proofs.Pairs.{wider, emptyPair, all-wider, all-empty, last-placed, journal-longer, journal-open, pairs-longer, pair-long, no-pairs, length-owner, Open, open-of}
 use Rattle.journal.proofs.Registers.{Holds, holds-open, entryIn, call-state, change-state, issue-holds, issue-length, change-holds, counter-sum, opening-holds, opening-length, run-zeroed}
 
 -- ---- the signature of an entry, as a slice

@@ -4,10 +4,8 @@ use mathlib.Core.Path.{_≡_, refl, sym, ap, _∙_, subst}
 use mathlib.Core.Bool.{true, false, _&&_}
 use mathlib.Core.List.{List, [], _∷_, _++_, append-assoc, append-nil}
 use native.Mathlib.Omega.{arith}
-use borrow.Author.Tests.{leb-true}
 use lib.IntN.{pos}
 use lib.ListN.{length, drop, length-append, drop-of-length-le}
-use lib.Seq.{drop-at}
 use Rattle.primitives.specs.Bytes.{AllBytes}
 use Rattle.primitives.specs.Number.{bytesOf, countAt}
 use Rattle.primitives.specs.Counter.{widthGood}
@@ -24,22 +22,22 @@ use Rattle.receipt.specs.declared.settings.Letters.the-variants.{Id, Serial}
 use Rattle.receipt.specs.declared.entry.Entry.{Entry}
 use Rattle.receipt.proofs.Names.{good-name}
 use Rattle.journal.specs.Head.{section, front, head, headLength, countPlace, headSettings, headGood, entryText, textAt, pairStart, serialAt}
-use Rattle.journal.specs.State.{noName, used, inEight, added, newest, isIn, settingsNow, TypedName}
+use Rattle.journal.specs.State.{used, inEight, added, isIn, TypedName}
 use Rattle.journal.specs.Step.{fresh, next, renewed}
-use Rattle.journal.specs.Checking.{headNumber, after, entryNumber, stopped, full, oneStep, steps, refused, accepted, lastAnswer, takeOver}
-use Rattle.journal.specs.Valid.{Owner, Pair, settingsFor, texts, pairText, pairTexts, ownerText, journalText, Placed, placed, allPlaced, GoodOwner, Valid, headOf}
+use Rattle.journal.specs.Checking.{headNumber, after, entryNumber, full, oneStep, steps, refused, accepted, lastAnswer, takeOver}
+use Rattle.journal.specs.Valid.{Owner, Pair, settingsFor, texts, pairText, pairTexts, ownerText, journalText, Placed, placed, allPlaced, GoodOwner, Valid}
 use Rattle.journal.specs.declared.state.State.{State}
 use Rattle.journal.specs.declared.state.TakenOver.{TakenOver}
 use Rattle.journal.specs.declared.checking.Checked.{Checked}
 use Rattle.journal.specs.declared.checking.Step.{Step}
 use Rattle.journal.proofs.Places.{length-entry, there-entry}
 use Rattle.journal.proofs.Heads.{length-head, read-settings, head-good, good-head, read-typed, read-few, read-back, countOf, read-count-at, read-place-is, read-length}
-use Rattle.journal.proofs.Check.{RightAt, textIn, step, passes-right, after-passed, bytes-text, step-length, scheduleOf}
+use Rattle.journal.proofs.Check.{RightAt, textIn, step, passes-right, after-passed, bytes-text, step-length}
 use Rattle.journal.proofs.Stepping.{after-within, full-true, full-false, Starts, Case, an-entry, at-end, a-start, step-case, end-none, full-yes, idle, answer-zero}
 use Rattle.journal.proofs.Starting.{StartAt, start-at}
-use Rattle.journal.proofs.Placing.{Core, startCore, stepCore, runCore, RightFor, AllRight, all-each, each-all, Begun, Names, names-each, each-names, names-length}
+use Rattle.journal.proofs.Placing.{Core, startCore, stepCore, RightFor, AllRight, all-each, each-all, Begun, Names, names-each, each-names, names-length}
 use Rattle.journal.proofs.Placing as placing
-use Rattle.journal.proofs.Passing.{state-of, coreOf, Base, At, typed-for, good-for, under, at-settings, at-typed, at-schedule, right-there, text-is, at-next, renewed-length, renewed-place, renewed-section, at-renewed, run, runPairs, stepsOf, pair-split, passed-pairs}
+use Rattle.journal.proofs.Passing.{state-of, Base, At, typed-for, good-for, under, at-typed, at-schedule, right-there, text-is, at-next, renewed-length, renewed-place, renewed-section, at-renewed, run, runPairs, stepsOf, pair-split, passed-pairs}
 
 -- ---- what stands there if a step passes
 

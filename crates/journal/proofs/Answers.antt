@@ -2,30 +2,24 @@
 use Prim.Native.Nat.{ℕ, _+_, _≤_, _<_}
 use mathlib.Core.Path.{_≡_, refl, sym, ap, _∙_}
 use mathlib.Core.Bool.{Bool, true, false, cond, _&&_, _||_}
-use mathlib.Core.List.{List, [], _∷_, _++_, append-assoc, append-nil}
+use mathlib.Core.List.{List, []}
 use native.Mathlib.Omega.{arith}
 use borrow.Author.Tests.{leb-true, le-leb, lt-ltb, ltb-true, eqb-true, not-true}
 use lib.Dec.{eqb}
-use lib.IntN.{_+ℤ_, +ℤ-idr}
-use lib.ListN.{length, take, replicate}
-use lib.Seq.{take-add}
-use Rattle.primitives.specs.Place.{overwrite}
+use lib.IntN.{_+ℤ_}
+use lib.ListN.{length, replicate}
 use Rattle.primitives.specs.Bytes.{AllBytes}
-use Rattle.primitives.specs.Number.{bytesOf}
 use Rattle.primitives.specs.Counter.{widthGood, counterFits}
 use Rattle.primitives.specs.Aes.{keySchedule}
 use Rattle.primitives.proofs.ByteLists.{bytes-replicate}
 use Rattle.primitives.proofs.Cipher.{schedule-bytes}
-use Rattle.primitives.proofs.Numbers.{length-bytesOf}
-use Rattle.primitives.proofs.Over.{length-over, before-over, read-over}
-use Rattle.primitives.proofs.Rewrites.{take-after, over-middle}
 use Rattle.receipt.specs.Settings.{cspGood, idGood, serialGood, settingsGood}
 use Rattle.receipt.specs.declared.settings.Name.{Name}
 use Rattle.receipt.specs.Payload.{counterGood}
 use Rattle.receipt.specs.DateTime.{dateGood}
 use Rattle.receipt.specs.Details.{standard, amountsGood, counted}
 use Rattle.receipt.specs.Chain.{chainValue, encryptedCounter, decryptedCounter}
-use Rattle.receipt.specs.Compact.{compact, signatureZero, spellable, TypedEntry}
+use Rattle.receipt.specs.Compact.{signatureZero, spellable, TypedEntry}
 use Rattle.receipt.specs.declared.details.Kind.{Kind}
 use Rattle.receipt.specs.declared.details.Kind.the-variants.{Standard, Cancellation, Training}
 use Rattle.receipt.specs.declared.settings.Settings.{Settings}
@@ -36,13 +30,11 @@ use Rattle.receipt.specs.declared.entry.Signature.{Signature}
 use Rattle.primitives.proofs.Rows.{both, true-is-not-false, ask-zero}
 use Rattle.receipt.proofs.Names.{good-sized}
 use Rattle.receipt.proofs.Chains.{length-chain, bytes-chain, length-encrypted, bytes-encrypted, after-encrypted, decrypt-back}
-use Rattle.journal.specs.Head.{head, entryText, front}
+use Rattle.journal.specs.Head.{head, entryText}
 use Rattle.primitives.specs.Questions.{ask, ifZero}
-use Rattle.journal.specs.Changing.{serialNumber, changeNumber}
-use Rattle.journal.specs.Step.{countWithin, soundAlone, sound, numberAbove, firstGood, newCounter, detailsNumber, detailsNumberWithin, fieldsOf, next}
+use Rattle.journal.specs.Changing.{changeNumber}
+use Rattle.journal.specs.Step.{countWithin, soundAlone, sound, numberAbove, firstGood, newCounter, detailsNumber, detailsNumberWithin, fieldsOf, serialNumber}
 use Rattle.journal.specs.Issuing.{signatureSized, givenSignature, entryOf, textOf, entryFits, issueNumber, issueNumberWithin, issued}
-use Rattle.journal.specs.Receipts.{receiptsIn, sum}
-use Rattle.journal.specs.Valid.{texts}
 use Rattle.journal.specs.Calls.{Order, TypedOrder}
 use Rattle.journal.specs.declared.state.State.{State}
 use Rattle.receipt.proofs.Entries.{spellable-yes, after-counter, none-counter, failed-zero, signed-zero}

@@ -1,10 +1,10 @@
 -- What Change asks, writes and leaves; and that journals with one certificate are checked as before.
 use Prim.Native.Nat.{ℕ, zero, suc, _+_, _-_, _≤_, _<_}
 use mathlib.Core.Path.{_≡_, refl, sym, ap, _∙_, subst}
-use mathlib.Core.Bool.{Bool, true, false, cond, not, _&&_, _||_}
+use mathlib.Core.Bool.{Bool, true, false, cond, not, _||_}
 use mathlib.Core.List.{List, [], _∷_, _++_, append-assoc, append-nil}
 use native.Mathlib.Omega.{arith}
-use borrow.Author.Tests.{leb-true, leb-false, le-leb, lt-leb, ltb-false, le-ltb, not-true, not-false}
+use borrow.Author.Tests.{leb-true, leb-false, le-leb, lt-leb, ltb-false, le-ltb}
 use lib.Dec.{leb, ltb}
 use lib.ListN.{length, take, getD, length-append}
 use lib.Seq.{take-add}
@@ -13,20 +13,20 @@ use Rattle.primitives.specs.Number.{countAt}
 use Rattle.primitives.specs.Counter.{widthGood}
 use Rattle.primitives.specs.Aes.{keySchedule}
 use Rattle.primitives.specs.Questions.{ask, ifZero}
-use Rattle.primitives.proofs.Over.{length-over, before-over, read-over}
-use Rattle.primitives.proofs.Rows.{both, true-is-not-false, ask-yes, ask-no, ifZero-yes, ifZero-no}
+use Rattle.primitives.proofs.Over.{before-over, read-over}
+use Rattle.primitives.proofs.Rows.{both, true-is-not-false, ifZero-yes, ifZero-no}
 use Rattle.receipt.specs.Settings.{serialGood}
 use Rattle.receipt.specs.Compact.{compact, noEntry}
 use Rattle.receipt.specs.declared.settings.Name.{Name}
 use Rattle.receipt.specs.declared.settings.Settings.{Settings}
 use Rattle.receipt.specs.declared.entry.Entry.{Entry}
 use Rattle.journal.specs.Head.{head, headSettings, headGood, entryText, pairStart, textAt}
-use Rattle.journal.specs.State.{noName, sameName, used, inEight, newest, isIn, allGood, serialsGood, settingsNow}
-use Rattle.journal.specs.Step.{fresh, sound, next, renewed}
-use Rattle.journal.specs.Changing.{serialNumber, changeNumber, changed, changeBuffer}
-use Rattle.journal.specs.Checking.{headNumber, found, after, entryNumber, checked, stopped, placeChecked, startChecked, endChecked, full, oneStep, steps, refused, accepted, lastAnswer, takeOver}
+use Rattle.journal.specs.State.{sameName, used, inEight, isIn, allGood, settingsNow}
+use Rattle.journal.specs.Step.{fresh, sound, next, renewed, serialNumber}
+use Rattle.journal.specs.Changing.{changeNumber, changed, changeBuffer}
+use Rattle.journal.specs.Checking.{headNumber, found, after, entryNumber, checked, stopped, placeChecked, full, oneStep, steps, refused, accepted, lastAnswer, takeOver}
 use Rattle.journal.specs.Certificates.{EachGood, GoodSerials, SerialsGoodExactly, OneOf, UsedSerialGets30, NinthSerialGets31, ChangeAppends, ChangeTouchesNoOther, ChangedSerialIsSpelled, RunsOn, ChangeRunsOn, oneStepBefore, stepsBefore, takeOverBefore, OneSectionAsBefore}
-use Rattle.journal.specs.Valid.{Owner, Pair, settingsFor, texts, pairTexts, placed, allPlaced, serialsOf, journalText, GoodOwner, Valid, headOf}
+use Rattle.journal.specs.Valid.{Owner, Pair, settingsFor, texts, pairTexts, placed, allPlaced, journalText, GoodOwner, Valid, headOf}
 use Rattle.journal.specs.declared.state.State.{State}
 use Rattle.journal.specs.declared.state.TakenOver.{TakenOver}
 use Rattle.journal.specs.declared.checking.Checked.{Checked}
@@ -37,10 +37,10 @@ use Rattle.journal.proofs.Answers.{Changeable, change-zero}
 use Rattle.journal.proofs.Touching.{outside}
 use Rattle.journal.proofs.Heads.{length-head, read-settings, read-count-at, head-good}
 use Rattle.journal.proofs.Check.{step, step-length}
-use Rattle.journal.proofs.Stepping.{full-yes, full-no, full-false, after-within, Case, an-entry, at-end, a-start, step-case, end-none, end-start, step-entry, answer-zero}
+use Rattle.journal.proofs.Stepping.{full-yes, full-no, Case, end-none}
 use Rattle.journal.proofs.Placing.{Core, startCore, AllRight, Begun, Names, length-serials}
 use Rattle.journal.proofs.Placing as placing
-use Rattle.journal.proofs.Passing.{At, typed-for, good-for, right-here, text-is, at-next, at-entries, run, runPairs, entry-step, run-length, section-full, section-place, number-of, state-of}
+use Rattle.journal.proofs.Passing.{At, typed-for, good-for, right-here, text-is, at-next, runPairs, entry-step, number-of, state-of}
 use Rattle.journal.proofs.Accepting.{step-place, step-section, Work, blank, blank-base, valid-work, valid-taken, answer-number, fresh-at, fresh-length, fresh-place, fresh-section, journal-head, entries-size}
 use Rattle.journal.proofs.Pairs.{ran}
 use Rattle.journal.proofs.OneReading.{valid-head}

@@ -12,10 +12,10 @@ use Rattle.primitives.specs.Questions.{ask, ifZero}
 use Rattle.primitives.proofs.Rows.{ask-yes, ask-no, ifZero-yes, ifZero-no}
 use Rattle.receipt.specs.Settings.{serialGood}
 use Rattle.receipt.specs.declared.settings.Name.{Name}
-use Rattle.journal.specs.Changing.{serialNumber, changeNumber, changed, changeBuffer}
+use Rattle.journal.specs.Changing.{changeNumber, changed, changeBuffer}
 use Rattle.journal.specs.Head.{pairStart}
 use Rattle.journal.specs.State.{used, isIn, serialsGood}
-use Rattle.journal.specs.Step.{sound, renewed}
+use Rattle.journal.specs.Step.{sound, renewed, serialNumber}
 use Rattle.journal.specs.declared.state.State.{State}
 use Rattle.journal.proofs.Answers.{Changeable, serial-zero, serial-yes, change-zero}
 

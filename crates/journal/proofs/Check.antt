@@ -1,20 +1,19 @@
 -- One entry: the checker accepts exactly the texts of right entries.
-use Prim.Native.Nat.{ℕ, zero, suc, _+_, _≤_, _<_}
-use mathlib.Core.Path.{_≡_, refl, sym, ap, _∙_, subst, transport}
+use Prim.Native.Nat.{ℕ, _+_, _<_}
+use mathlib.Core.Path.{_≡_, refl, sym, ap, _∙_}
 use mathlib.Core.Bool.{Bool, true, false, cond, not, _||_}
-use mathlib.Core.List.{List, [], _∷_, _++_, append-assoc, append-nil}
-use native.Mathlib.Nat.{add-zero, zero-add}
+use mathlib.Core.List.{List, _++_}
 use native.Mathlib.Omega.{arith}
-use borrow.Author.Tests.{ltb-true, lt-ltb, leb-true, le-leb, eqb-true, eq-eqb}
-use lib.Dec.{eqb, leb}
-use lib.IntN.{ℤ, _+ℤ_, +ℤ-assoc, +ℤ-idr}
-use lib.ListN.{length, drop, length-append, drop-of-length-le}
+use borrow.Author.Tests.{ltb-true, lt-ltb, eqb-true, eq-eqb}
+use lib.Dec.{eqb}
+use lib.IntN.{ℤ, _+ℤ_}
+use lib.ListN.{length}
 use Rattle.primitives.specs.Bytes.{AllBytes}
 use Rattle.primitives.specs.Counter.{counterFits}
 use Rattle.primitives.specs.Aes.{keySchedule}
 use Rattle.primitives.proofs.ByteLists.{bytes-take, bytes-drop, same-refl, same-true}
 use Rattle.receipt.specs.Details.{standard, amountsGood, startGood, counted}
-use Rattle.receipt.specs.Chain.{chainValue, decryptedCounter}
+use Rattle.receipt.specs.Chain.{decryptedCounter}
 use Rattle.receipt.specs.Compact.{compact, spellable, readEntry, TypedEntry}
 use Rattle.receipt.specs.Exact.{Spelled}
 use Rattle.receipt.specs.declared.details.Kind.{Kind}
@@ -24,20 +23,19 @@ use Rattle.receipt.specs.declared.details.After.{After}
 use Rattle.receipt.specs.declared.payload.PayloadFields.{PayloadFields}
 use Rattle.receipt.specs.declared.entry.Entry.{Entry}
 use Rattle.receipt.specs.declared.entry.Found.{Found}
-use Rattle.primitives.proofs.Rows.{both, ask-zero, ifZero-yes}
+use Rattle.primitives.proofs.Rows.{both, ask-zero}
 use Rattle.receipt.proofs.Counting.{Added, after-yes, after-fits}
 use Rattle.receipt.proofs.ExactEntry.{back, compact-short, exact}
 use Rattle.journal.specs.Head.{entryText, lengthAt, textAt}
 use Rattle.receipt.specs.Settings.{TypedSettings}
-use Rattle.primitives.specs.Questions.{ask, ifZero}
+use Rattle.primitives.specs.Questions.{ask}
 use Rattle.journal.specs.Step.{numberAbove, firstGood, newCounter, next}
-use Rattle.journal.specs.Checking.{found, equal, counterRight, contextNumber, textNumber, after, entryNumber, refused, accepted}
-use Rattle.journal.specs.Receipts.{receiptOf, receiptsIn, sum}
-use Rattle.journal.specs.Valid.{Right, texts, lastOf, chainOf}
+use Rattle.journal.specs.Checking.{found, equal, counterRight, contextNumber, textNumber, after, entryNumber}
+use Rattle.journal.specs.Valid.{Right}
 use Rattle.journal.specs.declared.state.State.{State}
 use Rattle.journal.proofs.Equal.{equal-true, equal-refl}
 use Rattle.receipt.proofs.Entries.{admitted, standard-is}
-use Rattle.journal.proofs.Places.{text-at, there-at, there-entry}
+use Rattle.journal.proofs.Places.{text-at, there-at}
 use Rattle.journal.specs.State.{settingsNow}
 
 -- ---- a state's entries

@@ -24,7 +24,7 @@ use Rattle.receipt.specs.declared.settings.Name.{Name}
 use Rattle.receipt.specs.declared.settings.Settings.{Settings}
 use Rattle.primitives.proofs.Zlaws.{same-bits}
 use Rattle.primitives.proofs.Rows.{both, true-is-not-false, and-no, and-yes, not-yes, ask-zero, ask-yes, ask-no, ifZero-yes, ifZero-no}
-use Rattle.journal.specs.Step.{fresh, newCounter, next, renewed, soundAlone, sound}
+use Rattle.journal.specs.Step.{fresh, newCounter, next, renewed, soundAlone, sound, serialNumber}
 use Rattle.primitives.specs.Questions.{ask, ifZero}
 use Rattle.primitives.specs.Number.{countAt}
 use Rattle.journal.specs.Head.{headSettings, headGood, lengthAt, there, textAt, headLength, countPlace, entryText, serialAt, startThere}
@@ -42,7 +42,6 @@ use Rattle.journal.proofs.Answers.{sound-true, serial-zero}
 use Rattle.journal.proofs.OpenCalls.{head-least}
 use Rattle.journal.proofs.Serials.{eight-good}
 use Rattle.journal.specs.State.{used, allGood, settingsNow}
-use Rattle.journal.specs.Changing.{serialNumber}
 use Rattle.receipt.proofs.Entries.{settings-all}
 
 -- ---- the bytes of an entry

@@ -1,5 +1,5 @@
 -- Parts of valid journals: last entries and pairs dropped, and two entries of one journal.
-use Prim.Native.Nat.{ℕ, _+_, _<_}
+use Prim.Native.Nat.{ℕ, _<_}
 use mathlib.Core.Path.{_≡_, refl, sym, ap, _∙_, subst}
 use mathlib.Core.List.{List, [], _∷_, _++_, append-assoc}
 use native.Mathlib.Omega.{arith}
@@ -10,11 +10,10 @@ use Rattle.primitives.specs.Number.{bytesOf}
 use Rattle.primitives.proofs.Numbers.{length-bytesOf}
 use Rattle.primitives.proofs.Rewrites.{over-middle}
 use Rattle.receipt.proofs.Chains.{input-same}
-use Rattle.receipt.specs.Settings.{nameText}
 use Rattle.receipt.specs.declared.settings.Name.{Name}
 use Rattle.receipt.specs.declared.entry.Entry.{Entry}
-use Rattle.journal.specs.Head.{section, pairStart}
-use Rattle.journal.specs.Valid.{Owner, Pair, settingsFor, texts, pairText, pairTexts, ownerText, journalText, Placed, placed, allPlaced, entriesOf, entriesIn, Valid}
+use Rattle.journal.specs.Head.{pairStart}
+use Rattle.journal.specs.Valid.{Owner, Pair, settingsFor, texts, pairTexts, ownerText, journalText, Placed, placed, allPlaced, entriesOf, entriesIn, Valid}
 use Rattle.journal.specs.Demands.{beforeCount, ValidWith, Dropping, InputsDiffer}
 use Rattle.journal.proofs.Placing.{Core, startCore, stepCore, AllRight, right-split, Names}
 use Rattle.journal.proofs.Placing as placing

@@ -1,8 +1,8 @@
 -- How far every answer was yes: the state there, and that the steps of a take-over lead to it.
-use Prim.Native.Nat.{ℕ, zero, suc, _+_, _-_, _≤_, _<_}
-use mathlib.Core.Path.{_≡_, refl, sym, ap, _∙_, subst}
+use Prim.Native.Nat.{ℕ, suc, _+_, _-_, _≤_, _<_}
+use mathlib.Core.Path.{_≡_, sym, ap, _∙_, subst}
 use mathlib.Core.Bool.{true, false}
-use mathlib.Core.List.{List, [], _∷_, _++_, append-assoc, append-nil}
+use mathlib.Core.List.{List, [], _∷_, _++_, append-assoc}
 use native.Mathlib.Omega.{arith}
 use lib.IntN.{ℤ, +ℤ-idl}
 use lib.ListN.{length, drop, length-append}
@@ -13,13 +13,13 @@ use Rattle.primitives.specs.Counter.{widthGood}
 use Rattle.primitives.specs.Aes.{keySchedule}
 use Rattle.primitives.proofs.Numbers.{length-bytesOf}
 use Rattle.primitives.proofs.Counts.{count-in}
-use Rattle.receipt.specs.Settings.{nameText, settingsGood, TypedSettings}
+use Rattle.receipt.specs.Settings.{nameText, TypedSettings}
 use Rattle.receipt.specs.Chain.{chainValue}
 use Rattle.receipt.specs.Compact.{compact}
 use Rattle.receipt.specs.declared.settings.Name.{Name}
 use Rattle.receipt.specs.declared.settings.Settings.{Settings}
 use Rattle.receipt.specs.declared.entry.Entry.{Entry}
-use Rattle.journal.specs.Head.{section, head, headLength, countPlace, entryText, pairStart}
+use Rattle.journal.specs.Head.{section, head, headLength, entryText, pairStart}
 use Rattle.journal.specs.State.{used, isIn}
 use Rattle.journal.specs.Step.{fresh, renewed}
 use Rattle.journal.specs.Checking.{stopped, oneStep, steps, refused, lastAnswer, takeOver}
@@ -34,10 +34,10 @@ use Rattle.journal.proofs.Heads.{length-head, read-count-at}
 use Rattle.journal.proofs.Starting.{StartAt}
 use Rattle.journal.proofs.Check.{step}
 use Rattle.journal.proofs.Stepping.{passed-step, refused-step, answer-no}
-use Rattle.journal.proofs.Placing.{Core, startCore, runCore, coreAfter, run-after, AllRight, right-append, right-split, all-each, each-all, Startable, Begun, Names, names-each, each-names, names-length, names-split}
+use Rattle.journal.proofs.Placing.{Core, startCore, coreAfter, run-after, AllRight, right-append, right-split, all-each, each-all, Startable, Begun, Names, names-each, each-names, names-length, names-split}
 use Rattle.journal.proofs.Placing as placing
-use Rattle.journal.proofs.Passing.{coreOf, Base, typed-for, good-for, under, right-there, text-is, at-renewed, run, runPairs, renewed-length, renewed-place, renewed-section, stepsOf, passed, passed-pairs, start-step, start-place, start-bytes, start-count, number-of, state-of, pair-split}
-use Rattle.journal.proofs.Accepting.{EntryAt, Work, blank, blank-base, fresh-is, fresh-at, fresh-length, fresh-place, fresh-section, head-pair, takes-head, entries-size, pairs-size, ownerIn, good-owner}
+use Rattle.journal.proofs.Passing.{coreOf, Base, typed-for, good-for, under, right-there, text-is, at-renewed, run, runPairs, stepsOf, passed, passed-pairs, start-step, start-place, start-bytes, start-count, number-of, state-of, pair-split}
+use Rattle.journal.proofs.Accepting.{EntryAt, Work, blank, blank-base, fresh-is, fresh-at, fresh-length, fresh-place, fresh-section, head-pair, takes-head, entries-size, pairs-size, ownerIn}
 use Rattle.journal.proofs.Pairs.{texts-snoc, pairs-append, last-text, wider, emptyPair, run-last, last-placed, all-wider, all-empty, names-wider, names-empty, last-begun, ran, journal-open, Open, open-of}
 use Rattle.journal.proofs.Registers.{some-snoc, empty-work}
 

@@ -16,10 +16,10 @@ use Rattle.primitives.specs.Aes.{keySchedule}
 use Rattle.primitives.specs.Questions.{ask, ifZero}
 use Rattle.primitives.proofs.ByteLists.{same-refl, same-true}
 use Rattle.primitives.proofs.Rows.{true-is-not-false}
-use Rattle.receipt.specs.Settings.{nameText, TypedSettings}
-use Rattle.receipt.specs.Details.{counted, startGood}
-use Rattle.receipt.specs.Chain.{chainValue, decryptedCounter}
-use Rattle.receipt.specs.Compact.{compact, spellable, readEntry}
+use Rattle.receipt.specs.Settings.{TypedSettings}
+use Rattle.receipt.specs.Details.{counted}
+use Rattle.receipt.specs.Chain.{decryptedCounter}
+use Rattle.receipt.specs.Compact.{spellable, readEntry}
 use Rattle.receipt.specs.declared.details.Kind.the-variants.{Standard}
 use Rattle.receipt.specs.declared.settings.Name.{Name}
 use Rattle.receipt.specs.declared.settings.Settings.{Settings}
@@ -28,27 +28,24 @@ use Rattle.receipt.specs.declared.entry.Found.{Found}
 use Rattle.receipt.proofs.Entries.{admitted}
 use Rattle.receipt.proofs.ExactEntry.{back, exact}
 use Rattle.journal.specs.Head.{headSettings, headGood, headLength, entryText, there, textAt, serialAt, startThere, pairStart}
-use Rattle.journal.specs.State.{used, isIn, settingsNow}
-use Rattle.journal.specs.Step.{fresh, numberAbove, firstGood, renewed}
-use Rattle.journal.specs.Changing.{serialNumber}
+use Rattle.journal.specs.State.{used, isIn}
+use Rattle.journal.specs.Step.{fresh, numberAbove, firstGood, renewed, serialNumber}
 use Rattle.journal.specs.Checking.{headNumber, found, counterRight, contextNumber, textNumber, entryNumber, startNumber, stopped, full, oneStep, steps, refused, accepted, lastAnswer, takeOver}
-use Rattle.journal.specs.Receipts.{receiptsIn, sum}
-use Rattle.journal.specs.Valid.{Owner, Pair, settingsFor, Placed, allPlaced, entriesOf, lastOf, chainOf, serialsOf, Counted, NotIn}
+use Rattle.journal.specs.Valid.{Owner, Pair, settingsFor, Placed, serialsOf, Counted, NotIn}
 use Rattle.journal.specs.FirstNo.{Headed, SoFar, soFar, index, EntryThere, Spells, Above, StartFirst, Chained, CountedAfter, Next, Full, StartThere, NoAt, no-width, no-head, not-there, not-spelled, not-above, not-start, not-chained, not-counted, no-start, used-before, a-ninth}
 use Rattle.journal.specs.Demands.{FirstNo}
 use Rattle.journal.specs.declared.state.State.{State}
 use Rattle.journal.specs.declared.state.TakenOver.{TakenOver}
 use Rattle.journal.specs.declared.checking.Checked.{Checked}
 use Rattle.journal.specs.declared.checking.Step.{Step}
-use Rattle.journal.proofs.Sections.{length-start}
 use Rattle.journal.proofs.Places.{text-at, there-at, there-entry, text-short}
-use Rattle.journal.proofs.Heads.{head-good, read-settings, good-head, read-typed, read-few, read-back, countOf}
+use Rattle.journal.proofs.Heads.{head-good, good-head, read-typed, read-few, read-back, countOf}
 use Rattle.journal.proofs.Starting.{StartAt, start-at, serial-read, start-there}
 use Rattle.journal.proofs.Check.{first-yes, first-true, above-yes, above-true, new-yes, new-fits, right-yes, right-fits, right-true, bytes-text, step, scheduleOf}
 use Rattle.journal.proofs.Stepping.{full-yes, full-no, full-true, full-false, end-none, entry-passed, entry-refused, start-passed, start-refused, Case, an-entry, at-end, a-start, step-case, idle, refused-step, passed-step}
 use Rattle.journal.proofs.Placing.{in-place, places-out, out-places, length-serials, names-length}
 use Rattle.journal.proofs.Passing.{typed-for, at-settings, at-schedule, number-of, state-of}
-use Rattle.journal.proofs.Accepting.{entry-at, blank, takes-head, answer-number, ownerIn, good-owner, fresh-is}
+use Rattle.journal.proofs.Accepting.{entry-at, blank, answer-number, ownerIn}
 use Rattle.journal.proofs.Pairs.{wider, emptyPair, run-wider, run-empty}
 use Rattle.journal.proofs.Registers.{fresh-holds}
 use Rattle.journal.proofs.FarPairs.{Far, far-of, so-far-of, stateThere, Stands, stands, refuse, far-entry, far-start, far-first}

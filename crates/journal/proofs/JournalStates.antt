@@ -1,20 +1,18 @@
 -- The state of a valid journal.
 use Prim.Native.Nat.{ℕ, _+_, _-_, _<_}
 use mathlib.Core.Path.{_≡_, refl, sym, ap, _∙_, subst}
-use mathlib.Core.List.{List, [], _∷_, _++_, append-nil}
+use mathlib.Core.List.{List, [], _∷_, _++_}
 use native.Mathlib.Omega.{arith}
 use lib.ListN.{length, length-append}
 use lib.IntN.{ℤ}
 use Rattle.primitives.specs.Number.{bytesOf}
 use Rattle.primitives.proofs.Numbers.{length-bytesOf}
-use Rattle.receipt.specs.Settings.{nameText}
-use Rattle.receipt.specs.Chain.{chainValue}
 use Rattle.receipt.specs.declared.settings.Name.{Name}
 use Rattle.receipt.specs.declared.entry.Entry.{Entry}
 use Rattle.journal.specs.State.{inEight}
 use Rattle.journal.specs.Checking.{accepted}
 use Rattle.journal.specs.Receipts.{receiptsIn, sum}
-use Rattle.journal.specs.Valid.{Owner, Pair, settingsFor, texts, journalText, Placed, allPlaced, entriesOf, entriesIn, lastOf, chainOf, serialsOf, lastPair, openPair, stateAfter}
+use Rattle.journal.specs.Valid.{Owner, Pair, settingsFor, texts, journalText, Placed, allPlaced, entriesIn, lastOf, serialsOf, lastPair, openPair, stateAfter}
 use Rattle.journal.specs.Demands.{beforeCount, StateOfJournal}
 use Rattle.journal.specs.declared.state.State.{State}
 use Rattle.journal.proofs.Placing.{Core, startCore, run-after}

@@ -1,10 +1,9 @@
 -- Lists of pairs: one more entry or one more pair at the end, and the state after them.
-use Prim.Native.Nat.{ℕ, _+_, _≤_, _<_}
+use Prim.Native.Nat.{ℕ, _+_, _<_}
 use mathlib.Core.Path.{_≡_, refl, sym, ap, _∙_, subst}
 use mathlib.Core.Bool.{true, false}
 use mathlib.Core.List.{List, [], _∷_, _++_, append-assoc, append-nil}
 use native.Mathlib.Omega.{arith}
-use native.Mathlib.Nat.{add-zero}
 use lib.ListN.{length, length-append}
 use Rattle.primitives.specs.Number.{bytesOf}
 use Rattle.receipt.specs.Settings.{nameText, serialGood}
@@ -22,10 +21,9 @@ use Rattle.journal.specs.Demands.{beforeCount}
 use Rattle.journal.specs.declared.state.State.{State}
 use Rattle.journal.proofs.Sections.{length-section, length-serial, length-start}
 use Rattle.journal.proofs.Check.{step}
-use Rattle.journal.proofs.Serials.{newest-added}
 use Rattle.journal.proofs.Placing.{Core, startCore, runCore, run-append, AllRight, right-split, Begun, Names, names-split}
 use Rattle.journal.proofs.Placing as placing
-use Rattle.journal.proofs.Passing.{Base, At, under, at-renewed, at-entries, run, runPairs, run-length, kept, renewed-length, renewed-place, renewed-section, pair-split}
+use Rattle.journal.proofs.Passing.{Base, At, under, at-renewed, at-entries, run, runPairs, run-length, kept, renewed-length, renewed-place, renewed-section}
 use Rattle.journal.proofs.Accepting.{Work, blank, blank-base, blank-length}
 
 -- ---- appending

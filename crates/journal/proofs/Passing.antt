@@ -1,7 +1,7 @@
 -- Right entries and pairs are passed, whatever follows them.
-use Prim.Native.Nat.{ℕ, zero, suc, _+_, _-_, _≤_, _<_}
+use Prim.Native.Nat.{ℕ, suc, _+_, _≤_, _<_}
 use mathlib.Core.Path.{_≡_, refl, sym, ap, _∙_, subst, transport}
-use mathlib.Core.Bool.{Bool, true, false}
+use mathlib.Core.Bool.{Bool, true}
 use mathlib.Core.List.{List, [], _∷_, _++_, append-assoc, append-nil}
 use native.Mathlib.Omega.{arith}
 use native.Mathlib.Nat.{add-zero}
@@ -15,7 +15,7 @@ use Rattle.receipt.specs.declared.settings.Name.{Name}
 use Rattle.receipt.specs.declared.settings.Settings.{Settings}
 use Rattle.receipt.specs.declared.entry.Entry.{Entry}
 use Rattle.journal.specs.Head.{entryText, textAt, pairStart, serialAt, startThere}
-use Rattle.journal.specs.State.{used, newest, isIn, settingsNow, TypedName}
+use Rattle.journal.specs.State.{used, newest, settingsNow, TypedName}
 use Rattle.journal.specs.Step.{next, renewed}
 use Rattle.journal.specs.Checking.{found, after, entryNumber, stopped, startNumber, full, oneStep, steps}
 use Rattle.journal.specs.Valid.{Owner, Pair, settingsFor, texts, pairText, pairTexts, Placed, placed, allPlaced, Right, GoodOwner}
@@ -29,7 +29,7 @@ use Rattle.journal.proofs.Serials.{used-added, newest-added}
 use Rattle.journal.proofs.Answers.{settings-three, serial-yes}
 use Rattle.journal.proofs.Stepping.{full-yes, full-no, entry-passed, start-passed, passed-step}
 use Rattle.journal.proofs.Starting.{serial-read, count-read, start-there}
-use Rattle.journal.proofs.Placing.{Core, stepCore, runCore, run-append, RightFor, AllRight, right-split, Startable, Names}
+use Rattle.journal.proofs.Placing.{Core, stepCore, runCore, RightFor, AllRight, right-split, Startable, Names}
 use Rattle.journal.proofs.Placing as placing
 
 -- ---- what a state stands for

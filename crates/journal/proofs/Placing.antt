@@ -1,5 +1,5 @@
 -- Right at each place, and all right in a row: entries of all pairs, and the pairs' serials.
-use Prim.Native.Nat.{ℕ, zero, suc, _+_, _-_, _≤_, _<_}
+use Prim.Native.Nat.{ℕ, suc, _+_, _≤_, _<_}
 use mathlib.Core.Path.{_≡_, refl, sym, ap, _∙_, subst}
 use mathlib.Core.Bool.{Bool, true, false, _||_}
 use mathlib.Core.List.{List, [], _∷_, _++_, append-assoc, append-nil}
@@ -17,7 +17,7 @@ use Rattle.receipt.specs.declared.settings.Settings.{Settings}
 use Rattle.receipt.specs.declared.entry.Entry.{Entry}
 use Rattle.journal.specs.Receipts.{receiptOf, receiptsIn, sum}
 use Rattle.journal.specs.State.{sameName, isIn, TypedName}
-use Rattle.journal.specs.Valid.{Owner, Pair, Placed, placed, entriesOf, lastOf, chainOf, serialsOf, Right, RightAfter, UsedIn, NotIn, Begins}
+use Rattle.journal.specs.Valid.{Owner, Pair, Placed, entriesOf, lastOf, chainOf, serialsOf, Right, RightAfter, UsedIn, NotIn, Begins}
 use Rattle.journal.proofs.Serials.{same-name-is, same-name-refl}
 
 -- ---- what runs on from entry to entry

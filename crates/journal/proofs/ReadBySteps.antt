@@ -1,7 +1,7 @@
 -- The steps for other readers: over a valid journal they read its entries, pair after pair and in order.
 use Prim.Native.Nat.{ℕ, zero, suc, _+_, _-_, _≤_, _<_}
 use mathlib.Core.Path.{_≡_, refl, sym, ap, _∙_, subst}
-use mathlib.Core.Bool.{Bool, true, false, cond}
+use mathlib.Core.Bool.{Bool, true, cond}
 use mathlib.Core.List.{List, [], _∷_, _++_, append-assoc, append-nil}
 use native.Mathlib.Omega.{arith}
 use borrow.Author.Tests.{le-leb, leb-true}
@@ -21,21 +21,21 @@ use Rattle.receipt.proofs.Entries.{none-found}
 use Rattle.journal.specs.Head.{head, headLength, entryText, lengthAt, there, textAt, pairStart}
 use Rattle.journal.specs.State.{noName, used, inEight, added, serialsGood}
 use Rattle.journal.specs.Step.{fresh, soundAlone, sound, next, renewed}
-use Rattle.journal.specs.Checking.{found, entryNumber, textNumber, stopped, checked, textChecked, placeChecked, full, oneStep, entryReady, entryChecked, stepChecked, readBySteps}
+use Rattle.journal.specs.Checking.{found, entryNumber, textNumber, stopped, checked, textChecked, placeChecked, oneStep, entryReady, entryChecked, stepChecked, readBySteps}
 use Rattle.journal.specs.Valid.{Owner, Pair, settingsFor, texts, pairText, pairTexts, journalText, placed, allPlaced, entriesIn, GoodOwner, Valid, headOf}
 use Rattle.journal.specs.Demands.{StepsReadEntries, StepIsItsEntry}
 use Rattle.journal.specs.declared.state.State.{State}
 use Rattle.journal.specs.declared.checking.Checked.{Checked}
 use Rattle.journal.proofs.Heads.{length-head, read-count-at}
 use Rattle.journal.proofs.Places.{length-entry}
-use Rattle.journal.proofs.Check.{RightAt, textIn, step, step-counter, step-length}
+use Rattle.journal.proofs.Check.{RightAt, step, step-counter, step-length}
 use Rattle.journal.proofs.Serials.{used-prefix, serials-used, added-good}
 use Rattle.journal.proofs.Answers.{Sound, sound-yes}
 use Rattle.journal.proofs.Stepping.{full-yes, end-none, step-entry}
 use Rattle.journal.proofs.Placing.{Core, startCore, AllRight, right-split, Begun, Names}
 use Rattle.journal.proofs.Placing as placing
-use Rattle.journal.proofs.Passing.{At, typed-for, good-for, right-here, text-is, at-next, at-renewed, at-entries, run, runPairs, stepsOf, entry-step, start-step, start-place, start-bytes, start-count, section-place, section-full, Through, pair-split, renewed-length}
-use Rattle.journal.proofs.Accepting.{Work, blank, valid-work, fresh-at, fresh-length, fresh-place, fresh-section, journal-head, entries-size, pairs-size}
+use Rattle.journal.proofs.Passing.{At, typed-for, good-for, right-here, text-is, at-next, at-renewed, at-entries, run, stepsOf, entry-step, start-step, start-place, start-bytes, start-count, section-place, section-full, Through, pair-split}
+use Rattle.journal.proofs.Accepting.{Work, valid-work, fresh-at, fresh-length, fresh-place, fresh-section, journal-head, entries-size, pairs-size}
 use Rattle.journal.proofs.AcceptedIsWritten.{run-sound}
 use Rattle.journal.proofs.Pairs.{emptyPair}
 use Rattle.journal.proofs.Registers.{fresh-holds, empty-work}

@@ -1,31 +1,28 @@
 -- A register after calls: its state, its journal and its buffer.
-use Prim.Native.Nat.{ℕ, zero, suc, _+_, _^_, _≤_, _<_}
+use Prim.Native.Nat.{ℕ, zero, suc, _+_, _≤_, _<_}
 use mathlib.Core.Path.{_≡_, refl, sym, ap, _∙_, subst}
 use mathlib.Core.Bool.{Bool, true}
 use mathlib.Core.List.{List, [], _∷_, _++_, append-assoc, append-nil}
 use native.Mathlib.Omega.{arith}
-use native.Mathlib.Nat.{pow-le-pow-right}
-use lib.Dec.{lit<}
-use lib.IntN.{ℤ, pos, _+ℤ_, +ℤ-idl}
+use lib.IntN.{ℤ, +ℤ-idl}
 use lib.ListN.{length, take, length-append}
 use lib.Seq.{take-add}
 use Rattle.primitives.specs.Place.{overwrite}
 use Rattle.primitives.specs.Bytes.{AllBytes}
 use Rattle.primitives.specs.Number.{bytesOf}
-use Rattle.primitives.specs.Counter.{widthGood, counterFits, half}
+use Rattle.primitives.specs.Counter.{widthGood}
 use Rattle.primitives.specs.Questions.{ifZero}
 use Rattle.primitives.proofs.Numbers.{length-bytesOf}
 use Rattle.primitives.proofs.Over.{length-over, before-over, read-over}
 use Rattle.primitives.proofs.Rewrites.{take-after, over-middle}
-use Rattle.primitives.proofs.Rows.{ask-zero, ifZero-yes, ifZero-no}
-use Rattle.primitives.proofs.Twos.{width-true, half-twice, below-fits, fits-wide}
+use Rattle.primitives.proofs.Rows.{ifZero-yes, ifZero-no}
 use Rattle.receipt.specs.Amount.{amountLimit}
-use Rattle.receipt.specs.Settings.{nameText, settingsGood, TypedSettings, idAllowed}
+use Rattle.receipt.specs.Settings.{nameText, settingsGood, TypedSettings}
 use Rattle.receipt.specs.Compact.{compact}
 use Rattle.receipt.specs.declared.settings.Name.{Name}
 use Rattle.receipt.specs.declared.settings.Settings.{Settings}
 use Rattle.receipt.specs.declared.entry.Entry.{Entry}
-use Rattle.journal.specs.Head.{head, headLength, entryText, pairStart}
+use Rattle.journal.specs.Head.{head, entryText, pairStart}
 use Rattle.journal.specs.State.{unopened, added, isIn, TypedName}
 use Rattle.journal.specs.Step.{fresh, fieldsOf, next, renewed}
 use Rattle.journal.specs.Opening.{openNumber, opened, openBuffer}
@@ -44,9 +41,9 @@ use Rattle.journal.proofs.Answers.{Eight, chain-eight, Answered, issue-
 use Rattle.journal.proofs.Serials.{Zeroed, added-zeroed}
 use Rattle.journal.proofs.Placing.{Core, startCore, stepCore, runCore, coreAfter, run-after, RightFor, AllRight, right-append, names-split}
 use Rattle.journal.proofs.Placing as placing
-use Rattle.journal.proofs.Passing.{coreOf, at-settings, right-there, text-is, under, run, runPairs, kept, renewed-length}
+use Rattle.journal.proofs.Passing.{right-there, text-is, under, run, runPairs, kept, renewed-length}
 use Rattle.journal.proofs.Accepting.{Work, blank, blank-base, fresh-is, head-pair, ownerIn, good-owner}
-use Rattle.journal.proofs.Pairs.{texts-snoc, wider, emptyPair, run-last, last-begun, run-wider, run-empty, all-wider, all-empty, names-wider, names-empty, no-pairs, ran, journal-open, journal-empty, Open, open-of}
+use Rattle.journal.proofs.Pairs.{texts-snoc, wider, emptyPair, run-last, last-begun, run-wider, run-empty, all-wider, all-empty, names-wider, names-empty, ran, journal-open, journal-empty, Open, open-of}
 
 -- ---- the buffer after an Issue: the entry after the journal, and the count of the open section, which stands after p, rewritten
 

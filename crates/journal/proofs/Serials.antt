@@ -1,7 +1,7 @@
 -- The serials of a state: those used, one more, and what good ones are.
 use Prim.Native.Nat.{ℕ, zero, suc, _+_, _-_, _≤_, _<_}
 use mathlib.Core.Path.{_≡_, refl, sym, ap, _∙_, subst}
-use mathlib.Core.Bool.{Bool, true, false, cond, _&&_, _||_}
+use mathlib.Core.Bool.{Bool, true, false, cond, _||_}
 use mathlib.Core.List.{List, [], _∷_, _++_, map, append-assoc}
 use native.Mathlib.Omega.{arith}
 use native.Mathlib.Numerals.{add-one}
@@ -10,7 +10,7 @@ use lib.Dec.{leb, eqb}
 use lib.ListN.{length, drop, getD, set, replicate, length-append, length-drop, length-map, length-replicate, drop-of-length-le}
 use lib.Seq.{drop-at, drop-cons, set-at}
 use Rattle.primitives.proofs.ByteLists.{same-refl, same-true}
-use Rattle.primitives.proofs.Rows.{both, and-no, and-yes, true-is-not-false}
+use Rattle.primitives.proofs.Rows.{both, and-no, and-yes}
 use Rattle.receipt.specs.Settings.{serialGood}
 use Rattle.receipt.specs.declared.settings.Letters.the-variants.{Serial}
 use Rattle.receipt.specs.declared.settings.Name.{Name}

@@ -1,6 +1,6 @@
 -- The start of a pair: what is read where one stands, and that a good start is what the writer writes.
 use Prim.Native.Nat.{ℕ, _+_, _≤_, _<_}
-use mathlib.Core.Path.{_≡_, refl, sym, ap, _∙_}
+use mathlib.Core.Path.{_≡_, sym, ap, _∙_}
 use mathlib.Core.Bool.{true}
 use mathlib.Core.List.{List, _++_, append-assoc}
 use native.Mathlib.Omega.{arith}
@@ -9,13 +9,12 @@ use lib.Dec.{leb}
 use lib.ListN.{length, drop, length-append}
 use Rattle.primitives.specs.Bytes.{AllBytes}
 use Rattle.primitives.specs.Number.{bytesOf, countAt}
-use Rattle.primitives.proofs.Numbers.{length-bytesOf}
 use Rattle.primitives.proofs.Rows.{both}
 use Rattle.primitives.proofs.Counts.{count-in, cut, count-bytes, count-lt}
 use Rattle.receipt.specs.Settings.{nameText, nameOf, serialGood}
 use Rattle.receipt.specs.declared.settings.Name.{Name}
 use Rattle.receipt.specs.declared.settings.Letters.the-variants.{Serial}
-use Rattle.receipt.proofs.Names.{good-name, length-text, text-of, name-of}
+use Rattle.receipt.proofs.Names.{good-name, text-of, name-of}
 use Rattle.receipt.proofs.Entries.{length-array, bytes-array}
 use Rattle.journal.specs.Head.{section, sectionText, sectionEnd, pairStart, serialAt, startThere}
 use Rattle.journal.specs.State.{TypedName}

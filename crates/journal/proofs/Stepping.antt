@@ -1,5 +1,5 @@
 -- One step of a take-over, and steps one after the other.
-use Prim.Native.Nat.{ℕ, zero, suc, _+_, _-_, _≤_, _<_}
+use Prim.Native.Nat.{ℕ, zero, suc, _+_, _≤_, _<_}
 use mathlib.Core.Path.{_≡_, refl, sym, ap, _∙_, subst}
 use mathlib.Core.Bool.{Bool, true, false, cond}
 use mathlib.Core.List.{List}
@@ -7,16 +7,14 @@ use native.Mathlib.Omega.{arith}
 use borrow.Author.Tests.{ltb-true, leb-true, leb-false, le-leb, lt-leb}
 use lib.Dec.{leb}
 use lib.ListN.{length, take, drop, length-take, length-drop}
-use Rattle.primitives.specs.Questions.{ask, ifZero}
 use Rattle.primitives.specs.Number.{countAt}
 use Rattle.primitives.proofs.Rows.{both, ask-zero, ifZero-yes, ifZero-no}
-use Rattle.receipt.specs.Settings.{serialGood, nameOf}
+use Rattle.receipt.specs.Settings.{serialGood}
 use Rattle.receipt.specs.declared.settings.Name.{Name}
 use Rattle.receipt.proofs.Entries.{len-of}
 use Rattle.journal.specs.Head.{lengthAt, there, textAt, sectionText, sectionEnd, serialAt, startThere}
-use Rattle.journal.specs.State.{used, isIn, serialsGood, countPlaceNow}
+use Rattle.journal.specs.State.{used, isIn, countPlaceNow}
 use Rattle.journal.specs.Step.{numberAbove, next, renewed}
-use Rattle.journal.specs.Changing.{serialNumber}
 use Rattle.journal.specs.Checking.{found, contextNumber, textNumber, after, entryNumber, stopped, checked, placeChecked, startNumber, startChecked, endChecked, full, oneStep, Steady, steps, refused, accepted, lastAnswer}
 use Rattle.journal.specs.declared.state.State.{State}
 use Rattle.journal.specs.declared.state.TakenOver.{TakenOver}

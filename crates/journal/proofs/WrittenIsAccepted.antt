@@ -1,12 +1,12 @@
 -- Demand 3, forth: after any list of calls the journal is accepted with the register's state.
 use Prim.Native.Nat.{ℕ}
-use mathlib.Core.Path.{_≡_, refl, sym, ap, _∙_}
-use mathlib.Core.List.{List, [], _∷_}
+use mathlib.Core.Path.{_≡_, sym, ap, _∙_}
+use mathlib.Core.List.{List, []}
 use lib.ListN.{length}
 use Rattle.journal.specs.Checking.{accepted, takeOver}
 use Rattle.journal.specs.Receipts.{receiptsIn, sum}
 use Rattle.journal.specs.Valid.{Owner, Pair, entriesIn, journalText, Valid}
-use Rattle.journal.specs.Calls.{Register, journalOf, opening, calls, receiptsOf, sectionsIn}
+use Rattle.journal.specs.Calls.{Register, journalOf, opening, calls, sectionsIn}
 use Rattle.journal.specs.Demands.{AcceptedIsValid, WrittenIsAccepted}
 use Rattle.journal.specs.declared.state.State.{State}
 use Rattle.journal.proofs.Accepting.{takes, work-valid, ownerIn, valid-accepted, accepted-valid}

@@ -19,8 +19,7 @@ use Rattle.receipt.specs.declared.entry.Entry.{Entry}
 use Rattle.receipt.specs.declared.entry.Found.{Found}
 use Rattle.journal.specs.State.{unopened, serialsGood, settingsNow, countPlaceNow}
 use Rattle.journal.specs.Head.{headSettings, headGood, entryText, there, textAt, serialAt, startThere}
-use Rattle.journal.specs.Step.{fresh, soundAlone, sound, numberAbove, firstGood, newCounter, next, renewed}
-use Rattle.journal.specs.Changing.{serialNumber}
+use Rattle.journal.specs.Step.{fresh, soundAlone, sound, numberAbove, firstGood, newCounter, next, renewed, serialNumber}
 use Rattle.primitives.specs.Questions.{ask, ifZero}
 use Rattle.journal.specs.declared.state.State.{State}
 use Rattle.journal.specs.declared.state.TakenOver.{TakenOver}

@@ -4,7 +4,6 @@ use mathlib.Core.Path.{_≡_}
 use mathlib.Core.Bool.{true}
 use mathlib.Core.List.{List, [], _∷_, _++_}
 use lib.ListN.{length}
-use Rattle.primitives.specs.Number.{bytesOf}
 use Rattle.primitives.specs.Counter.{widthGood}
 use Rattle.receipt.specs.Settings.{nameText, serialGood, settingsGood, TypedSettings}
 use Rattle.receipt.specs.Details.{startGood}
@@ -13,7 +12,7 @@ use Rattle.receipt.specs.Compact.{compact, spellable, TypedEntry}
 use Rattle.receipt.specs.declared.settings.Name.{Name}
 use Rattle.receipt.specs.declared.settings.Settings.{Settings}
 use Rattle.receipt.specs.declared.entry.Entry.{Entry}
-use Rattle.journal.specs.Head.{section, pairStart, head, entryText}
+use Rattle.journal.specs.Head.{pairStart, head, entryText}
 use Rattle.journal.specs.Receipts.{receiptsIn, sum}
 use Rattle.journal.specs.State.{TypedName}
 use Rattle.journal.specs.Valid.{Owner, Pair, settingsFor, texts, pairTexts, ownerText, Placed, allPlaced, entriesOf, lastOf, chainOf, Counted, RightAfter, UsedIn, NotIn, Begins, GoodOwner}

@@ -1,7 +1,7 @@
 -- One step of a register: what is asked of the state and of the details, the fields that a receipt gets, and the state after a receipt
 -- or after the start of a pair. Writing and checking both build on this.
 use Prim.Native.Nat.{ℕ, _+_}
-use mathlib.Core.Bool.{Bool, true, cond, _&&_}
+use mathlib.Core.Bool.{Bool, true, cond, not, _&&_}
 use mathlib.Core.List.{List, [], _∷_}
 use lib.Dec.{ltb, leb, eqb}
 use lib.IntN.{pos}
@@ -21,7 +21,7 @@ use Rattle.receipt.specs.declared.details.After.{After}
 use Rattle.receipt.specs.declared.payload.PayloadFields.{PayloadFields}
 use Rattle.journal.specs.Head.{headLength, countPlace, entryText}
 use Rattle.journal.specs.declared.state.State.{State}
-use Rattle.journal.specs.State.{inEight, added, serialsGood, headLengthNow}
+use Rattle.journal.specs.State.{used, inEight, added, isIn, serialsGood, headLengthNow}
 
 -- ---- the state of a register without receipts
 
@@ -119,6 +119,12 @@ next st d text =
       section = st .section + 1;
       place = st .place;
     }
+
+-- ---- the start of a pair
+
+-- "A serial already used gets 30, then a ninth serial 31", and then the rest
+unfoldable pub serialNumber : State → Name → ℕ → ℕ
+serialNumber st serial rest = ask (not (isIn serial (used (st .serials)))) 30 (ask (ltb (length (used (st .serials))) 8) 31 rest)
 
 -- the state after the start of a pair with this serial: "Counter, numbers and chain run on."
 unfoldable pub renewed : State → Name → State

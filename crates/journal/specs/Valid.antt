@@ -7,7 +7,6 @@ use mathlib.Core.List.{List, [], _∷_, _++_}
 use lib.IntN.{ℤ, _+ℤ_}
 use lib.ListN.{length}
 use Rattle.primitives.specs.Bytes.{AllBytes}
-use Rattle.primitives.specs.Number.{bytesOf}
 use Rattle.primitives.specs.Counter.{widthGood, counterFits}
 use Rattle.primitives.specs.Aes.{keySchedule}
 use Rattle.receipt.specs.Settings.{nameText, cspGood, idGood, serialGood}

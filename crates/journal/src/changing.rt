@@ -2,29 +2,14 @@
 use super::head::put_start;
 use super::state::Changed;
 use super::state::State;
-use super::state::is_used;
-use super::state::used_count;
 use super::step::renewed;
+use super::step::serial_number;
 use super::step::sound;
 use receipt::Name;
 ghost use mathlib.Core.Path.{_≡_};
 ghost use lib.ListN.{length};
 ghost use Rattle.journal.specs.Step.{sound};
-ghost use Rattle.journal.specs.Changing.{serialNumber, changeNumber, changed, changeBuffer};
-
-// Questions 30 and 31: a serial that was not used, and not a ninth one.
-pub(crate) fn serial_number(st: State, serial: Name) -> u32
-    ensures { λ r. ⌜ r ≡ serialNumber st serial 0 ⌝ }
-{
-    let slots = st.serials;
-    if is_used(serial, slots) {
-        return 30;
-    }
-    if 8 <= used_count(slots) {
-        return 31;
-    }
-    0
-}
+ghost use Rattle.journal.specs.Changing.{changeNumber, changed, changeBuffer};
 
 // Questions 6, 3, 30, 31 and 13.
 fn change_number(st: State, serial: Name, room: usize) -> u32

@@ -1,5 +1,4 @@
 // Taking over a journal: its head, then step by step.
-use super::changing::serial_number;
 use super::head::count_at;
 use super::head::head_settings;
 use super::head::head_whole;
@@ -14,6 +13,7 @@ use super::step::first_good;
 use super::step::fresh;
 use super::step::next;
 use super::step::renewed;
+use super::step::serial_number;
 use super::step::sound;
 use super::step::sound_alone;
 use receipt::Found;

@@ -4,9 +4,11 @@ use super::head::count_place;
 use super::head::head_length;
 use super::state::State;
 use super::state::added;
+use super::state::is_used;
 use super::state::no_name;
 use super::state::serials_good;
 use super::state::settings_first;
+use super::state::used_count;
 use receipt::After;
 use receipt::Details;
 use receipt::Kind;
@@ -22,7 +24,7 @@ ghost use Rattle.primitives.specs.Counter.{counterFits};
 ghost use Rattle.primitives.specs.Aes.{keySchedule};
 ghost use Rattle.receipt.specs.Settings.{cspGood, idGood, settingsGood, nameText};
 ghost use Rattle.receipt.specs.Chain.{chainValue, encryptedCounter};
-ghost use Rattle.journal.specs.Step.{fresh, countWithin, soundAlone, sound, firstGood, newCounter, detailsNumber, fieldsOf, next, renewed};
+ghost use Rattle.journal.specs.Step.{fresh, countWithin, soundAlone, sound, firstGood, newCounter, detailsNumber, fieldsOf, next, serialNumber, renewed};
 ghost use Rattle.journal.specs.State.{used, serialsGood, settingsFirst, headLengthNow};
 
 // ---- the state of a register without receipts
@@ -260,6 +262,22 @@ pub(crate) fn next(st: State, d: Details, text: &[u8]) -> State
         section: st.section + 1,
         place: st.place,
     }
+}
+
+// ---- the start of a pair
+
+// Questions 30 and 31: a serial that was not used, and not a ninth one.
+pub(crate) fn serial_number(st: State, serial: Name) -> u32
+    ensures { λ r. ⌜ r ≡ serialNumber st serial 0 ⌝ }
+{
+    let slots = st.serials;
+    if is_used(serial, slots) {
+        return 30;
+    }
+    if 8 <= used_count(slots) {
+        return 31;
+    }
+    0
 }
 
 // The state after the start of a pair with this serial.

@@ -2,7 +2,6 @@
 use Prim.Native.Nat.{_≤_}
 use mathlib.Core.Path.{_≡_, _∙_}
 use lib.ListN.{length}
-use Rattle.journal.specs.State.{used}
 use Rattle.journal.proofs.Serials.{used-length, newest-at, newest-none}
 use borrow.Author.Needs.{needs}
 use native.Mathlib.Omega.{arith}

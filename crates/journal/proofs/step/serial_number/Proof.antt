@@ -1,4 +1,4 @@
--- `changing::serial_number` meets its contract.
+-- `step::serial_number` meets its contract.
 use mathlib.Core.Path.{_≡_, sym, _∙_}
 use mathlib.Core.Bool.{false}
 use Rattle.journal.specs.State.{used, isIn}
@@ -6,8 +6,8 @@ use Rattle.journal.proofs.Answers.{serial-yes}
 use Rattle.journal.proofs.ChangeCalls.{serial-used, serial-ninth}
 use borrow.Author.Needs.{needs}
 use native.Mathlib.Omega.{arith}
-use Rattle.journal.proofs.changing.serial_number.Statement.{statement}
-use Rattle.journal.proofs.changing.serial_number.Tie as tie
+use Rattle.journal.proofs.step.serial_number.Statement.{statement}
+use Rattle.journal.proofs.step.serial_number.Tie as tie
 
 -- the serial is not one of those used
 new : (c : tie.Else1) → isIn (c .before .before .before .args .serial) (used (c .before .before .before .args .st .serials)) ≡ false
