@@ -178,23 +178,30 @@ entries-made k n c s (e ∷ es) cs ds r m =
       (λ i. call-same e (h .0 .typed .fields .amounts) i ∷ p .1 i) ∙ ap (λ (l : List Call). l ++ ds) (sym (issues-more e es)),
     )
 
-later-made : (k : List ℕ) (n : ℕ) (o : Owner) (c : Core) (us : List Name) (ps : List Pair) → AllRight k n c (allPlaced o ps) → Names us ps → Makes (laterFromC ps) (laterCalls ps)
+-- a pair, and then those after it
+pair-made : (k : List ℕ) (n : ℕ) (o : Owner) (c : Core) (p : Pair) (ps : List Pair) → AllRight k n c (allPlaced o (p ∷ ps))
+    → ((d : Core) → AllRight k n d (allPlaced o ps) → Makes (laterFromC ps) (laterCalls ps))
+    → Makes (map issueCallOf (p .entries) ++ laterFromC ps) (issuesOf (p .entries) ++ laterCalls ps)
+pair-made k n o c p ps r f =
+    let s = settingsFor o (p .serial) in
+    let h = right-split k n c (placed s (p .entries)) (allPlaced o ps) (subst (AllRight k n c) (all-more o p ps) r) in
+    entries-made k n c s (p .entries) (laterFromC ps) (laterCalls ps) (h .0) (f _ (h .1))
+
+later-made : (k : List ℕ) (n : ℕ) (o : Owner) (c : Core) (us : List Name) (ps : List Pair) → AllRight k n c (allPlaced o ps) → Names us ps
+    → Makes (laterFromC ps) (laterCalls ps)
 unfolding laterFromC
 later-made k n o c us [] r ns = (demand.none, sym later-none)
 later-made k n o c us (p ∷ ps) r (placing.more b ns) =
-    let h = right-split k n c (placed (settingsFor o (p .serial)) (p .entries)) (allPlaced o ps) (subst (AllRight k n c) (all-more o p ps) r) in
-    let m = later-made k n o _ (us ++ (p .serial ∷ [])) ps (h .1) ns in
-    let e = entries-made k n c (settingsFor o (p .serial)) (p .entries) (laterFromC ps) (laterCalls ps) (h .0) m in
+    let e = pair-made k n o c p ps r (λ d h. later-made k n o d (us ++ (p .serial ∷ [])) ps h ns) in
     let d = change-allowed (p .serial) (b .typed) (b .good) in
     (demand.more (d .0) (e .0), (λ i. d .1 i ∷ e .1 i) ∙ sym (later-more p ps))
 
-pairs-made : (k : List ℕ) (n : ℕ) (o : Owner) (c : Core) (us : List Name) (ps : List Pair) → AllRight k n c (allPlaced o ps) → Names us ps → Makes (callsFromC ps) (callsOf ps)
+pairs-made : (k : List ℕ) (n : ℕ) (o : Owner) (c : Core) (us : List Name) (ps : List Pair) → AllRight k n c (allPlaced o ps) → Names us ps
+    → Makes (callsFromC ps) (callsOf ps)
 unfolding callsFromC
 pairs-made k n o c us [] r ns = (demand.none, sym pairs-none)
 pairs-made k n o c us (p ∷ ps) r (placing.more b ns) =
-    let h = right-split k n c (placed (settingsFor o (p .serial)) (p .entries)) (allPlaced o ps) (subst (AllRight k n c) (all-more o p ps) r) in
-    let m = later-made k n o _ (us ++ (p .serial ∷ [])) ps (h .1) ns in
-    let e = entries-made k n c (settingsFor o (p .serial)) (p .entries) (laterFromC ps) (laterCalls ps) (h .0) m in
+    let e = pair-made k n o c p ps r (λ d h. later-made k n o d (us ++ (p .serial ∷ [])) ps h ns) in
     (e .0, e .1 ∙ sym (pairs-more p ps))
 
 -- the settings of the head

@@ -99,7 +99,7 @@ module _ (b : List ℕ) where
           bytes = record { csp = bytes-take 3 (bytes-drop 0 a); id = bytes-take 32 (bytes-drop 3 a); serial = bytes-take 32 (bytes-drop 43 a) };
         })
 
-    pub key-typed : (length (keyOf b) ≡ 32) × AllBytes (keyOf b)
+    key-typed : (length (keyOf b) ≡ 32) × AllBytes (keyOf b)
     unfolding keyOf keyAt
     key-typed = rw (eq-eqb (length b) 123 l) (part-length b a 91 32 (omega arith), bytes-take 32 (bytes-drop 91 a))
 

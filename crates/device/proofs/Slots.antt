@@ -30,7 +30,7 @@ array-long (n ∷ ns) [] p i h = absurd p
 array-long (n ∷ ns) (u ∷ us) p zero h = search needs
 array-long (n ∷ ns) (u ∷ us) p (suc i) h = array-long ns us (p .1) i (le-of-suc-le-suc h)
 
-pub field-long : (ns : List Name) (us : List Val) → shadow (each (the-field .row .Denot) (the-field .row .own) (map (the-field .into) ns) us) → Long ns
+field-long : (ns : List Name) (us : List Val) → shadow (each (the-field .row .Denot) (the-field .row .own) (map (the-field .into) ns) us) → Long ns
 field-long [] us p i h = absurd (omega arith)
 field-long (n ∷ ns) [] p i h = absurd p
 field-long (n ∷ ns) (u ∷ us) p zero h = search needs

@@ -6,7 +6,7 @@ use mathlib.Core.List.{List, [], _∷_, _++_, append-assoc, append-nil}
 use native.Mathlib.Omega.{arith}
 use borrow.Author.Tests.{eq-eqb, eqb-true}
 use lib.Dec.{eqb}
-use lib.ListN.{length, take, drop, getD, length-drop, drop-of-length-le}
+use lib.ListN.{length, take, drop, getD, drop-of-length-le}
 use lib.Seq.{take-at, drop-at, drop-drop, take-add, take-all}
 use Rattle.primitives.specs.Bytes.{AllBytes}
 use Rattle.primitives.specs.Number.{bytesOf, valueOf, countAt}
@@ -16,7 +16,7 @@ use Rattle.primitives.proofs.ByteLists.{bytes-take, bytes-drop}
 use Rattle.primitives.proofs.Counts.{part-length, count-is, count-bytes, count-lt}
 use Rattle.primitives.proofs.Numbers.{length-bytesOf, value-bytesOf}
 use Rattle.primitives.proofs.Rows.{ifZero-yes}
-use Rattle.primitives.proofs.Twos.{width-test, fits-wide, fits-value, counter-back, counter-whole, length-counterBytes}
+use Rattle.primitives.proofs.Twos.{fits-wide, fits-value, counter-back, counter-whole, length-counterBytes}
 use Rattle.receipt.specs.declared.settings.Name.{Name}
 use Rattle.receipt.specs.declared.settings.Settings.{Settings}
 use Rattle.receipt.proofs.Names.{settings-zero}
@@ -27,6 +27,7 @@ use Rattle.device.specs.Calls.{settingsFrom, widthWith, settingsAnswer, 
 use Rattle.device.specs.Laws.{SettingsAreRead, WrittenSettingsAreRead, SettingsBytesAreKept, StateIsRead, BytesAreKept}
 use Rattle.device.proofs.Sizes.{width-whole, key-long, from-typed, good-register}
 use Rattle.device.proofs.Slots.{typed-lengths}
+use Rattle.device.proofs.DetailLaws.{eight-good}
 use Rattle.device.proofs.Writers.{length-name, length-names, length-settings, length-state}
 
 -- ---- what was written is read, at a place from which on the list is m and then r
@@ -75,7 +76,7 @@ module _ (s : Settings) (n : ℕ) (key : List ℕ) (t : TypedRegister s n key) w
 
   all-settings : drop 0 (settingsBytes s n key) ≡ s .csp ++ from-id
   unfolding settingsBytes
-  all-settings = ap (λ (k : List ℕ). s .csp ++ s .id .bytes ++ bytesOf 8 (s .id .len) ++ s .serial .bytes ++ bytesOf 8 (s .serial .len) ++ bytesOf 8 n ++ k) (sym (append-nil key)) ∙ simp append-assoc
+  all-settings = sym (append-nil (settingsBytes s n key)) ∙ simp append-assoc
 
   settings-read : (settingsAt (settingsBytes s n key) ≡ s) × (widthAt (settingsBytes s n key) ≡ n) × (keyAt (settingsBytes s n key) ≡ key)
   unfolding settingsAt widthAt keyAt
@@ -107,9 +108,6 @@ written-settings-are-read csp id serial key n out b z =
     (ap settingsOf e ∙ r .0, ap widthOf e ∙ r .1, ap keyOf e ∙ r .2)
 
 -- ---- states
-
-eight-good : widthGood 8 ≡ true
-eight-good = sym (width-test 8 (omega arith))
 
 module _ (st : State) (t : TypedState st) where
   -- what stands from each of its parts on
@@ -173,7 +171,8 @@ module _ (st : State) (t : TypedState st) where
       let serials = ap (namesAt l 43) (sym (t .eight)) ∙ names-here l 43 (st .serials) from-states-width d₃ (λ i h. t .serials i (omega (arith, t .eight))) in
       let width = count-here l 363 8 (st .width) from-key d₄ (omega (arith, t .width)) in
       let key = part-here l 371 32 (st .key) from-counter d₅ (t .keyLength) in
-      let counter = ap (counterValue 8) (part-here l 403 8 (counterBytes 8 z) from-last d₆ (length-counterBytes 8 z)) ∙ counter-back 8 z (fits-wide 8 z eight-good ∙ t .counter) in
+      let bytes = part-here l 403 8 (counterBytes 8 z) from-last d₆ (length-counterBytes 8 z) in
+      let counter = ap (counterValue 8) bytes ∙ counter-back 8 z (fits-wide 8 z eight-good ∙ t .counter) in
       let last = count-here l 411 4 (st .last) from-issued d₇ (omega (arith, t .last)) in
       let issued = count-here l 415 4 (st .issued) from-chain d₈ (omega (arith, t .issued)) in
       let chain = part-here l 419 8 (st .chain) from-length d₉ (t .chain) in
@@ -246,7 +245,8 @@ module _ (b : List ℕ) (a : AllBytes b) where
 
     figures-split : (y : List ℕ) (st : State)
         → y ++ figuresBytes st
-        ≡ y ++ counterBytes 8 (st .counter) ++ bytesOf 4 (st .last) ++ bytesOf 4 (st .issued) ++ st .chain ++ bytesOf 8 (st .length) ++ bytesOf 4 (st .section) ++ bytesOf 8 (st .place)
+        ≡ y ++ counterBytes 8 (st .counter) ++ bytesOf 4 (st .last) ++ bytesOf 4 (st .issued) ++ st .chain ++ bytesOf 8 (st .length) ++ bytesOf 4 (st .section)
+        ++ bytesOf 8 (st .place)
     unfolding figuresBytes
     figures-split y st = simp append-assoc
 

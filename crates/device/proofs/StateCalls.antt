@@ -1,5 +1,5 @@
 -- What holds of the calls that take a state: a refused one, one with a state of version 1, and the settings with one of its serials.
-use Prim.Native.Nat.{ℕ, _<_}
+use Prim.Native.Nat.{ℕ}
 use mathlib.Core.Path.{_≡_, refl, sym, ap, _∙_, subst}
 use mathlib.Core.Bool.{Bool, true, false}
 use mathlib.Core.List.{List, []}
@@ -7,10 +7,8 @@ use native.Mathlib.Omega.{arith}
 use borrow.Author.Tests.{eq-eqb, ltb-true, ltb-false}
 use lib.Dec.{ltb}
 use lib.ListN.{length}
-use Rattle.primitives.specs.Bytes.{AllBytes}
 use Rattle.primitives.proofs.ByteLists.{bytes-replicate}
 use Rattle.receipt.specs.Settings.{nameOf}
-use Rattle.receipt.specs.declared.settings.Name.{Name}
 use Rattle.journal.specs.State.{noName, used, unopened, TypedName, TypedRegister, TypedState}
 use Rattle.journal.specs.Issuing.{issued}
 use Rattle.journal.specs.Changing.{changed}
@@ -18,7 +16,7 @@ use Rattle.journal.specs.declared.state.State.{State}
 use Rattle.journal.specs.declared.state.TakenOver.{TakenOver}
 use Rattle.journal.proofs.Refusals.{refused-changes-nothing}
 use Rattle.journal.proofs.Serials.{used-length}
-use Rattle.device.specs.Layout.{settingsBytes, settingsOf, widthOf, keyOf, stateOf, kept}
+use Rattle.device.specs.Layout.{stateOf, kept}
 use Rattle.device.specs.Details.{noDetails}
 use Rattle.device.specs.Calls.{Slices, serialIn, settingsIn, settingsInBuffer, openedNumber, openedSlices, IssueCall, orderIn, issueAnswer, issuedNumber, issuedSlices, changeAnswer, changedNumber, changedSlices}
 use Rattle.device.specs.Laws.{RefusedIssueKeepsSlices, RefusedChangeKeepsSlices, OldStatesGetSix, SettingsOfSerial}
@@ -105,7 +103,7 @@ serial-typed {st} t which = go (ltb which (length (used (st .serials)))) refl
         subst TypedName (serial-some st which refl noName h) (t .serials which (omega (arith, h, used-length (st .serials), t .eight)))
     go false e = subst TypedName (serial-none st which refl (ltb-false _ _ e)) none-typed
 
-pub settings-typed-in : {st : State} → TypedState st → (which : ℕ) → TypedRegister (settingsIn st which) (st .width) (st .key)
+settings-typed-in : {st : State} → TypedState st → (which : ℕ) → TypedRegister (settingsIn st which) (st .width) (st .key)
 unfolding settingsIn
 settings-typed-in {st} t which =
     let s = serial-typed t which in

@@ -27,7 +27,7 @@ use Rattle.device.proofs.Reading.{over-all}
 use Rattle.device.proofs.Slots.{Long, name-any, Lengths}
 
 -- two writers in a row
-pub both-placed : (b ys zs : List ℕ) (at at′ : ℕ) {b₁ b₂ : List ℕ} → b₁ ≡ placed b at ys → b₂ ≡ placed b₁ at′ zs → at′ ≡ at + length ys
+both-placed : (b ys zs : List ℕ) (at at′ : ℕ) {b₁ b₂ : List ℕ} → b₁ ≡ placed b at ys → b₂ ≡ placed b₁ at′ zs → at′ ≡ at + length ys
     → at + length ys + length zs ≤ length b → b₂ ≡ overwrite b at (ys ++ zs)
 both-placed b ys zs at at′ e₁ e₂ p h = then-placed b ys zs at at′ (e₁ ∙ placed-room b at ys (omega arith)) e₂ p h
 
@@ -42,19 +42,19 @@ put-name n b at l h e₁ e₂ =
     let m = length-bytesOf 8 (n .len) in
     both-placed b (n .bytes) (bytesOf 8 (n .len)) at (at + 32) e₁ e₂ (omega arith) (omega arith)
 
-module _ (s : Settings) (t : SettingsLengths s) where
-  pub front-long : length (s .csp ++ nameBytes (s .id)) ≡ 43
-  front-long = length-append (s .csp) (nameBytes (s .id)) ∙ omega (arith, t .csp, length-name (s .id) (t .id))
+front-long : (csp : List ℕ) (id : Name) → length csp ≡ 3 → length (id .bytes) ≡ 32 → length (csp ++ nameBytes id) ≡ 43
+front-long csp id c l = length-append csp (nameBytes id) ∙ omega (arith, length-name id l)
 
-  pub names-long : length (s .csp ++ nameBytes (s .id) ++ nameBytes (s .serial)) ≡ 83
-  names-long = length-append (s .csp ++ nameBytes (s .id)) (nameBytes (s .serial)) ∙ omega (arith, front-long, length-name (s .serial) (t .serial))
+module _ (s : Settings) (t : SettingsLengths s) where
+  names-long : length (s .csp ++ nameBytes (s .id) ++ nameBytes (s .serial)) ≡ 83
+  names-long = length-append (s .csp ++ nameBytes (s .id)) (nameBytes (s .serial)) ∙ omega (arith, front-long (s .csp) (s .id) (t .csp) (t .id), length-name (s .serial) (t .serial))
 
   module _ (b : List ℕ) where
     pub put-names : {b₁ b₂ b₃ : List ℕ} → 83 ≤ length b → b₁ ≡ placed b 0 (s .csp) → b₂ ≡ overwrite b₁ 3 (nameBytes (s .id))
         → b₃ ≡ overwrite b₂ 43 (nameBytes (s .serial)) → b₃ ≡ overwrite b 0 (s .csp ++ nameBytes (s .id) ++ nameBytes (s .serial))
     put-names h e₁ e₂ e₃ =
         let l₁ = t .csp in
-        let l₂ = front-long in
+        let l₂ = front-long (s .csp) (s .id) (t .csp) (t .id) in
         let w₁ = e₁ ∙ placed-room b 0 (s .csp) (omega arith) in
         let w₂ = then b (s .csp) (nameBytes (s .id)) 0 3 w₁ e₂ (omega arith) (omega arith) in
         then b (s .csp ++ nameBytes (s .id)) (nameBytes (s .serial)) 0 43 w₂ e₃ (omega arith) (omega arith)
@@ -112,10 +112,10 @@ module _ (ns : List Name) (i : ℕ) {at : ℕ} {out₀ out : List ℕ} (w : Writ
 
 module _ (st : State) where
   -- counter, last number and receipts issued; chain value, length, receipts in the open section and the place of their count
-  abbrev pub countsBytes : List ℕ
+  abbrev countsBytes : List ℕ
   countsBytes = counterBytes 8 (st .counter) ++ bytesOf 4 (st .last) ++ bytesOf 4 (st .issued)
 
-  abbrev pub chainBytes : List ℕ
+  abbrev chainBytes : List ℕ
   chainBytes = st .chain ++ bytesOf 8 (st .length) ++ bytesOf 4 (st .section) ++ bytesOf 8 (st .place)
 
   last-long : length (counterBytes 8 (st .counter) ++ bytesOf 4 (st .last)) ≡ 12
@@ -143,12 +143,10 @@ module _ (st : State) where
         length-append (st .chain ++ bytesOf 8 (st .length) ++ bytesOf 4 (st .section)) (bytesOf 8 (st .place)) ∙ omega (arith, section-long, length-bytesOf 8 (st .place))
 
   module _ (t : Lengths st) where
-    first-long : length (st .csp ++ nameBytes (st .id)) ≡ 43
-    first-long = length-append (st .csp) (nameBytes (st .id)) ∙ omega (arith, t .csp, length-name (st .id) (t .id))
-
     serials-long : length (st .csp ++ nameBytes (st .id) ++ namesBytes (st .serials)) ≡ 363
     serials-long =
-        length-append (st .csp ++ nameBytes (st .id)) (namesBytes (st .serials)) ∙ omega (arith, first-long, length-names (st .serials) (t .serials), t .eight)
+        length-append (st .csp ++ nameBytes (st .id)) (namesBytes (st .serials))
+        ∙ omega (arith, front-long (st .csp) (st .id) (t .csp) (t .id), length-names (st .serials) (t .serials), t .eight)
 
     width-long : length (st .csp ++ nameBytes (st .id) ++ namesBytes (st .serials) ++ bytesOf 8 (st .width)) ≡ 371
     width-long =
@@ -175,7 +173,7 @@ module _ (st : State) where
         let p₂ = p₁ ++ nameBytes (st .id) in
         let p₃ = p₂ ++ namesBytes (st .serials) in
         let l₁ = t .csp in
-        let l₂ = first-long t in
+        let l₂ = front-long (st .csp) (st .id) (t .csp) (t .id) in
         let l₃ = serials-long t in
         let l₄ = width-long t in
         let l₅ = length-bytesOf 8 (st .width) in

@@ -52,7 +52,9 @@ loop-again : tie.Need-loop-again Inv-loop μ-loop
 loop-again c =
     let eight : length (c .before .before .before .before .before .before .before .before .args .t1) ≡ 8 = search needs in
     let taken = c .before .before .before .before .before .loop-test .taken in
-    (omega (arith, taken), name-more (c .before .before .before .before .before .before .before .before .args .t1) (c .before .before .before .before .before .before .loop .i) (c .before .before .before .before .before .before .loop .inv .1) _ (long (c .before .before .before .before .before .before .before .before)) (omega (arith, taken)) (c .before .before .put-name .ensures))
+    let l = c .before .before .before .before .before .before .loop in
+    let s = c .before .before .before .before .before .before .before .before in
+    (omega (arith, taken), name-more (s .args .t1) (l .i) (l .inv .1) _ (long s) (omega (arith, taken)) (c .before .before .put-name .ensures))
 
 same-length : tie.Need-same-length Inv-loop μ-loop
 same-length c = writing-long (c .before .loop .inv .1)

@@ -30,7 +30,15 @@ name-at-requires-8 c κs = search needs
 
 returns : tie.Need-returns
 returns c =
-    serials-found (c .before .before .before .before .before .before .before .before .before .args .b .now) (c .before .before .before .before .before .before .before .name-at .ensures) (c .before .before .before .before .before .before .name-at2 .ensures) (c .before .before .before .before .before .name-at3 .ensures) (c .before .before .before .before .name-at4 .ensures) (c .before .before .before .name-at5 .ensures) (c .before .before .name-at6 .ensures) (c .before .name-at7 .ensures) (c .name-at8 .ensures)
+    serials-found (c .before .before .before .before .before .before .before .before .before .args .b .now)
+    (c .before .before .before .before .before .before .before .name-at .ensures)
+    (c .before .before .before .before .before .before .name-at2 .ensures)
+    (c .before .before .before .before .before .name-at3 .ensures)
+    (c .before .before .before .before .name-at4 .ensures)
+    (c .before .before .before .name-at5 .ensures)
+    (c .before .before .name-at6 .ensures)
+    (c .before .name-at7 .ensures)
+    (c .name-at8 .ensures)
 
 pub serials-at-spec : {M : Type 1} → statement M
 serials-at-spec =

@@ -26,8 +26,11 @@ same-length-2 c = search needs
 returns : tie.Need-returns
 returns c =
     let s = c .before .before .before .before .before .before .before .before .before .before .before .before .before .before .before .args in
-    change-is (slicesWith (s .state .now) (s .journal .now)) (s .serial .now) (c .before .before .before .before .before .before .before .before .before .before .state-of .ensures)
-    (c .before .before .before .before .before .before .before .before .before .name-of .ensures) (c .before .before .before .before .before .before .before .change .ensures) (c .before .before .keep .ensures)
+    change-is (slicesWith (s .state .now) (s .journal .now)) (s .serial .now)
+    (c .before .before .before .before .before .before .before .before .before .before .state-of .ensures)
+    (c .before .before .before .before .before .before .before .before .before .name-of .ensures)
+    (c .before .before .before .before .before .before .before .change .ensures)
+    (c .before .before .keep .ensures)
 
 pub ditgrux-change-spec : {M : Type 1} → statement M
 ditgrux-change-spec =

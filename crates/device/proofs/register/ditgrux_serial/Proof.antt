@@ -11,9 +11,11 @@ use Rattle.device.proofs.register.ditgrux_serial.Statement.{statement}
 use Rattle.device.proofs.register.ditgrux_serial.Tie as tie
 
 -- the serial, and its part of the array that is its text
-found : (c : tie.After-bytes) → c .before .serial-in .result ≡ serialIn (stateOf (c .before .before .before .before .before .args .state .now)) (c .before .before .before .before .before .args .which)
+found : (c : tie.After-bytes)
+    → c .before .serial-in .result ≡ serialIn (stateOf (c .before .before .before .before .before .args .state .now)) (c .before .before .before .before .before .args .which)
 found c =
-    c .before .serial-in .ensures ∙ ap (λ (x : State). serialIn x (c .before .before .before .before .before .args .which)) (c .before .before .state-of .ensures)
+    let s = c .before .before .before .before .before .args in
+    c .before .serial-in .ensures ∙ ap (λ (x : State). serialIn x (s .which)) (c .before .before .state-of .ensures)
 
 long : (c : tie.After-bytes) → length (c .before .serial-in .result .bytes) ≡ 32
 long c = search needs
@@ -31,7 +33,8 @@ serial-in-requires c κs = search needs
 
 returns : tie.Need-returns
 returns c =
-    serial-short _ _ (found (c .before .before .before)) (long (c .before .before .before)) (c .before .before .before .before .before .before .before .before .args .output .now) (part (c .before)) (c .if2 .taken)
+    let a = c .before .before .before in
+    serial-short _ _ (found a) (long a) (c .before .before .before .before .before .before .before .before .args .output .now) (part (c .before)) (c .if2 .taken)
 
 sub-put : tie.Need-sub-put
 sub-put c = search needs
@@ -41,7 +44,8 @@ part-put-start c = search needs
 
 part-put-end : tie.Need-part-put-end
 part-put-end c =
-    part-ends _ _ (found (c .before .before .before .before .before .before)) (long (c .before .before .before .before .before .before)) (c .before .before .before .before .before .before .before .before .before .before .before .args .output .now) (part (c .before .before .before .before))
+    let a = c .before .before .before .before .before .before in
+    part-ends _ _ (found a) (long a) (c .before .before .before .before .before .before .before .before .before .before .before .args .output .now) (part (c .before .before .before .before))
 
 put-requires : tie.Need-put-requires
 put-requires c κs = search needs
@@ -51,7 +55,10 @@ same-length c = search needs
 
 returns-2 : tie.Need-returns-2
 returns-2 c =
-    serial-done _ _ (found (c .before .before .before .before .before .before .before .before .before .before)) (long (c .before .before .before .before .before .before .before .before .before .before)) (c .before .before .before .before .before .before .before .before .before .before .before .before .before .before .before .args .output .now) (part (c .before .before .before .before .before .before .before .before)) (c .before .before .before .before .before .before .before .if2 .left) (c .before .before .put .ensures .1)
+    let a = c .before .before .before .before .before .before .before .before .before .before in
+    let s = a .before .before .before .before .before .args in
+    serial-done _ _ (found a) (long a) (s .output .now) (part (c .before .before .before .before .before .before .before .before))
+    (c .before .before .before .before .before .before .before .if2 .left) (c .before .before .put .ensures .1)
 
 pub ditgrux-serial-spec : {M : Type 1} → statement M
 ditgrux-serial-spec =

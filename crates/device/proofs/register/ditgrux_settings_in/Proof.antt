@@ -10,7 +10,8 @@ use Rattle.device.proofs.register.ditgrux_settings_in.Tie as tie
 
 returns : tie.Need-returns
 returns c =
-    settings-in-none (stateOf (c .before .before .before .args .state .now)) (c .before .before .before .args .which) (c .before .before .before .args .settings .now) (c .if1 .taken)
+    let s = c .before .before .before .args in
+    settings-in-none (stateOf (s .state .now)) (s .which) (s .settings .now) (c .if1 .taken)
 
 state-of-requires : tie.Need-state-of-requires
 state-of-requires c κs = search needs
@@ -28,8 +29,9 @@ returns-2 : tie.Need-returns-2
 returns-2 c =
     let s = c .before .before .before .before .before .before .before .before .before .before .before .before .args in
     let l : length (c .before .before .before .before .serial-in .result .bytes) ≡ 32 = search needs in
-    settings-in-done (stateOf (s .state .now)) (s .which) (s .settings .now) (c .before .before .before .before .before .before .before .before .before .if1 .left) (c .before .before .before .before .before .before .before .before .state-of .ensures)
-    (c .before .before .before .before .serial-in .ensures) (state-long (c .before .before .before .before .before .before .before .before .state-of .result) _ (c .before .before .before .before .before .before .before .before .state-of .ok)) l (c .before .before .put-settings .ensures)
+    let st = c .before .before .before .before .before .before .before .before .state-of in
+    settings-in-done (stateOf (s .state .now)) (s .which) (s .settings .now) (c .before .before .before .before .before .before .before .before .before .if1 .left)
+    (st .ensures) (c .before .before .before .before .serial-in .ensures) (state-long (st .result) _ (st .ok)) l (c .before .before .put-settings .ensures)
 
 pub ditgrux-settings-in-spec : {M : Type 1} → statement M
 ditgrux-settings-in-spec =
