@@ -1,5 +1,6 @@
-/* Prints the receipts of a journal again. It reads the journal from a file, walks its entries as the header describes, and reads each
- * receipt back. Each line has the number, date and time, kind, the five amounts in cents, and whether the device had signed.
+/* Prints the receipts of a journal again. It reads the journal from a file, walks its pairs and their entries as the header describes, and
+ * reads each receipt back with the serial of its pair. Each line has the number, date and time, kind, the five amounts in cents, and
+ * whether the device had signed.
  *
  *     cc -Iinclude examples/reprint.c target/staticlib/libdevice.a -o reprint
  *     ./reprint JOURNAL WIDTH          WIDTH: bytes of the register's turnover counter, 5 to 8
@@ -41,20 +42,18 @@ static size_t number(struct reader *r, size_t count)
     return value;
 }
 
-/* The settings of the register, from the head of its journal. Reading needs no key, so it is left at zeros. */
-static uint32_t settings_of(struct reader *r, size_t width, uint8_t settings[DITGRUX_SETTINGS])
+/* A section: a length of four bytes and so many bytes. */
+struct section {
+    const uint8_t *bytes;
+    size_t length;
+};
+
+static struct section section(struct reader *r)
 {
-    static const uint8_t key[DITGRUX_KEY] = {0};
-    const uint8_t *part[3];
-    size_t length[3], i;
-    for (i = 0; i < 3; i++) { /* CSP, ID, serial */
-        length[i] = number(r, 4);
-        part[i] = take(r, length[i]);
-    }
-    if (!r->good)
-        return DITGRUX_BAD_HEAD;
-    return ditgrux_settings(part[0], length[0], part[1], length[1], part[2], length[2], width, key, sizeof key, settings,
-                            DITGRUX_SETTINGS);
+    struct section found;
+    found.length = number(r, 4);
+    found.bytes = take(r, found.length);
+    return found;
 }
 
 static void print(const struct ditgrux_details *d, int signed_by_device)
@@ -82,18 +81,38 @@ static uint32_t reprint_entry(struct reader *r, const uint8_t settings[DITGRUX_S
     return refused;
 }
 
-/* Prints the receipts up to the first that is refused. Returns its number, and says which entry it is; 0 where there is none. */
+/* Prints the receipts of the next pair, read with the pair's serial, and counts the entries on. Reading needs no key, so the key of the
+ * settings is left at zeros. Returns 0, or the number of a refusal: `cut` if the serial or the number of receipts is not there. */
+static uint32_t reprint_pair(struct reader *r, struct section csp, struct section id, size_t width, uint32_t cut, size_t *entry)
+{
+    static const uint8_t key[DITGRUX_KEY] = {0};
+    const struct section serial = section(r);
+    uint8_t settings[DITGRUX_SETTINGS];
+    size_t receipts = number(r, 4);
+    uint32_t refused;
+    if (!r->good)
+        return cut;
+    refused = ditgrux_settings(csp.bytes, csp.length, id.bytes, id.length, serial.bytes, serial.length, width, key, sizeof key, settings,
+                               sizeof settings);
+    for (; receipts > 0 && !refused; receipts--) {
+        refused = reprint_entry(r, settings);
+        if (refused)
+            fprintf(stderr, "entry %zu: ", *entry);
+        else
+            ++*entry;
+    }
+    return refused;
+}
+
+/* Prints the receipts up to the first that is refused, pair by pair: each certificate of the register has one. Returns 0, or the number
+ * of the refusal. */
 static uint32_t reprint(struct reader *r, size_t width)
 {
-    uint8_t settings[DITGRUX_SETTINGS];
-    uint32_t refused = settings_of(r, width, settings);
-    size_t entry, receipts = number(r, 4);
-    if (refused)
-        return refused;
-    for (entry = 0; entry < receipts && !refused; entry++)
-        refused = reprint_entry(r, settings);
-    if (refused)
-        fprintf(stderr, "entry %zu: ", entry - 1);
+    const struct section csp = section(r), id = section(r);
+    size_t entry = 0;
+    uint32_t refused = reprint_pair(r, csp, id, width, DITGRUX_BAD_HEAD, &entry);
+    while (!refused && r->left > 0)
+        refused = reprint_pair(r, csp, id, width, DITGRUX_BYTES_LEFT, &entry);
     return refused;
 }
 

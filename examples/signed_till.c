@@ -1,9 +1,9 @@
 /* A till with real signatures: issues the receipts of a small day, signs each with ES256, prints their codes, and takes the journal
- * over. It makes a new signing key for the day and writes the public key to a file, so that anyone can verify the signatures.
- * OpenSSL 3 stands for the signature device.
+ * over. At noon its signature device fails and is replaced by another one, which has its own key and its own certificate. The till makes
+ * both signing keys and writes the public keys to files, so that anyone can verify the signatures. OpenSSL 3 stands for the devices.
  *
  *     cc -Iinclude examples/signed_till.c target/staticlib/libdevice.a -lcrypto -o signed_till
- *     ./signed_till PUBLIC-KEY.pem [JOURNAL]
+ *     ./signed_till PUBLIC-1.pem PUBLIC-2.pem [JOURNAL]
  */
 #include "ditgrux.h"
 
@@ -18,6 +18,8 @@
 
 enum {
     WIDTH = 5,      /* bytes of the turnover counter */
+    DEVICES = 2,
+    CHANGE = 15,    /* the first receipt that the second device signs */
     DER_ROOM = 72,  /* the longest DER signature of the curve P-256 */
     HALF = DITGRUX_SIGNATURE / 2
 };
@@ -45,7 +47,7 @@ static const struct receipt day[] = {
     {11, 38, {780, 1560, 0, 0, 0}, DITGRUX_STANDARD, 1},
     {12, 0, {1890, 0, 0, 0, 0}, DITGRUX_STANDARD, 0},
     {12, 3, {-1890, 0, 0, 0, 0}, DITGRUX_CANCELLATION, 0},
-    {12, 10, {0, 0, 0, 0, 0}, DITGRUX_STANDARD, 1}, /* the device works again */
+    {12, 10, {0, 0, 0, 0, 0}, DITGRUX_STANDARD, 1}, /* the second device */
     {13, 22, {0, 0, 0, 0, 1300}, DITGRUX_STANDARD, 1},
     {14, 40, {99999999999, 0, 0, 0, 0}, DITGRUX_STANDARD, 1},
     {14, 41, {-99999999999, 0, 0, 0, 0}, DITGRUX_CANCELLATION, 1},
@@ -55,11 +57,14 @@ static const struct receipt day[] = {
 
 enum { RECEIPTS = sizeof day / sizeof day[0] };
 
-static uint8_t journal[DITGRUX_LONGEST_HEAD + RECEIPTS * DITGRUX_LONGEST_ENTRY];
+/* The serials of the devices' certificates. */
+static const uint8_t serials[DEVICES][4] = {{'1', 'a', '2', 'b'}, {'3', 'c', '4', 'd'}};
+
+static uint8_t journal[DITGRUX_LONGEST_HEAD + DITGRUX_LONGEST_CHANGE + RECEIPTS * DITGRUX_LONGEST_ENTRY];
 static uint8_t state[DITGRUX_STATE];
 static const uint8_t counter_key[DITGRUX_KEY] = "a key of thirty-two plain bytes";
 
-/* ---- the signature device */
+/* ---- the signature devices */
 
 /* Turns a DER signature into r and s, each 32 bytes, big-endian. Returns 1, or 0 where the DER is bad. */
 static int r_and_s(const uint8_t *der, size_t length, uint8_t signature[DITGRUX_SIGNATURE])
@@ -83,7 +88,7 @@ static size_t sign(EVP_PKEY *key, const uint8_t *text, size_t length, uint8_t si
     return good ? DITGRUX_SIGNATURE : 0;
 }
 
-/* Writes the public key to a file. Returns 1, or 0 where it cannot. */
+/* Writes a public key to a file. Returns 1, or 0 where it cannot. */
 static int write_public_key(EVP_PKEY *key, const char *path)
 {
     FILE *file = fopen(path, "w");
@@ -102,17 +107,24 @@ static int refused(const char *what, uint32_t number)
     return 0;
 }
 
-/* Opens the register. Returns 1, or 0 where a call is refused. */
+/* Opens the register with the first device. Returns 1, or 0 where a call is refused. */
 static int open_register(void)
 {
-    static const uint8_t csp[] = {'A', 'T', '0'}, id[] = {'T', 'I', 'L', 'L', '-', '1'}, serial[] = {'1', 'a', '2', 'b'};
+    static const uint8_t csp[] = {'A', 'T', '0'}, id[] = {'T', 'I', 'L', 'L', '-', '1'};
     uint8_t settings[DITGRUX_SETTINGS];
-    uint32_t number = ditgrux_settings(csp, sizeof csp, id, sizeof id, serial, sizeof serial, WIDTH, counter_key,
+    uint32_t number = ditgrux_settings(csp, sizeof csp, id, sizeof id, serials[0], sizeof serials[0], WIDTH, counter_key,
                                        sizeof counter_key, settings, sizeof settings);
     if (number)
         return refused("settings", number);
     number = ditgrux_open(settings, sizeof settings, journal, sizeof journal, state, sizeof state);
     return number ? refused("open", number) : 1;
+}
+
+/* Goes on with the second device. Returns 1, or 0 where the call is refused. */
+static int change_certificate(void)
+{
+    uint32_t number = ditgrux_change(state, sizeof state, serials[1], sizeof serials[1], journal, sizeof journal);
+    return number ? refused("change", number) : 1;
 }
 
 /* The details of a receipt of the day. */
@@ -161,11 +173,13 @@ static int print_code(size_t entry)
 }
 
 /* Issues every receipt of the day. A new entry starts where the journal ended before. Returns 1, or 0 where a call is refused. */
-static int run_the_day(EVP_PKEY *key)
+static int run_the_day(EVP_PKEY *keys[DEVICES])
 {
-    for (uint32_t i = 0; i < RECEIPTS; i++) {
+    for (uint32_t number = 1; number <= RECEIPTS; number++) {
+        if (number == CHANGE && !change_certificate())
+            return 0;
         size_t entry = ditgrux_journal_length(state, sizeof state);
-        if (!issue(key, i + 1, &day[i]) || !print_code(entry))
+        if (!issue(keys[number >= CHANGE], number, &day[number - 1]) || !print_code(entry))
             return 0;
     }
     return 1;
@@ -194,25 +208,35 @@ static int take_over(void)
         return 0;
     }
     int same = memcmp(again, state, sizeof state) == 0;
-    return printf("taken over: %u receipts, counter %lld cents, %s state\n", (unsigned)ditgrux_receipts(again, sizeof again),
-                  (long long)ditgrux_counter(again, sizeof again), same ? "the same" : "another") > 0 && same;
+    return printf("taken over: %u receipts, %u serials, counter %lld cents, %s state\n", (unsigned)ditgrux_receipts(again, sizeof again),
+                  (unsigned)ditgrux_serials(again, sizeof again), (long long)ditgrux_counter(again, sizeof again),
+                  same ? "the same" : "another") > 0 && same;
+}
+
+/* Makes the keys of the devices and writes the public keys to the files. Returns 1, or 0 where it cannot. */
+static int make_keys(EVP_PKEY *keys[DEVICES], char **paths)
+{
+    for (int i = 0; i < DEVICES; i++) {
+        keys[i] = EVP_EC_gen("P-256");
+        if (keys[i] == NULL || !write_public_key(keys[i], paths[i])) {
+            fprintf(stderr, "no key, or its public key cannot be written\n");
+            return 0;
+        }
+    }
+    return 1;
 }
 
 int main(int count, char **arguments)
 {
-    if (count < 2 || count > 3) {
-        fprintf(stderr, "usage: signed_till PUBLIC-KEY.pem [JOURNAL]\n");
+    EVP_PKEY *keys[DEVICES] = {NULL, NULL};
+    if (count < 3 || count > 4) {
+        fprintf(stderr, "usage: signed_till PUBLIC-1.pem PUBLIC-2.pem [JOURNAL]\n");
         return 2;
     }
-    EVP_PKEY *key = EVP_EC_gen("P-256");
-    if (key == NULL || !write_public_key(key, arguments[1])) {
-        fprintf(stderr, "no key, or its public key cannot be written\n");
-        EVP_PKEY_free(key);
-        return 1;
-    }
-    int good = open_register() && run_the_day(key) && take_over();
-    EVP_PKEY_free(key);
-    if (good && count == 3 && !write_journal(arguments[2])) {
+    int good = make_keys(keys, arguments + 1) && open_register() && run_the_day(keys) && take_over();
+    for (int i = 0; i < DEVICES; i++)
+        EVP_PKEY_free(keys[i]);
+    if (good && count == 4 && !write_journal(arguments[3])) {
         fprintf(stderr, "the journal cannot be written\n");
         good = 0;
     }

@@ -1,5 +1,5 @@
-/* A till: opens a register, issues three receipts, prints their codes, and takes its journal over. The second receipt is a sale, the
- * third one takes 10,50 of it back: a cancellation has negative amounts.
+/* A till: opens a register, issues receipts, prints their codes, changes its certificate, and takes its journal over. The second receipt
+ * is a sale, the third one takes 10,50 of it back: a cancellation has negative amounts. The fourth names the new certificate.
  *
  *     cc -Iinclude examples/till.c target/staticlib/libdevice.a -o till
  */
@@ -55,6 +55,12 @@ static uint32_t sell(uint32_t number, uint32_t minute, int64_t standard, int64_t
     return DITGRUX_DONE;
 }
 
+/* The signature device has a new certificate with this serial: the receipts from here on name it. */
+static uint32_t change(const char *serial)
+{
+    return ditgrux_change(state, sizeof state, (const uint8_t *)serial, strlen(serial), journal, sizeof journal);
+}
+
 int main(void)
 {
     const uint8_t key[DITGRUX_KEY] = "a key of thirty-two plain bytes";
@@ -70,12 +76,16 @@ int main(void)
         return 1;
     printf("number 3 again: refused %u\n", (unsigned)sell(3, 10, 100, 0, DITGRUX_STANDARD, 1));
 
+    if (change("3c4d") || sell(4, 15, 2000, 0, DITGRUX_STANDARD, 1))
+        return 1;
+    printf("back to certificate 1a2b: refused %u\n", (unsigned)change("1a2b")); /* DITGRUX_SERIAL_USED */
+
     size_t length = ditgrux_journal_length(state, sizeof state);
     uint8_t again[DITGRUX_STATE];
     refused = ditgrux_take_over(journal, length, key, sizeof key, 5, again, sizeof again, &index);
-    printf("taken over: number %u, %u receipts, counter %lld cents, %s state\n", (unsigned)refused,
-           (unsigned)ditgrux_receipts(again, sizeof again), (long long)ditgrux_counter(again, sizeof again),
-           memcmp(again, state, sizeof state) ? "another" : "the same");
+    printf("taken over: number %u, %u receipts, %u serials, counter %lld cents, %s state\n", (unsigned)refused,
+           (unsigned)ditgrux_receipts(again, sizeof again), (unsigned)ditgrux_serials(again, sizeof again),
+           (long long)ditgrux_counter(again, sizeof again), memcmp(again, state, sizeof state) ? "another" : "the same");
     journal[length - 1] ^= 1;
     refused = ditgrux_take_over(journal, length, key, sizeof key, 5, again, sizeof again, &index);
     printf("one bit changed: refused %u at entry %u\n", (unsigned)refused, (unsigned)index);

@@ -107,7 +107,7 @@ enum ditgrux_number {
     DITGRUX_ENTRY_NO_START = 18,  /* the first entry is not a standard receipt with five zeros */
     DITGRUX_ENTRY_CHAIN = 19,     /* the entry's chain field does not match the entry before */
     DITGRUX_ENTRY_COUNTER = 20,   /* the sum does not fit the width, or is not the counter that the entry holds encrypted */
-    DITGRUX_BYTES_LEFT = 21,      /* the bytes after an entry section are not a good serial and a whole count */
+    DITGRUX_BYTES_LEFT = 21,      /* bytes follow the last receipt of a pair and are not a good serial and a whole count */
     DITGRUX_BAD_FORM = 22,        /* not a compact form; unbase64, unbase32: not canonical BASE64 or BASE32 */
     DITGRUX_OUTPUT_SHORT = 23,    /* the output is too short; ALSO: the output of settings or read is longer than it must be */
     DITGRUX_BAD_CODE = 24,        /* not a machine-readable code; fields: or one without a register ID */
@@ -282,7 +282,8 @@ uint32_t ditgrux_serials(const uint8_t *state, size_t state_length);
  *     state, state_length         447 bytes; they are not changed, and not checked either
  *     which                       the number of the serial, from 0
  *     output, output_length       output
- *     length                      output: the length of the serial; 0 if the register has no such serial
+ *     length                      output: the length of the serial; 0 if the register has no such serial; at most 32, whatever a
+ *                                 damaged state says
  *
  * Returns DITGRUX_DONE, or DITGRUX_OUTPUT_SHORT. Refused: `output` is unchanged and *length is 0. */
 uint32_t ditgrux_serial(const uint8_t *state, size_t state_length, uint32_t which, uint8_t *output, size_t output_length,

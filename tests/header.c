@@ -1,6 +1,7 @@
 /* What include/ditgrux.h says besides the contracts: the wrappers pass every detail to its place and back, an empty signature may be
  * NULL, the walk of the entries ends at the length of the journal, what is left after a refusal, what to do when the buffer is full,
- * where power fails, which registers a shared key may have, and what the optical line is of a code.
+ * where power fails, what every byte of state and journal is after a change of the certificate, what becomes of a state of version 1,
+ * which registers a shared key may have, and what the optical line is of a code.
  * Prints each line that fails; exit status 1 where one does. Compiles as C99 and as C++11. */
 #include "ditgrux.h"
 
@@ -40,7 +41,7 @@ static struct ditgrux_details details_of(uint32_t number, uint32_t kind, int64_t
     return d;
 }
 
-/* The loop of the header. */
+/* The number and, below, the loop of the header. */
 static size_t number_at(const uint8_t *bytes, int count)
 {
     size_t number = 0;
@@ -59,19 +60,22 @@ static int comes_back(const uint8_t *code, size_t length)
            memcmp(again, code, length) == 0;
 }
 
-static size_t walk(const uint8_t *bytes, size_t *forms)
+static size_t walk(const uint8_t *bytes, size_t bytes_length, size_t *forms)
 {
     uint8_t code[DITGRUX_LONGEST_CODE];
     size_t at = 0, receipts, entry, section, length, written;
-    for (section = 0; section < 3; section++)
-        at += 4 + number_at(bytes + at, 4);
-    receipts = number_at(bytes + at, 4);
-    at += 4;
     *forms = 0;
-    for (entry = 0; entry < receipts; entry++) {
-        length = number_at(bytes + at, 2);
-        *forms += ditgrux_code(bytes + at + 2, length, code, sizeof code, &written) == DITGRUX_DONE && comes_back(code, written);
-        at += 2 + length;
+    for (section = 0; section < 2; section++)
+        at += 4 + number_at(bytes + at, 4);
+    while (at < bytes_length) {
+        at += 4 + number_at(bytes + at, 4);
+        receipts = number_at(bytes + at, 4);
+        at += 4;
+        for (entry = 0; entry < receipts; entry++) {
+            length = number_at(bytes + at, 2);
+            *forms += ditgrux_code(bytes + at + 2, length, code, sizeof code, &written) == DITGRUX_DONE && comes_back(code, written);
+            at += 2 + length;
+        }
     }
     return at;
 }
@@ -119,7 +123,8 @@ static void wrappers(void)
     CHECK(ditgrux_issue_details(state, sizeof state, &training, signature, sizeof signature, journal, sizeof journal) == DITGRUX_DONE);
     CHECK(ditgrux_counter(state, sizeof state) == 0);
 
-    CHECK(walk(journal, &forms) == ditgrux_journal_length(state, sizeof state) && forms == 4);
+    length = ditgrux_journal_length(state, sizeof state);
+    CHECK(walk(journal, length, &forms) == length && forms == 4);
 }
 
 static int same_details(const struct ditgrux_details *a, const struct ditgrux_details *b)
@@ -129,7 +134,7 @@ static int same_details(const struct ditgrux_details *a, const struct ditgrux_de
            a->reduced_1 == b->reduced_1 && a->reduced_2 == b->reduced_2 && a->zero == b->zero && a->special == b->special;
 }
 
-/* Issues these details, and reads them back from the journal by name, under settings or under the start of a state. */
+/* Issues these details, and reads them back from the journal by name, under these settings. */
 static void reads_back(const uint8_t *under, const struct ditgrux_details *details, size_t signed_bytes)
 {
     struct ditgrux_details found = details_of(0, 9, 1);
@@ -148,7 +153,8 @@ static void reading(void)
 {
     static const int64_t most = 99999999999;
     struct ditgrux_details details = details_of(1, DITGRUX_STANDARD, 0), kept = details;
-    uint8_t bytes[DITGRUX_DETAILS + 1], given[DITGRUX_SIGNATURE + 1], other_settings[DITGRUX_SETTINGS];
+    uint8_t bytes[DITGRUX_DETAILS + 1], given[DITGRUX_SIGNATURE + 1], other_settings[DITGRUX_SETTINGS],
+        under[DITGRUX_SETTINGS];
     size_t at, length, wrote;
 
     CHECK(ditgrux_version() == DITGRUX_VERSION);
@@ -157,15 +163,16 @@ static void reading(void)
     details = details_of(4000000000u, DITGRUX_CANCELLATION, -1);
     details.standard = -most;
     details.special = most;
-    reads_back(state, &details, 0);
+    CHECK(ditgrux_settings_in(state, sizeof state, 0, under, sizeof under) == DITGRUX_DONE);
+    reads_back(under, &details, 0);
     at = ditgrux_journal_length(state, sizeof state) + 2;
     details = details_of(4294967295u, DITGRUX_TRAINING, 1000);
-    reads_back(state, &details, sizeof signature);
+    reads_back(under, &details, sizeof signature);
     length = ditgrux_journal_length(state, sizeof state) - at;
 
     /* the layout: number at 0, kind at 28, the first amount at 32 */
     memset(bytes, 0xA5, sizeof bytes);
-    CHECK(ditgrux_read(state, DITGRUX_SETTINGS, journal + at, length, bytes, DITGRUX_DETAILS, given, DITGRUX_SIGNATURE, &wrote) == 0);
+    CHECK(ditgrux_read(under, DITGRUX_SETTINGS, journal + at, length, bytes, DITGRUX_DETAILS, given, DITGRUX_SIGNATURE, &wrote) == 0);
     CHECK(is_all(0xFF, bytes, 4) && number_at(bytes + 28, 4) == DITGRUX_TRAINING && number_at(bytes + 32, 8) == 7000 && wrote == 64);
     CHECK(bytes[DITGRUX_DETAILS] == 0xA5);
 
@@ -173,9 +180,10 @@ static void reading(void)
     memset(bytes, 0xA5, sizeof bytes);
     memset(given, 0xA5, sizeof given);
     CHECK(ditgrux_read(state, DITGRUX_STATE, journal + at, length, bytes, 72, given, 64, &wrote) == DITGRUX_BAD_CSP && wrote == 0);
-    CHECK(ditgrux_read(state, DITGRUX_SETTINGS, journal + at - 2, length + 2, bytes, 72, given, 64, &wrote) == DITGRUX_ENTRY_MISSPELLED);
-    CHECK(ditgrux_read(state, DITGRUX_SETTINGS, journal + at, length, bytes, 73, given, 64, &wrote) == DITGRUX_OUTPUT_SHORT && wrote == 0);
-    CHECK(ditgrux_read(state, DITGRUX_SETTINGS, journal + at, length, bytes, 72, given, 65, &wrote) == DITGRUX_OUTPUT_SHORT && wrote == 0);
+    CHECK(ditgrux_read(state, DITGRUX_SETTINGS, journal + at, length, bytes, 72, given, 64, &wrote) == DITGRUX_BAD_WIDTH && wrote == 0);
+    CHECK(ditgrux_read(under, DITGRUX_SETTINGS, journal + at - 2, length + 2, bytes, 72, given, 64, &wrote) == DITGRUX_ENTRY_MISSPELLED);
+    CHECK(ditgrux_read(under, DITGRUX_SETTINGS, journal + at, length, bytes, 73, given, 64, &wrote) == DITGRUX_OUTPUT_SHORT && wrote == 0);
+    CHECK(ditgrux_read(under, DITGRUX_SETTINGS, journal + at, length, bytes, 72, given, 65, &wrote) == DITGRUX_OUTPUT_SHORT && wrote == 0);
     CHECK(is_all(0xA5, bytes, sizeof bytes) && is_all(0xA5, given, sizeof given));
     CHECK(ditgrux_settings((const uint8_t *)"AT0", 3, (const uint8_t *)"TILL-2", 6, (const uint8_t *)"1a2b", 4, 8, key, sizeof key,
                            other_settings, sizeof other_settings) == DITGRUX_DONE);
@@ -267,7 +275,7 @@ static void power_cut(void)
     /* the entry and the count are stored, the length is not: 15, and the walk finds the length */
     CHECK(ditgrux_take_over(journal, length, key, sizeof key, 8, other, sizeof other, &index) == DITGRUX_ENTRY_CUT);
     CHECK(index == ditgrux_receipts(old, sizeof old));
-    CHECK(walk(journal, &forms) == ditgrux_journal_length(state, sizeof state));
+    CHECK(walk(journal, length, &forms) == ditgrux_journal_length(state, sizeof state));
     /* all but the state are stored: the new state */
     CHECK(ditgrux_take_over(journal, ditgrux_journal_length(state, sizeof state), key, sizeof key, 8, other, sizeof other, &index) == 0);
     CHECK(memcmp(other, state, sizeof state) == 0);
@@ -414,6 +422,483 @@ static void shared(void)
     CHECK(is_all(0, other, sizeof other) && is_all(0xA5, twin, sizeof twin));
 }
 
+/* ---- changing the certificate */
+
+enum { SERIALS_AT = 43, SLOT = 40, LENGTH_AT = 427, OPEN_AT = 435, PLACE_AT = 439 }; /* places in the state */
+
+static void put(uint8_t *bytes, int count, uint64_t number)
+{
+    while (count-- > 0) {
+        bytes[count] = (uint8_t)number;
+        number >>= 8;
+    }
+}
+
+static const uint8_t *text_of(const char *text)
+{
+    return (const uint8_t *)text;
+}
+
+static size_t journal_length(void)
+{
+    return ditgrux_journal_length(state, sizeof state);
+}
+
+/* A register of its own, whose buffer is a pattern after the head. */
+static void fresh(void)
+{
+    memset(journal, 0xA5, sizeof journal);
+    CHECK(ditgrux_open(settings, sizeof settings, journal, sizeof journal, state, sizeof state) == DITGRUX_DONE);
+}
+
+static void keep(void)
+{
+    memcpy(other, state, sizeof state);
+    memcpy(twin, journal, sizeof journal);
+}
+
+static int kept(void)
+{
+    return memcmp(state, other, sizeof state) == 0 && memcmp(journal, twin, sizeof journal) == 0;
+}
+
+/* A change with exactly the room that it needs is accepted: every byte of state and journal is as the header says. */
+static void changes_to(const char *serial)
+{
+    const size_t length = journal_length(), letters = strlen(serial);
+    uint8_t *slot = other + SERIALS_AT + SLOT * ditgrux_serials(state, sizeof state);
+    keep();
+    memcpy(slot, serial, letters);
+    put(slot + 32, 8, letters);
+    put(other + LENGTH_AT, 8, length + 8 + letters);
+    put(other + OPEN_AT, 4, 0);
+    put(other + PLACE_AT, 8, length + 4 + letters);
+    put(twin + length, 4, letters);
+    memcpy(twin + length + 4, serial, letters);
+    put(twin + length + 4 + letters, 4, 0);
+    CHECK(ditgrux_change(state, sizeof state, text_of(serial), letters, journal, length + 8 + letters) == DITGRUX_DONE);
+    CHECK(kept());
+}
+
+/* The number of a refused change; 0 where it has changed a byte. */
+static uint32_t no_change(const char *serial, size_t letters, size_t room)
+{
+    uint32_t number;
+    keep();
+    number = ditgrux_change(state, sizeof state, text_of(serial), letters, journal, room);
+    return kept() ? number : 0;
+}
+
+/* Issues a receipt: besides its entry only the number of receipts of the last pair changes in the journal. */
+static void issues(uint32_t number)
+{
+    const struct ditgrux_details details = details_of(number, DITGRUX_STANDARD, ditgrux_receipts(state, sizeof state) ? 1 : 0);
+    const size_t length = journal_length(), place = number_at(state + PLACE_AT, 8), open = number_at(state + OPEN_AT, 4);
+    keep();
+    CHECK(number_at(journal + place, 4) == open);
+    CHECK(ditgrux_issue_details(state, sizeof state, &details, signature, sizeof signature, journal, sizeof journal) == DITGRUX_DONE);
+    put(twin + place, 4, open + 1);
+    memcpy(twin + length, journal + length, journal_length() - length);
+    CHECK(memcmp(journal, twin, sizeof journal) == 0);
+    CHECK(number_at(state + OPEN_AT, 4) == open + 1 && number_at(state + PLACE_AT, 8) == place);
+    CHECK(memcmp(state, other, 403) == 0); /* settings and serials */
+}
+
+/* Take over of so many bytes of a journal: its number, and where. Where it is refused, the state that it writes is all zero. */
+static uint32_t taken_over(const uint8_t *bytes, size_t length, uint32_t *index)
+{
+    const uint32_t number = ditgrux_take_over(bytes, length, key, sizeof key, 8, other, sizeof other, index);
+    CHECK(number == DITGRUX_DONE || is_all(0, other, sizeof other));
+    return number;
+}
+
+/* The journal gives the state back, byte for byte, and the walk ends at its length. */
+static int gives_state(void)
+{
+    uint32_t index;
+    size_t forms;
+    return taken_over(journal, journal_length(), &index) == DITGRUX_DONE && index == 0 && memcmp(other, state, sizeof state) == 0 &&
+           walk(journal, journal_length(), &forms) == journal_length() && forms == ditgrux_receipts(state, sizeof state);
+}
+
+/* The state's layout in a register with two serials and three receipts. */
+static void layout(void)
+{
+    uint8_t hash[DITGRUX_HASH];
+    size_t start;
+    fresh();
+    CHECK(gives_state());
+    issues(1);
+    issues(5);
+    changes_to("3c4d5e");
+    start = journal_length() + 2;
+    issues(9);
+    CHECK(memcmp(state, "AT0", 3) == 0 && memcmp(state + 3, "TILL-1", 6) == 0 && is_all(0, state + 9, 26));
+    CHECK(number_at(state + 35, 8) == 6);
+    CHECK(memcmp(state + 43, "1a2b", 4) == 0 && is_all(0, state + 47, 28) && number_at(state + 75, 8) == 4);
+    CHECK(memcmp(state + 83, "3c4d5e", 6) == 0 && is_all(0, state + 89, 26) && number_at(state + 115, 8) == 6);
+    CHECK(is_all(0, state + 123, 6 * SLOT));
+    CHECK(number_at(state + 363, 8) == 8 && memcmp(state + 371, key, sizeof key) == 0);
+    CHECK(number_at(state + 403, 8) == 90 && number_at(state + 411, 4) == 9 && number_at(state + 415, 4) == 3);
+    CHECK(ditgrux_sha256(journal + start, journal_length() - start, hash, sizeof hash) == DITGRUX_DONE);
+    CHECK(memcmp(state + 419, hash, 8) == 0);
+    CHECK(number_at(state + 427, 8) == journal_length() && number_at(state + 435, 4) == 1);
+    CHECK(number_at(state + 439, 8) == start - 6 && number_at(journal + start - 6, 4) == 1);
+    CHECK(ditgrux_counter(state, sizeof state) == 90 && ditgrux_last_number(state, sizeof state) == 9);
+    CHECK(ditgrux_receipts(state, sizeof state) == 3 && sizeof state == 447);
+    CHECK(gives_state());
+}
+
+/* Changes before the first receipt and in a row, up to eight serials; the ninth. The longest serial appends DITGRUX_LONGEST_CHANGE. */
+static void eight_serials(void)
+{
+    static const char *const serials[] = {"1a2b", "0", "0123456789abcdef0123456789abcdef", "00", "f", "1a2", "1a2b0", "fedcba9876543210"};
+    const size_t most = sizeof journal;
+    size_t length;
+    uint32_t i;
+    fresh();
+    for (i = 1; i < DITGRUX_SERIALS; i++) {
+        CHECK(ditgrux_serials(state, sizeof state) == i);
+        length = journal_length();
+        changes_to(serials[i]);
+        CHECK(i != 2 || journal_length() - length == DITGRUX_LONGEST_CHANGE);
+        CHECK(gives_state());
+        if (i == 3 || i == 4 || i == 7) /* receipts in three of the pairs */
+            issues(i);
+        CHECK(i != 3 || no_change("1a2b", 4, most) == DITGRUX_SERIAL_USED);
+    }
+    CHECK(ditgrux_serials(state, sizeof state) == DITGRUX_SERIALS && gives_state());
+    for (i = 0; i < DITGRUX_SERIALS; i++)
+        CHECK(no_change(serials[i], strlen(serials[i]), journal_length()) == DITGRUX_SERIAL_USED); /* before 31 and 13 */
+    CHECK(no_change("9", 1, most) == DITGRUX_SERIALS_FULL && no_change("9", 1, journal_length()) == DITGRUX_SERIALS_FULL);
+    CHECK(no_change("9G", 2, journal_length()) == DITGRUX_BAD_SERIAL && no_change("9", 1, journal_length() - 1) == DITGRUX_BAD_STATE);
+    issues(8);
+    CHECK(gives_state());
+}
+
+/* What each refused change leaves: nothing but its number, and each number before the next. */
+static void refused_changes(void)
+{
+    static const char *const longest = "0123456789abcdef0123456789abcdef0";
+    const size_t most = sizeof journal;
+    char letter;
+    int byte;
+    fresh();
+    issues(1);
+    /* 6 before all others: the buffer is shorter than the journal, or the state has another length */
+    CHECK(no_change("9", 1, journal_length() - 1) == DITGRUX_BAD_STATE && no_change("", 0, 0) == DITGRUX_BAD_STATE);
+    CHECK(ditgrux_change(state, sizeof state - 1, text_of("9"), 1, journal, most) == DITGRUX_BAD_STATE && kept());
+    /* 3 before 13 */
+    CHECK(no_change("", 0, journal_length()) == DITGRUX_BAD_SERIAL && no_change(longest, 33, most) == DITGRUX_BAD_SERIAL);
+    for (byte = 0; byte < 256; byte++) {
+        const int good = (byte >= '0' && byte <= '9') || (byte >= 'a' && byte <= 'f');
+        letter = (char)byte;
+        CHECK(no_change(&letter, 1, journal_length()) == (uint32_t)(good ? DITGRUX_NO_ROOM : DITGRUX_BAD_SERIAL));
+    }
+    /* 30 before 13: the newest, and an older one */
+    CHECK(no_change("1a2b", 4, journal_length()) == DITGRUX_SERIAL_USED && no_change("1a2b", 4, most) == DITGRUX_SERIAL_USED);
+    changes_to("1a2c");
+    CHECK(no_change("1a2b", 4, most) == DITGRUX_SERIAL_USED && no_change("1a2c", 4, most) == DITGRUX_SERIAL_USED);
+    /* 13, with one byte too few */
+    CHECK(no_change("1a2", 3, journal_length()) == DITGRUX_NO_ROOM && no_change("1a2", 3, journal_length() + 10) == DITGRUX_NO_ROOM);
+    CHECK(no_change(longest, 32, journal_length() + 39) == DITGRUX_NO_ROOM);
+    changes_to("1a2");
+    CHECK(gives_state());
+}
+
+/* A text prepared before a change is not that of the receipt after it: it names the old serial. */
+static void prepared_before(void)
+{
+    const struct ditgrux_details start = details_of(1, DITGRUX_STANDARD, 0), sale = details_of(2, DITGRUX_STANDARD, 1);
+    uint8_t before[DITGRUX_LONGEST_INPUT], after[DITGRUX_LONGEST_INPUT];
+    size_t before_length, after_length, at;
+    fresh();
+    changes_to("1a2c");
+    CHECK(ditgrux_prepare_details(state, sizeof state, &sale, after, sizeof after, &after_length) == DITGRUX_NO_START);
+    CHECK(ditgrux_issue_details(state, sizeof state, &start, NULL, 0, journal, sizeof journal) == DITGRUX_DONE);
+    CHECK(ditgrux_prepare_details(state, sizeof state, &sale, before, sizeof before, &before_length) == DITGRUX_DONE);
+    changes_to("1a2d");
+    CHECK(ditgrux_prepare_details(state, sizeof state, &sale, after, sizeof after, &after_length) == DITGRUX_DONE);
+    CHECK(before_length == after_length && memcmp(before, after, after_length) != 0);
+    at = journal_length() + 2;
+    CHECK(ditgrux_issue_details(state, sizeof state, &sale, signature, sizeof signature, journal, sizeof journal) == DITGRUX_DONE);
+    CHECK(memcmp(journal + at, after, after_length) == 0 && gives_state());
+}
+
+/* ---- the serials in a state */
+
+/* The serial of this number is `expected`: with more room and with exactly the room. With one byte less it is refused. */
+static int names(uint32_t which, const char *expected)
+{
+    const size_t letters = strlen(expected);
+    uint8_t out[DITGRUX_LONGEST_NAME + 1];
+    size_t room, length = 1;
+    for (room = letters; room <= sizeof out; room++) {
+        memset(out, 0xA5, sizeof out);
+        if (ditgrux_serial(state, sizeof state, which, out, room, &length) != DITGRUX_DONE || length != letters ||
+            memcmp(out, expected, letters) != 0 || !is_all(0xA5, out + letters, sizeof out - letters))
+            return 0;
+    }
+    memset(out, 0xA5, sizeof out);
+    return letters == 0 || (ditgrux_serial(state, sizeof state, which, out, letters - 1, &length) == DITGRUX_OUTPUT_SHORT && length == 0 &&
+                            is_all(0xA5, out, sizeof out));
+}
+
+/* The settings in the state under this number are those with the serial; the output may be neither longer nor shorter. */
+static int sets(uint32_t which, const char *serial)
+{
+    uint8_t expected[DITGRUX_SETTINGS], out[DITGRUX_SETTINGS + 1];
+    memset(out, 0xA5, sizeof out);
+    return ditgrux_settings(text_of("AT0"), 3, text_of("TILL-1"), 6, text_of(serial), strlen(serial), 8, key, sizeof key, expected,
+                            sizeof expected) == DITGRUX_DONE &&
+           ditgrux_settings_in(state, sizeof state, which, out, sizeof out) == DITGRUX_OUTPUT_SHORT &&
+           ditgrux_settings_in(state, sizeof state, which, out, DITGRUX_SETTINGS - 1) == DITGRUX_OUTPUT_SHORT &&
+           is_all(0xA5, out, sizeof out) &&
+           ditgrux_settings_in(state, sizeof state, which, out, DITGRUX_SETTINGS) == DITGRUX_DONE &&
+           memcmp(out, expected, sizeof expected) == 0 && out[DITGRUX_SETTINGS] == 0xA5;
+}
+
+/* A number that no serial of the register has: no letters, and settings that Read refuses. */
+static int is_missing(uint32_t which)
+{
+    uint8_t under[DITGRUX_SETTINGS], bytes[DITGRUX_DETAILS], given[DITGRUX_SIGNATURE];
+    size_t length;
+    return names(which, "") && ditgrux_settings_in(state, sizeof state, which, under, sizeof under) == DITGRUX_DONE &&
+           memcmp(under, state, SERIALS_AT) == 0 && is_all(0, under + SERIALS_AT, SLOT) && memcmp(under + 83, state + 363, 40) == 0 &&
+           ditgrux_read(under, sizeof under, journal, 1, bytes, sizeof bytes, given, sizeof given, &length) == DITGRUX_BAD_SERIAL;
+}
+
+/* Each receipt is read with the settings of its pair, and with no others. */
+static void serials(void)
+{
+    static const char longest[] = "0123456789abcdef0123456789abcdef";
+    uint8_t under[DITGRUX_SETTINGS], given[DITGRUX_SIGNATURE];
+    struct ditgrux_details found;
+    size_t first, second, end, length;
+    uint32_t which;
+    fresh();
+    CHECK(ditgrux_serials(state, sizeof state) == 1 && names(0, "1a2b") && sets(0, "1a2b") && is_missing(1));
+    first = journal_length() + 2;
+    issues(1);
+    changes_to(longest);
+    second = journal_length() + 2;
+    issues(2);
+    end = journal_length();
+    CHECK(ditgrux_serials(state, sizeof state) == 2 && names(0, "1a2b") && sets(0, "1a2b") && names(1, longest) && sets(1, longest));
+    CHECK(is_missing(2) && is_missing(7) && is_missing(8) && is_missing(UINT32_MAX));
+    for (which = 0; which < 2; which++) {
+        CHECK(ditgrux_settings_in(state, sizeof state, which, under, sizeof under) == DITGRUX_DONE);
+        CHECK(ditgrux_read_details(under, sizeof under, journal + first, number_at(journal + first - 2, 2), &found, given, &length) ==
+              (uint32_t)(which == 0 ? DITGRUX_DONE : DITGRUX_ENTRY_MISSPELLED));
+        CHECK(ditgrux_read_details(under, sizeof under, journal + second, end - second, &found, given, &length) ==
+              (uint32_t)(which == 1 ? DITGRUX_DONE : DITGRUX_ENTRY_MISSPELLED));
+    }
+    memset(state, 0, sizeof state); /* the unopened state */
+    CHECK(ditgrux_serials(state, sizeof state) == 0 && names(0, ""));
+    CHECK(ditgrux_settings_in(state, sizeof state, 0, under, sizeof under) == DITGRUX_DONE && is_all(0, under, sizeof under));
+}
+
+/* A state of this length: every call refuses it and keeps its bytes, and the readers find nothing in it. */
+static void of_length(uint8_t *bytes, size_t length)
+{
+    const struct ditgrux_details sale = details_of(3, DITGRUX_STANDARD, 1);
+    uint8_t before[DITGRUX_STATE + 1], out[DITGRUX_LONGEST_INPUT];
+    size_t wrote = 1;
+    uint32_t index = 1;
+    memcpy(before, bytes, length);
+    keep();
+    CHECK(ditgrux_open(settings, sizeof settings, journal, sizeof journal, bytes, length) == DITGRUX_BAD_STATE);
+    CHECK(ditgrux_open_shared(settings, sizeof settings, journal, sizeof journal, bytes, length) == DITGRUX_BAD_STATE);
+    CHECK(ditgrux_prepare_details(bytes, length, &sale, out, sizeof out, &wrote) == DITGRUX_BAD_STATE && wrote == 0);
+    CHECK(ditgrux_issue_details(bytes, length, &sale, NULL, 0, journal, sizeof journal) == DITGRUX_BAD_STATE);
+    CHECK(ditgrux_change(bytes, length, text_of("9"), 1, journal, sizeof journal) == DITGRUX_BAD_STATE);
+    CHECK(ditgrux_take_over(journal, journal_length(), key, sizeof key, 8, bytes, length, &index) == DITGRUX_BAD_STATE && index == 0);
+    CHECK(ditgrux_counter(bytes, length) == 0 && ditgrux_last_number(bytes, length) == 0 && ditgrux_receipts(bytes, length) == 0);
+    CHECK(ditgrux_journal_length(bytes, length) == 0 && ditgrux_serials(bytes, length) == 0);
+    wrote = 1;
+    CHECK(ditgrux_serial(bytes, length, 0, out, 0, &wrote) == DITGRUX_DONE && wrote == 0);
+    memset(out, 0xA5, sizeof out);
+    CHECK(ditgrux_settings_in(bytes, length, 0, out, DITGRUX_SETTINGS - 1) == DITGRUX_OUTPUT_SHORT && is_all(0xA5, out, sizeof out));
+    CHECK(ditgrux_settings_in(bytes, length, 0, out, DITGRUX_SETTINGS) == DITGRUX_DONE && is_all(0, out, DITGRUX_SETTINGS));
+    CHECK(is_all(0xA5, out + DITGRUX_SETTINGS, sizeof out - DITGRUX_SETTINGS));
+    CHECK(memcmp(before, bytes, length) == 0 && kept());
+}
+
+/* States of other lengths. One of version 1 had 155 bytes: the settings, the counter, the last number, the number of receipts, the chain
+ * value and the length of the journal. With the width, the key and the length in it, Take over makes the state anew. */
+static void version_1(void)
+{
+    enum { BEFORE = 155 };
+    uint8_t bytes[DITGRUX_STATE + 1];
+    size_t length;
+    uint32_t index;
+    fresh();
+    issues(1);
+    issues(2);
+    memset(bytes, 0, sizeof bytes);
+    memcpy(bytes, settings, sizeof settings);
+    memcpy(bytes + sizeof settings, state + 403, 32);
+    of_length(bytes, BEFORE);
+    length = number_at(bytes + BEFORE - 8, 8);
+    CHECK(ditgrux_take_over(journal, length, bytes + 91, DITGRUX_KEY, bytes[90], other, sizeof other, &index) == DITGRUX_DONE);
+    CHECK(memcmp(other, state, sizeof state) == 0 && memcmp(other + 403, bytes + 123, 32) == 0);
+    memcpy(bytes, state, sizeof state);
+    of_length(bytes, DITGRUX_STATE - 1);
+    of_length(bytes, DITGRUX_STATE + 1);
+    of_length(bytes, 0);
+}
+
+/* ---- what a state must be */
+
+/* Prepare, Issue and Change refuse the state with this number at the place, and change nothing. */
+static void is_unsound(size_t at, int count, uint64_t number)
+{
+    const struct ditgrux_details sale = details_of(20, DITGRUX_STANDARD, 1);
+    uint8_t sound[DITGRUX_STATE], out[DITGRUX_LONGEST_INPUT];
+    size_t wrote = 1;
+    memcpy(sound, state, sizeof state);
+    put(state + at, count, number);
+    keep();
+    CHECK(ditgrux_prepare_details(state, sizeof state, &sale, out, sizeof out, &wrote) == DITGRUX_BAD_STATE && wrote == 0);
+    CHECK(ditgrux_issue_details(state, sizeof state, &sale, NULL, 0, journal, sizeof journal) == DITGRUX_BAD_STATE);
+    CHECK(ditgrux_change(state, sizeof state, text_of("9"), 1, journal, sizeof journal) == DITGRUX_BAD_STATE);
+    CHECK(kept());
+    memcpy(state, sound, sizeof state);
+}
+
+static void unsound_states(void)
+{
+    const struct ditgrux_details sale = details_of(20, DITGRUX_STANDARD, 1);
+    uint8_t out[DITGRUX_LONGEST_INPUT];
+    size_t slot, length, wrote;
+    fresh();
+    issues(1);
+    changes_to("1a2c");
+    issues(2);
+    is_unsound(0, 1, 'a');
+    is_unsound(3, 1, '_');
+    is_unsound(35, 8, 0);
+    is_unsound(35, 8, 33);
+    is_unsound(363, 8, 4);
+    is_unsound(363, 8, 9);
+    for (slot = 0; slot < 2; slot++) { /* a serial that is used */
+        is_unsound(SERIALS_AT + slot * SLOT, 1, 'G');
+        is_unsound(SERIALS_AT + slot * SLOT + 32, 8, 0);
+        is_unsound(SERIALS_AT + slot * SLOT + 32, 8, 33);
+        is_unsound(SERIALS_AT + slot * SLOT + 32, 8, UINT64_MAX);
+    }
+    for (slot = 2; slot < DITGRUX_SERIALS; slot++) { /* one that is not */
+        is_unsound(SERIALS_AT + slot * SLOT, 1, '1');
+        is_unsound(SERIALS_AT + slot * SLOT + 32, 8, 1);
+        is_unsound(SERIALS_AT + slot * SLOT + 31, 1, 1);
+    }
+    is_unsound(411, 4, 1);            /* last number below the number of receipts */
+    is_unsound(OPEN_AT, 4, 3);        /* more in the last pair than in all */
+    is_unsound(LENGTH_AT, 8, 28);     /* shorter than the head */
+    is_unsound(LENGTH_AT, 8, number_at(state + PLACE_AT, 8) + 3);
+    is_unsound(PLACE_AT, 8, journal_length() - 3);
+    is_unsound(PLACE_AT, 8, UINT64_MAX);
+    is_unsound(PLACE_AT, 8, UINT64_MAX - 3);
+    state[370] = 5;                   /* width 5: the counter may reach 2^39 - 1 */
+    is_unsound(403, 8, (uint64_t)1 << 39);
+    CHECK(ditgrux_prepare_details(state, sizeof state, &sale, out, sizeof out, &wrote) == DITGRUX_DONE);
+    /* longer than its buffer: Prepare does not see it */
+    length = journal_length();
+    CHECK(no_change("9", 1, length - 1) == DITGRUX_BAD_STATE);
+    CHECK(ditgrux_issue_details(state, sizeof state, &sale, NULL, 0, journal, length - 1) == DITGRUX_BAD_STATE && kept());
+}
+
+/* ---- journals with several pairs */
+
+/* Take over of the journal with these bytes after it. */
+static uint32_t followed_by(const char *bytes, size_t count, uint32_t *index)
+{
+    memcpy(twin, journal, sizeof journal);
+    memcpy(twin + journal_length(), bytes, count);
+    return taken_over(twin, journal_length() + count, index);
+}
+
+/* Take over of the journal with one byte changed. */
+static uint32_t with_byte(size_t at, int byte, uint32_t *index)
+{
+    memcpy(twin, journal, sizeof journal);
+    twin[at] = (uint8_t)byte;
+    return taken_over(twin, journal_length(), index);
+}
+
+#define PAIR(length, serial) "\0\0\0" length serial "\0\0\0\0"
+#define AFTER(bytes, number, at) (followed_by(bytes, sizeof(bytes) - 1, &index) == (number) && index == (at))
+
+/* Where bytes follow the last entry: 21 before 30 and 31, and the index counts the receipts of all pairs. */
+static void pairs(void)
+{
+    size_t first, second, place;
+    uint32_t index;
+    int i;
+    fresh();
+    issues(1);
+    issues(2);
+    first = number_at(state + PLACE_AT, 8);
+    second = journal_length() + 4;
+    changes_to("1a2c");
+    issues(3);
+    place = number_at(state + PLACE_AT, 8);
+    CHECK(gives_state());
+
+    CHECK(AFTER(PAIR("\4", "1a2d"), DITGRUX_DONE, 0) && ditgrux_serials(other, sizeof other) == 3);
+    for (i = 1; i < 12; i++) { /* a pair that is cut, be its serial new or used */
+        CHECK(followed_by(PAIR("\4", "1a2d"), (size_t)i, &index) == DITGRUX_BYTES_LEFT && index == 3);
+        CHECK(followed_by(PAIR("\4", "1a2b"), (size_t)i, &index) == DITGRUX_BYTES_LEFT && index == 3);
+    }
+    CHECK(AFTER("\0\0\0\0\0\0\0\0", DITGRUX_BYTES_LEFT, 3) && AFTER(PAIR("\4", "1A2D"), DITGRUX_BYTES_LEFT, 3));
+    CHECK(AFTER(PAIR("\41", "0123456789abcdef0123456789abcdef0"), DITGRUX_BYTES_LEFT, 3));
+    CHECK(AFTER(PAIR("\40", "0123456789abcdef0123456789abcdef"), DITGRUX_DONE, 0));
+    CHECK(AFTER(PAIR("\4", "1a2b"), DITGRUX_SERIAL_USED, 3) && AFTER(PAIR("\4", "1a2c"), DITGRUX_SERIAL_USED, 3));
+    CHECK(AFTER(PAIR("\4", "1a2d") "\0", DITGRUX_BYTES_LEFT, 3));
+    CHECK(AFTER("\0\0\0\4" "1a2d" "\0\0\0\1", DITGRUX_ENTRY_CUT, 3));
+
+    /* a serial and the two counts changed */
+    CHECK(with_byte(second + 3, 'b', &index) == DITGRUX_SERIAL_USED && index == 2);
+    CHECK(with_byte(second + 3, 'd', &index) == DITGRUX_ENTRY_MISSPELLED && index == 2);
+    CHECK(with_byte(first + 3, 1, &index) == DITGRUX_BYTES_LEFT && index == 1);
+    CHECK(with_byte(first + 3, 3, &index) == DITGRUX_ENTRY_MISSPELLED && index == 2);
+    CHECK(with_byte(place + 3, 0, &index) == DITGRUX_BYTES_LEFT && index == 2);
+    CHECK(with_byte(place + 3, 2, &index) == DITGRUX_ENTRY_CUT && index == 3);
+
+    for (i = 3; i <= DITGRUX_SERIALS; i++) {
+        const char serial[] = {'c', (char)('0' + i), 0};
+        CHECK(AFTER(PAIR("\1", "9"), DITGRUX_DONE, 0));
+        changes_to(serial);
+    }
+    issues(4);
+    CHECK(AFTER(PAIR("\1", "9"), DITGRUX_SERIALS_FULL, 4) && AFTER(PAIR("\2", "c5"), DITGRUX_SERIAL_USED, 4));
+    CHECK(AFTER("\0\0\0\1" "9" "\0\0\0", DITGRUX_BYTES_LEFT, 4) && gives_state());
+}
+
+/* Where power fails during a change: the journal is the old one until its length is stored, and the new one then. Where it fails during
+ * the first receipt after the change, the walk finds the length. An old state is sound, and its next receipt writes over the pair. */
+static void power_cut_in_change(void)
+{
+    uint8_t old[DITGRUX_STATE];
+    const struct ditgrux_details sale = details_of(2, DITGRUX_STANDARD, 1);
+    size_t length, forms;
+    uint32_t index;
+    fresh();
+    issues(1);
+    memcpy(old, state, sizeof state);
+    length = journal_length();
+    changes_to("1a2c");
+    CHECK(taken_over(journal, length, &index) == DITGRUX_DONE && memcmp(other, old, sizeof old) == 0);
+    CHECK(gives_state() && memcmp(other, old, sizeof old) != 0);
+    length = journal_length();
+    issues(2);
+    CHECK(taken_over(journal, length, &index) == DITGRUX_ENTRY_CUT && index == 1);
+    CHECK(walk(journal, length, &forms) == journal_length() && forms == 2);
+    CHECK(ditgrux_issue_details(old, sizeof old, &sale, NULL, 0, journal, sizeof journal) == DITGRUX_DONE);
+    CHECK(taken_over(journal, ditgrux_journal_length(old, sizeof old), &index) == DITGRUX_DONE);
+    CHECK(ditgrux_serials(other, sizeof other) == 1);
+}
+
 int main(void)
 {
     CHECK(make_settings(sizeof key, sizeof settings, settings) == DITGRUX_DONE);
@@ -425,6 +910,15 @@ int main(void)
     refusals();
     power_cut();
     reading();
+    layout();
+    eight_serials();
+    refused_changes();
+    prepared_before();
+    serials();
+    version_1();
+    unsound_states();
+    pairs();
+    power_cut_in_change();
     shared();
     lines();
     return failures ? 1 : 0;

@@ -1,7 +1,7 @@
-/* The longest receipt that there is: the header's sizes are those of its texts, exactly; and the code with the longest optical line. And
- * how many bytes of stack each exported call uses on them, answered and refused: the call runs on a stack of its own that was filled with a pattern, and what is no longer the
- * pattern was used. Prints a line for each; exit status 1 where a size or an answer is another or a call goes past the limit that the
- * README names. */
+/* The longest receipt that there is: the header's sizes are those of its texts, exactly; the code with the longest optical line; and a
+ * register with as many serials as there can be, each of the longest. And how many bytes of stack each exported call uses on them,
+ * answered and refused: the call runs on a stack of its own that was filled with a pattern, and what is no longer the pattern was used.
+ * Prints a line for each; exit status 1 where a size or an answer is another or a call goes past the limit that the README names. */
 #include "ditgrux.h"
 
 #include <stdio.h>
@@ -9,7 +9,7 @@
 #include <string.h>
 #include <ucontext.h>
 
-enum { STACK = 1 << 18, LIMIT = 4000, PATTERN = 0xA5, RECEIPTS = 20, ID_END = 3 + 31 /* the last byte of the ID in the settings */ };
+enum { STACK = 1 << 18, LIMIT = 6500, PATTERN = 0xA5, RECEIPTS = 20, ID_END = 3 + 31 /* the last byte of the ID in the settings */ };
 
 static uint8_t stack[STACK], journal[1 << 16], state[DITGRUX_STATE], again[DITGRUX_STATE], settings[DITGRUX_SETTINGS], output[512];
 static uint8_t optical[DITGRUX_LONGEST_ANY_LINE];
@@ -18,7 +18,8 @@ static const uint8_t signature[DITGRUX_SIGNATURE] = "no signature of any device,
 static const uint8_t name[DITGRUX_LONGEST_NAME + 1] = "0123456789abcdef0123456789abcdef";
 static ucontext_t home, away;
 static uint32_t number, answer, index_;
-static size_t length, start, form_start, form_length, code_length, line_length, room, cut;
+static size_t length, start, form_start, form_length, code_length, line_length, room, cut, more;
+static uint8_t serial[DITGRUX_LONGEST_NAME];
 static uint8_t hash[DITGRUX_HASH], given[DITGRUX_SIGNATURE], form[DITGRUX_LONGEST_COMPACT], text[1024];
 
 static void nothing(void) {}
@@ -57,7 +58,22 @@ static void issue(void)
 
 static void take_over(void)
 {
-    answer = ditgrux_take_over(journal, ditgrux_journal_length(state, sizeof state) - cut, key, sizeof key, 8, again, sizeof again, &index_);
+    answer = ditgrux_take_over(journal, ditgrux_journal_length(state, sizeof state) + more - cut, key, sizeof key, 8, again, sizeof again, &index_);
+}
+
+static void change(void)
+{
+    answer = ditgrux_change(state, sizeof state, serial, sizeof serial, journal, room);
+}
+
+static void newest_serial(void)
+{
+    answer = ditgrux_serial(state, sizeof state, ditgrux_serials(state, sizeof state) - 1, text, room, &length);
+}
+
+static void newest_settings(void)
+{
+    answer = ditgrux_settings_in(state, sizeof state, ditgrux_serials(state, sizeof state) - 1, text, room);
 }
 
 static void code(void)
@@ -98,6 +114,7 @@ static void figures(void)
     ditgrux_last_number(state, sizeof state);
     ditgrux_receipts(state, sizeof state);
     ditgrux_journal_length(state, sizeof state);
+    ditgrux_serials(state, sizeof state);
     answer = 0;
 }
 
@@ -152,7 +169,7 @@ static int exactly(const char *title, size_t bytes, size_t size)
 static int measure(const char *title, void (*call)(void), uint32_t expected)
 {
     size_t bytes = used(call) - used(nothing);
-    printf("stack: %-10s %6zu bytes, number %u\n", title, bytes, (unsigned)answer);
+    printf("stack: %-11s %6zu bytes, number %u\n", title, bytes, (unsigned)answer);
     return (bytes > LIMIT) + (answer != expected);
 }
 
@@ -299,11 +316,77 @@ static int refusals(void)
     return bad + measure("issue", issue, DITGRUX_BAD_STATE);
 }
 
+/* A change to a serial with this first letter. */
+static int change_to(uint8_t letter, uint32_t expected)
+{
+    memcpy(serial, name, sizeof serial);
+    serial[0] = letter;
+    return measure("change", change, expected);
+}
+
+/* A register with eight serials and a receipt under each. */
+static int eight_serials(void)
+{
+    int bad = 0;
+    size_t before;
+    room = sizeof journal;
+    open_register();
+    memcpy(state, again, sizeof state);
+    for (number = 1; number <= DITGRUX_SERIALS; number++) {
+        before = ditgrux_journal_length(state, sizeof state);
+        if (number > 1)
+            bad += change_to((uint8_t)('0' + number), 0) +
+                   exactly("change", ditgrux_journal_length(state, sizeof state) - before, DITGRUX_LONGEST_CHANGE);
+        bad += measure("prepare", prepare, 0) + measure("issue", issue, 0);
+    }
+    return bad;
+}
+
+/* The readers of the newest serial, answered and refused. */
+static int readers(void)
+{
+    int bad = measure("figures", figures, 0) + in_rooms("serial", newest_serial, DITGRUX_LONGEST_NAME);
+    room = DITGRUX_SETTINGS;
+    bad += measure("settings in", newest_settings, 0);
+    room = 0;
+    return bad + measure("settings in", newest_settings, DITGRUX_OUTPUT_SHORT);
+}
+
+/* Changes of the certificate, answered and refused, and take over of several pairs. */
+static int changes(void)
+{
+    size_t end;
+    int bad = eight_serials();
+    end = ditgrux_journal_length(state, sizeof state);
+    bad += measure("take over", take_over, 0) + readers();
+    room = sizeof journal;
+    bad += change_to('G', DITGRUX_BAD_SERIAL) + change_to('0', DITGRUX_SERIAL_USED) + change_to('9', DITGRUX_SERIALS_FULL);
+    room = end - 1;
+    bad += change_to('9', DITGRUX_BAD_STATE);
+    memcpy(journal + end, "\0\0\0\1" "a" "\0\0\0\0", 9); /* a ninth pair */
+    more = 8;
+    bad += measure("take over", take_over, DITGRUX_BYTES_LEFT);
+    more = 9;
+    bad += measure("take over", take_over, DITGRUX_SERIALS_FULL);
+    memcpy(journal + end, "\0\0\0\40", 4); /* the first serial again */
+    memcpy(journal + end + 4, name, 32);
+    memset(journal + end + 36, 0, 4);
+    more = DITGRUX_LONGEST_CHANGE;
+    bad += measure("take over", take_over, DITGRUX_SERIAL_USED);
+    more = 0;
+    memcpy(state, again, sizeof state); /* all zero */
+    bad += change_to('9', DITGRUX_BAD_STATE);
+    room = DITGRUX_LONGEST_HEAD + DITGRUX_LONGEST_CHANGE - 1;
+    open_register();
+    memcpy(state, again, sizeof state);
+    return bad + change_to('9', DITGRUX_NO_ROOM);
+}
+
 int main(void)
 {
     int bad;
     room = sizeof journal;
     bad = longest();
-    bad += refusals() + texts() + lines();
+    bad += refusals() + texts() + lines() + changes();
     return bad ? EXIT_FAILURE : EXIT_SUCCESS;
 }

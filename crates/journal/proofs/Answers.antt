@@ -2,7 +2,7 @@
 use Prim.Native.Nat.{ℕ, _+_, _≤_, _<_}
 use mathlib.Core.Path.{_≡_, refl, sym, ap, _∙_}
 use mathlib.Core.Bool.{Bool, true, false, cond, _&&_, _||_}
-use mathlib.Core.List.{List, []}
+use mathlib.Core.List.{List}
 use native.Mathlib.Omega.{arith}
 use borrow.Author.Tests.{leb-true, le-leb, lt-ltb, ltb-true, eqb-true, not-true}
 use lib.Dec.{eqb}
@@ -198,10 +198,6 @@ given-zero sig = go (eqb (length sig) 0)
     go : (t : Bool) → signatureZero (cond t (record { failed = true; bytes = replicate 64 0 }) (record { failed = false; bytes = sig })) ≡ true
     go true = failed-zero
     go false = signed-zero sig
-
-none-sized : signatureSized [] ≡ true
-unfolding signatureSized
-none-sized = refl
 
 -- the counter's eight bytes
 module _ (st : State) (d : Details) where

@@ -182,10 +182,6 @@ module _ (st : State) (e : Entry) (p rest : List ℕ) (at : length p ≡ st .len
   unfolding after
   after-is = rw (text-at p (textIn st e) rest (st .length) at (text-small st e ts h), found-is st e ts h)
 
-pub step-now : (st : State) (e : Entry) → settingsNow (step st e) ≡ settingsNow st
-unfolding next
-step-now st e = refl
-
 pub step-length : (st : State) (e : Entry) → step st e .length ≡ st .length + length (entryText (textIn st e))
 unfolding next
 step-length st e = refl
