@@ -1,27 +1,37 @@
 -- Laws of definitions of the lower crates that those crates do not state. Apart from proofs/Zeros.antt, which computes, this is the only
 -- file of the crate that unfolds a definition of a lower one.
-use Prim.Native.Nat.{ℕ, _<_}
-use mathlib.Core.Path.{_≡_, refl}
+use Prim.Native.Nat.{ℕ, _^_, _<_}
+use mathlib.Core.Path.{_≡_, refl, sym, ap, _∙_, subst}
 use mathlib.Core.Bool.{Bool, true, cond}
-use mathlib.Core.List.{List, [], _∷_}
+use mathlib.Core.List.{List, [], _∷_, _++_}
 use native.Mathlib.Omega.{arith}
-use borrow.Author.Tests.{leb-true}
+use borrow.Author.Tests.{leb-true, lt-ltb}
 use lib.Dec.{leb}
 use lib.ListN.{length, take}
-use Rattle.primitives.specs.Place.{room}
+use lib.Signed.{mag}
+use Rattle.primitives.specs.Counter.{counterFits}
 use Rattle.primitives.specs.Questions.{ifZero}
-use Rattle.primitives.proofs.Rows.{both}
+use Rattle.primitives.proofs.Rows.{both, ifZero-yes}
+use Rattle.primitives.proofs.Twos.{width-true, half-small, fits-below, fits-64, counted}
 use Rattle.receipt.specs.DateTime.{daysIn, dayGood, timeGood, dateGood}
+use Rattle.receipt.specs.declared.settings.Name.{Name}
 use Rattle.receipt.specs.declared.settings.Settings.{Settings}
 use Rattle.receipt.specs.declared.datetime.DateTime.{DateTime}
 use Rattle.receipt.specs.declared.details.Details.{Details}
+use Rattle.receipt.specs.declared.details.After.{After}
 use Rattle.receipt.specs.declared.entry.Entry.{Entry}
 use Rattle.receipt.proofs.Dates.{days-few}
 use Rattle.journal.specs.Opening.{openNumber, opened, openBuffer}
-use Rattle.journal.specs.Issuing.{issueNumber, issued, issuedWithin, issueBuffer}
+use Rattle.journal.specs.State.{TypedState}
+use Rattle.journal.specs.Step.{newCounter, next}
+use Rattle.journal.specs.Issuing.{textOf, issueNumber, issued, issuedWithin, issueBuffer}
 use Rattle.journal.specs.Checking.{accepted}
-use Rattle.journal.specs.Calls.{Call, Register, journalOf, opening, numberOf, numbersOf, receiptOfCall, receiptsOf, call, callWithin, calls, callsWithin, callOf, callsOf}
+use Rattle.journal.specs.Changing.{changeNumber, changed, changeBuffer}
+use Rattle.journal.specs.Valid.{Owner, Pair, settingsFor, placed, allPlaced, headOf}
+use Rattle.journal.specs.Calls.{Order, Call, issue, change, Register, journalOf, opening, numberOf, numbersOf, receiptOfCall, receiptsOf, Section, sectionsFrom, call, callWithin, calls, callsWithin, orderOf, issuesOf, laterCalls, callsOf}
 use Rattle.journal.specs.declared.state.State.{State}
+use Rattle.journal.proofs.Check.{new-fits, new-is}
+use Rattle.journal.proofs.Answers.{chain-eight, issue-zero}
 
 -- ---- receipt
 
@@ -74,32 +84,6 @@ accepted-is st = refl
 
 -- ---- journal: a call, and lists of calls
 
-module _ (g : Register) (c : Call) where
-  pub number-is : numberOf g c ≡ issued (g .state) (c .details) (c .signature) (length (g .buf)) .number
-  unfolding numberOf issuedWithin
-  number-is = refl
-
-  pub call-is : call g c
-      ≡ record {
-        state = issued (g .state) (c .details) (c .signature) (length (g .buf)) .state;
-        buf = issueBuffer (g .state) (c .details) (c .signature) (g .buf);
-      }
-  unfolding callWithin
-  call-is = refl
-
-  pub calls-more : (cs : List Call) → calls g (c ∷ cs) ≡ calls (call g c) cs
-  unfolding callsWithin
-  calls-more cs = refl
-
-  pub numbers-more : (cs : List Call) → numbersOf g (c ∷ cs) ≡ numberOf g c ∷ numbersOf (call g c) cs
-  unfolding numbersOf
-  numbers-more cs = refl
-
-  pub receipts-more : (cs : List Call)
-      → receiptsOf g (c ∷ cs) ≡ ifZero (numberOf g c) (receiptOfCall c ∷ receiptsOf (call g c) cs) (receiptsOf (call g c) cs)
-  unfolding receiptsOf
-  receipts-more cs = refl
-
 module _ (g : Register) where
   pub calls-none : calls g [] ≡ g
   unfolding callsWithin
@@ -113,24 +97,143 @@ module _ (g : Register) where
   unfolding receiptsOf
   receipts-none = refl
 
+  pub sections-none : (x : Section) → sectionsFrom g x [] ≡ x ∷ []
+  unfolding sectionsFrom
+  sections-none x = refl
+
+module _ (g : Register) (c : Call) (cs : List Call) where
+  pub calls-more : calls g (c ∷ cs) ≡ calls (call g c) cs
+  unfolding callsWithin
+  calls-more = refl
+
+  pub numbers-more : numbersOf g (c ∷ cs) ≡ numberOf g c ∷ numbersOf (call g c) cs
+  unfolding numbersOf
+  numbers-more = refl
+
+module _ (g : Register) (c : Order) where
+  pub issue-number : numberOf g (issue c) ≡ issued (g .state) (c .details) (c .signature) (length (g .buf)) .number
+  unfolding numberOf issuedWithin
+  issue-number = refl
+
+  pub issue-call : call g (issue c)
+      ≡ record {
+        state = issued (g .state) (c .details) (c .signature) (length (g .buf)) .state;
+        buf = issueBuffer (g .state) (c .details) (c .signature) (g .buf);
+      }
+  unfolding callWithin
+  issue-call = refl
+
+  pub issue-receipts : (cs : List Call)
+      → receiptsOf g (issue c ∷ cs) ≡ ifZero (numberOf g (issue c)) (receiptOfCall c ∷ receiptsOf (call g (issue c)) cs) (receiptsOf (call g (issue c)) cs)
+  unfolding receiptsOf
+  issue-receipts cs = refl
+
+  pub issue-sections : (x : Section) (cs : List Call)
+      → sectionsFrom g x (issue c ∷ cs)
+      ≡ ifZero (numberOf g (issue c)) (sectionsFrom (call g (issue c)) (record { serial = x .serial; receipts = x .receipts ++ (receiptOfCall c ∷ []) }) cs)
+      (sectionsFrom (call g (issue c)) x cs)
+  unfolding sectionsFrom
+  issue-sections x cs = refl
+
+module _ (g : Register) (s : Name) where
+  pub change-number : numberOf g (change s) ≡ changed (g .state) s (length (g .buf)) .number
+  unfolding numberOf changed
+  change-number = refl
+
+  pub change-call : call g (change s) ≡ record { state = changed (g .state) s (length (g .buf)) .state; buf = changeBuffer (g .state) s (g .buf) }
+  unfolding callWithin
+  change-call = refl
+
+  pub change-receipts : (cs : List Call) → receiptsOf g (change s ∷ cs) ≡ receiptsOf (call g (change s)) cs
+  unfolding receiptsOf
+  change-receipts cs = refl
+
+  pub change-sections : (x : Section) (cs : List Call)
+      → sectionsFrom g x (change s ∷ cs)
+      ≡ ifZero (numberOf g (change s)) (x ∷ sectionsFrom (call g (change s)) (record { serial = s; receipts = [] }) cs) (sectionsFrom (call g (change s)) x cs)
+  unfolding sectionsFrom
+  change-sections x cs = refl
+
 pub issued-number : (st : State) (d : Details) (sig : List ℕ) (room : ℕ) → issued st d sig room .number ≡ issueNumber st d sig room
 unfolding issuedWithin
 issued-number st d sig room = refl
 
--- ---- journal: the calls of entries
+pub changed-number : (st : State) (s : Name) (room : ℕ) → changed st s room .number ≡ changeNumber st s room
+unfolding changed
+changed-number st s room = refl
 
-pub call-details : (e : Entry) → callOf e .details ≡ e .fields .details
-unfolding callOf
-call-details e = refl
+-- what the types say of the state after an Issue that is not refused
+pub issued-typed : (st : State) (d : Details) (sig : List ℕ) (room : ℕ) → TypedState st → d .number < 4294967296 → room < 18446744073709551616
+    → issueNumber st d sig room ≡ 0 → TypedState (issued st d sig room .state)
+unfolding issuedWithin next
+issued-typed st d sig room t number small z =
+    let a = issue-zero st d sig room z in
+    let x = newCounter st d .counter in
+    let e = ap (λ (y : After). y .counter) (new-is st d (a .details .counter)) in
+    let f = counted (st .width) x (ap (counterFits (st .width)) e ∙ new-fits st d (a .details .counter) .fits) in
+    let c = chain-eight (textOf st d sig) in
+    subst TypedState (sym (ifZero-yes (next st d (textOf st d sig)) st z)) (record {
+      csp = t .csp;
+      id = t .id;
+      eight = t .eight;
+      serials = t .serials;
+      width = t .width;
+      keyLength = t .keyLength;
+      keyBytes = t .keyBytes;
+      counter = fits-64 x ∙ lt-ltb (mag x) (2 ^ 63) (omega (arith, fits-below (st .width) x (f .fits), half-small (st .width) (width-true (st .width) (f .width) .most)));
+      last = number;
+      issued = omega (arith, a .sound .issued, a .details .above);
+      chain = c .long;
+      chainBytes = c .bytes;
+      inJournal = omega (arith, a .fits);
+      section = omega (arith, a .sound .section, a .sound .issued, a .details .above);
+      place = t .place;
+    })
 
-pub call-signature : (e : Entry) → callOf e .signature ≡ cond (e .signature .failed) [] (e .signature .bytes)
-unfolding callOf
-call-signature e = refl
+-- ---- journal: the calls of entries and pairs
 
-pub entries-none : callsOf [] ≡ []
+pub order-details : (e : Entry) → orderOf e .details ≡ e .fields .details
+unfolding orderOf
+order-details e = refl
+
+pub order-signature : (e : Entry) → orderOf e .signature ≡ cond (e .signature .failed) [] (e .signature .bytes)
+unfolding orderOf
+order-signature e = refl
+
+pub issues-none : issuesOf [] ≡ []
+unfolding issuesOf
+issues-none = refl
+
+pub issues-more : (e : Entry) (es : List Entry) → issuesOf (e ∷ es) ≡ issue (orderOf e) ∷ issuesOf es
+unfolding issuesOf
+issues-more e es = refl
+
+pub later-none : laterCalls [] ≡ []
+unfolding laterCalls
+later-none = refl
+
+pub later-more : (p : Pair) (ps : List Pair) → laterCalls (p ∷ ps) ≡ change (p .serial) ∷ (issuesOf (p .entries) ++ laterCalls ps)
+unfolding laterCalls
+later-more p ps = refl
+
+pub pairs-none : callsOf [] ≡ []
 unfolding callsOf
-entries-none = refl
+pairs-none = refl
 
-pub entries-more : (e : Entry) (es : List Entry) → callsOf (e ∷ es) ≡ callOf e ∷ callsOf es
+pub pairs-more : (p : Pair) (ps : List Pair) → callsOf (p ∷ ps) ≡ issuesOf (p .entries) ++ laterCalls ps
 unfolding callsOf
-entries-more e es = refl
+pairs-more p ps = refl
+
+-- ---- journal: the entries of pairs
+
+pub placed-more : (s : Settings) (e : Entry) (es : List Entry) → placed s (e ∷ es) ≡ record { settings = s; entry = e } ∷ placed s es
+unfolding placed
+placed-more s e es = refl
+
+pub all-more : (o : Owner) (p : Pair) (ps : List Pair) → allPlaced o (p ∷ ps) ≡ placed (settingsFor o (p .serial)) (p .entries) ++ allPlaced o ps
+unfolding allPlaced
+all-more o p ps = refl
+
+pub head-is : (o : Owner) (p : Pair) (ps : List Pair) → headOf o (p ∷ ps) ≡ settingsFor o (p .serial)
+unfolding headOf
+head-is o p ps = refl

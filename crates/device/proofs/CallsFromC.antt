@@ -1,41 +1,44 @@
 -- The slices of a C program hold what the journal's register holds, call by call.
-use Prim.Native.Nat.{ℕ, zero, suc, _^_, _<_}
+use Prim.Native.Nat.{ℕ, zero, suc, _<_}
 use mathlib.Core.Path.{_≡_, refl, sym, ap, _∙_, subst}
 use mathlib.Core.Bool.{Bool, true, false, cond}
 use mathlib.Core.List.{List, [], _∷_, _++_, map}
 use native.Mathlib.Omega.{arith}
-use borrow.Author.Tests.{eq-eqb, eqb-true, eqb-false, lt-ltb}
+use borrow.Author.Tests.{eq-eqb, eqb-true, eqb-false}
 use lib.Dec.{eqb}
 use lib.IntN.{ℤ}
 use lib.ListN.{length}
-use lib.Signed.{mag}
 use Rattle.primitives.specs.Bytes.{AllBytes}
-use Rattle.primitives.specs.Counter.{widthGood}
 use Rattle.primitives.specs.Questions.{ifZero}
 use Rattle.primitives.proofs.ByteLists.{bytes-take, bytes-drop}
-use Rattle.primitives.proofs.Twos.{width-true, half-small, fits-below, fits-64, counted}
-use Rattle.receipt.specs.Settings.{settingsGood, TypedSettings}
+use Rattle.primitives.proofs.Counts.{part-length}
+use Rattle.receipt.specs.Settings.{nameOf, TypedSettings}
 use Rattle.receipt.specs.declared.settings.Settings.{Settings}
 use Rattle.receipt.specs.declared.datetime.DateTime.{DateTime}
 use Rattle.receipt.specs.declared.details.Kind.the-variants.{Standard, Cancellation, Training}
 use Rattle.receipt.specs.declared.details.Details.{Details}
-use Rattle.receipt.specs.declared.entry.Entry.{Entry}
-use Rattle.journal.specs.State.{unopened, TypedRegister, TypedState}
+use Rattle.receipt.proofs.Entries.{len-of, length-array, bytes-array}
+use Rattle.journal.specs.State.{TypedName, TypedState}
 use Rattle.journal.specs.Opening.{openNumber, openBuffer}
 use Rattle.journal.specs.Issuing.{issued, issueBuffer}
-use Rattle.journal.specs.Calls.{Call, TypedCall, TypedCalls, none, more, Register, opening, numberOf, numbersOf, receiptOfCall, receiptsOf, call, calls}
+use Rattle.journal.specs.Changing.{changed, changeBuffer}
+use Rattle.journal.specs.Valid.{Owner, Pair}
+use Rattle.journal.specs.Calls.{TypedOrder, Call, issue, change, TypedCall, issues, changes, TypedCalls, none, more, Register, opening, numberOf, numbersOf, receiptOfCall, receiptsOf, Section, sectionsFrom, call, calls}
 use Rattle.journal.specs.declared.state.State.{State}
 use Rattle.journal.specs.declared.state.Opened.{Opened}
-use Rattle.journal.proofs.CallLists.{Bounds}
-use Rattle.primitives.proofs.Counts.{part-length}
-use Rattle.journal.proofs.Registers.{run-bounds, refused-same, entriesOf, open-zero, Holds, holds-after, accepted-length, holds-calls, opening-holds, opening-length}
-use Rattle.device.specs.Layout.{stateBytes, nameAt, settingsAt, keyAt, settingsOf, widthOf, keyOf, stateOf}
+use Rattle.journal.proofs.OpenCalls.{open-zero}
+use Rattle.journal.proofs.Accepting.{ownerIn}
+use Rattle.journal.proofs.Pairs.{wider, emptyPair}
+use Rattle.journal.proofs.Registers.{refused-same, entryIn, Holds, issue-length, issue-holds, issue-right, change-holds, opening-holds, opening-length}
+use Rattle.journal.proofs.TypedStates.{holds-typed}
+use Rattle.device.specs.Layout.{stateBytes, nameAt, settingsAt, keyAt, noSettings, settingsOf, widthOf, keyOf, stateOf, kept}
 use Rattle.device.specs.Details.{noDetails, dateOf, detailsWith, ofKind, detailsOf}
-use Rattle.device.specs.Calls.{Slices, openedNumber, openedSlices, IssueCall, callIn, issueAnswer, issuedNumber, issuedSlices}
+use Rattle.device.specs.Calls.{Slices, openedNumber, openedSlices, IssueCall, orderIn, issueAnswer, issuedNumber, issuedSlices, changeAnswer, changedNumber, changedSlices}
 use Rattle.device.specs.Demand as demand
-use Rattle.device.specs.Demand.{TypedIssueCall, TypedIssueCalls, issuedAll, issuedNumbers, issuedReceipts, registerIn}
-use Rattle.device.proofs.Below.{opened-number, opening-is, number-is, call-is, calls-none, calls-more, numbers-none, numbers-more, receipts-none, receipts-more}
-use Rattle.device.proofs.Sizes.{good-register, kept-all, open-six, open-answer}
+use Rattle.device.specs.Demand.{TypedIssueCall, CallFromC, issuing, changing, TypedCallFromC, TypedCallsFromC, callIn, numberFromC, slicesAfter, slicesAfterAll, numbersFromC, receiptsFromC, sectionsFromC, registerIn}
+use Rattle.device.proofs.Below.{opened-number, opening-is, calls-none, calls-more, numbers-none, numbers-more, receipts-none, sections-none, issue-number, issue-call, issue-receipts, issue-sections, change-number, change-call, change-receipts, change-sections, changed-number}
+use Rattle.device.proofs.Sizes.{kept-all, open-six, open-answer}
+use Rattle.device.proofs.Slots.{typed-lengths}
 use Rattle.device.proofs.Writers.{length-state}
 use Rattle.device.proofs.Spelling.{state-is-read}
 use Rattle.device.proofs.Zeros.{no-settings-get-one}
@@ -56,15 +59,23 @@ kind-small number date amounts kind h l = go (eqb kind 0) (eqb kind 1) (eqb kind
     go false false true = (h, l)
     go false false false = (omega arith, refl)
 
-pub call-typed : (c : IssueCall) → TypedIssueCall c → TypedCall (callIn c)
-unfolding callIn detailsOf
-call-typed c t =
+pub order-typed : (c : IssueCall) → TypedIssueCall c → TypedOrder (orderIn c)
+unfolding orderIn detailsOf
+order-typed c t =
     let date = dateOf (c .year) (c .month) (c .day) (c .hour) (c .minute) (c .second) in
     let amounts = c .standard ∷ c .reduced1 ∷ c .reduced2 ∷ c .zero ∷ c .special ∷ [] in
     let p = kind-small (c .number) date amounts (c .kind) (t .number) refl in
     record { number = p .0; amounts = p .1; bytes = t .signature }
 
-pub calls-typed : (cs : List IssueCall) → TypedIssueCalls cs → TypedCalls (map callIn cs)
+name-typed : (serial : List ℕ) → AllBytes serial → length serial < 18446744073709551616 → TypedName (nameOf serial)
+name-typed serial b l = record { long = length-array serial; bytes = bytes-array b; small = omega (arith, len-of serial) }
+
+call-typed : (c : CallFromC) → TypedCallFromC c → TypedCall (callIn c)
+unfolding callIn
+call-typed (issuing c) (demand.issues t) = issues (order-typed c t)
+call-typed (changing serial) (demand.changes b l) = changes (name-typed serial b l)
+
+pub calls-typed : (cs : List CallFromC) → TypedCallsFromC cs → TypedCalls (map callIn cs)
 calls-typed [] demand.none = none
 calls-typed (c ∷ cs) (demand.more t ts) = more (call-typed c t) (calls-typed cs ts)
 
@@ -75,7 +86,7 @@ module _ (b : List ℕ) where
   unfolding settingsOf
   settings-long shared room z = go (eqb (length b) 123) refl z
     where
-      go : (t : Bool) → eqb (length b) 123 ≡ t → openNumber (cond t (settingsAt b) (unopened .settings)) shared (widthOf b) room ≡ 0 → length b ≡ 123
+      go : (t : Bool) → eqb (length b) 123 ≡ t → openNumber (cond t (settingsAt b) noSettings) shared (widthOf b) room ≡ 0 → length b ≡ 123
       go true e q = eqb-true (length b) 123 e
       go false e q = absurd (omega (arith, q, no-settings-get-one shared (widthOf b) room))
 
@@ -92,19 +103,16 @@ module _ (b : List ℕ) where
     unfolding keyOf keyAt
     key-typed = rw (eq-eqb (length b) 123 l) (part-length b a 91 32 (omega arith), bytes-take 32 (bytes-drop 91 a))
 
-    register-typed : settingsGood (settingsOf b) ≡ true → widthGood (widthOf b) ≡ true → TypedRegister (settingsOf b) (widthOf b) (keyOf b)
-    register-typed good width = good-register (settingsOf b) (widthOf b) (keyOf b) (settings-typed .lengths) good width (key-typed .0) (key-typed .1)
-
-pub open-accepted : (b : List ℕ) (shared : Bool) (g : Slices) → openedNumber b shared g ≡ 0 → (length (g .state) ≡ 155) × (openNumber (settingsOf b) shared (widthOf b) (length (g .journal)) ≡ 0)
+pub open-accepted : (b : List ℕ) (shared : Bool) (g : Slices) → openedNumber b shared g ≡ 0 → (length (g .state) ≡ 447) × (openNumber (settingsOf b) shared (widthOf b) (length (g .journal)) ≡ 0)
 unfolding openedNumber
-open-accepted b shared g z = go (eqb (length (g .state)) 155) refl
+open-accepted b shared g z = go (eqb (length (g .state)) 447) refl
   where
-    go : (t : Bool) → eqb (length (g .state)) 155 ≡ t → (length (g .state) ≡ 155) × (openNumber (settingsOf b) shared (widthOf b) (length (g .journal)) ≡ 0)
+    go : (t : Bool) → eqb (length (g .state)) 447 ≡ t → (length (g .state) ≡ 447) × (openNumber (settingsOf b) shared (widthOf b) (length (g .journal)) ≡ 0)
     go true e =
-        let h = eqb-true (length (g .state)) 155 e in
+        let h = eqb-true (length (g .state)) 447 e in
         (h, sym (ap (λ (x : Opened). x .number) (open-answer b shared (length (g .journal)) (length (g .state)) h) ∙ opened-number (settingsOf b) (keyOf b) shared (widthOf b) (length (g .journal))) ∙ z)
     go false e =
-        let q : _≡_ {A = ℕ} 0 6 = sym z ∙ ap (λ (x : Opened). x .number) (open-six b shared (length (g .journal)) (length (g .state)) (eqb-false (length (g .state)) 155 e)) in
+        let q : _≡_ {A = ℕ} 0 6 = sym z ∙ ap (λ (x : Opened). x .number) (open-six b shared (length (g .journal)) (length (g .state)) (eqb-false (length (g .state)) 447 e)) in
         absurd (omega arith)
 
 -- ---- the slices of a register
@@ -112,109 +120,154 @@ open-accepted b shared g z = go (eqb (length (g .state)) 155) refl
 unfoldable pub slicesOf : Register → Slices
 slicesOf g = record { state = stateBytes (g .state); journal = g .buf }
 
-pub opened-same : (b : List ℕ) (shared : Bool) (g : Slices) → length (g .state) ≡ 155 → openedSlices b shared g ≡ slicesOf (registerIn b shared (g .journal))
+pub opened-same : (b : List ℕ) (shared : Bool) (g : Slices) → length (g .state) ≡ 447 → openedSlices b shared g ≡ slicesOf (registerIn b shared (g .journal))
 unfolding openedSlices slicesOf
 opened-same b shared g l =
     let p = kept-all (g .state) _ l ∙ ap (λ (x : Opened). stateBytes (x .state)) (open-answer b shared (length (g .journal)) (length (g .state)) l) in
-    let q = ap (λ (t : Bool). cond t (openBuffer (settingsOf b) shared (widthOf b) (g .journal)) (g .journal)) (eq-eqb (length (g .state)) 155 l) in
+    let q = ap (λ (t : Bool). cond t (openBuffer (settingsOf b) shared (widthOf b) (g .journal)) (g .journal)) (eq-eqb (length (g .state)) 447 l) in
     (λ i. record { state = p i; journal = q i }) ∙ ap slicesOf (sym (opening-is (settingsOf b) (keyOf b) shared (widthOf b) (g .journal)))
 
-issued-same : (g : Register) (c : IssueCall) → TypedState (g .state) → issuedSlices (slicesOf g) c ≡ slicesOf (call g (callIn c))
-unfolding issuedSlices issueAnswer slicesOf callIn
-issued-same g c t =
-    let st = g .state in
-    let r = t .register in
-    let d = callIn c .details in
-    let q = state-is-read st t in
-    let l = length-state st (r .settings) (r .keyLength) (t .chain) in
-    let e = ap (λ (x : State). issued x d (c .signature) (length (g .buf)) .state) q in
-    let k = kept-all (stateBytes st) (issued (stateOf (stateBytes st)) d (c .signature) (length (g .buf)) .state) l ∙ ap stateBytes e in
-    (λ i. record { state = k i; journal = issueBuffer (q i) d (c .signature) (g .buf) }) ∙ ap slicesOf (sym (call-is g (callIn c)))
+module _ (g : Register) (t : TypedState (g .state)) where
+  st : State
+  st = stateOf (stateBytes (g .state))
 
-number-same : (g : Register) (c : IssueCall) → TypedState (g .state) → issuedNumber (slicesOf g) c ≡ numberOf g (callIn c)
-unfolding issuedNumber issueAnswer slicesOf callIn
-number-same g c t =
-    ap (λ (x : State). issued x (callIn c .details) (c .signature) (length (g .buf)) .number) (state-is-read (g .state) t) ∙ sym (number-is g (callIn c))
+  is-read : st ≡ g .state
+  unfolding st
+  is-read = state-is-read (g .state) t
 
--- a list of calls leaves and returns the same, and its receipts are the same
-pub record Same (g : Register) (cs : List IssueCall) : Type 0 where
-  pub slices : issuedAll (slicesOf g) cs ≡ slicesOf (calls g (map callIn cs))
-  pub numbers : issuedNumbers (slicesOf g) cs ≡ numbersOf g (map callIn cs)
-  pub receipts : issuedReceipts (slicesOf g) cs ≡ receiptsOf g (map callIn cs)
+  is-kept : (x : State) → kept (stateBytes (g .state)) x ≡ stateBytes x
+  is-kept x = kept-all (stateBytes (g .state)) x (length-state (g .state) (typed-lengths t))
+
+  after-same : (c : CallFromC) → slicesAfter (slicesOf g) c ≡ slicesOf (call g (callIn c))
+  unfolding slicesAfter slicesOf callIn issuedSlices issueAnswer changedSlices changeAnswer orderIn st
+  after-same (issuing c) =
+      let o = orderIn c in
+      let n = length (g .buf) in
+      let k = is-kept (issued st (o .details) (c .signature) n .state) ∙ ap (λ (x : State). stateBytes (issued x (o .details) (c .signature) n .state)) is-read in
+      (λ i. record { state = k i; journal = issueBuffer (is-read i) (o .details) (c .signature) (g .buf) }) ∙ ap slicesOf (sym (issue-call g (orderIn c)))
+  after-same (changing serial) =
+      let n = length (g .buf) in
+      let k = is-kept (changed st (nameOf serial) n .state) ∙ ap (λ (x : State). stateBytes (changed x (nameOf serial) n .state)) is-read in
+      (λ i. record { state = k i; journal = changeBuffer (is-read i) (nameOf serial) (g .buf) }) ∙ ap slicesOf (sym (change-call g (nameOf serial)))
+
+  number-same : (c : CallFromC) → numberFromC (slicesOf g) c ≡ numberOf g (callIn c)
+  unfolding numberFromC slicesOf callIn issuedNumber issueAnswer changedNumber changeAnswer orderIn st
+  number-same (issuing c) = ap (λ (x : State). issued x (orderIn c .details) (c .signature) (length (g .buf)) .number) is-read ∙ sym (issue-number g (orderIn c))
+  number-same (changing serial) = ap (λ (x : State). changed x (nameOf serial) (length (g .buf)) .number) is-read ∙ sym (change-number g (nameOf serial))
+
+-- a list of calls leaves and returns the same, and its receipts and sections are the same
+pub record Same (g : Register) (cs : List CallFromC) : Type 0 where
+  pub slices : slicesAfterAll (slicesOf g) cs ≡ slicesOf (calls g (map callIn cs))
+  pub numbers : numbersFromC (slicesOf g) cs ≡ numbersOf g (map callIn cs)
+  pub receipts : receiptsFromC (slicesOf g) cs ≡ receiptsOf g (map callIn cs)
+  pub sections : (x : Section) → sectionsFromC (slicesOf g) x cs ≡ sectionsFrom g x (map callIn cs)
   pub typed : TypedState (calls g (map callIn cs) .state)
 
-module _ (s : Settings) (n : ℕ) (key : List ℕ) (ts : TypedSettings s) (t : TypedRegister s n key)
-    (good : settingsGood s ≡ true) (width : widthGood n ≡ true) where
-  module _ (g : Register) (es : List Entry) (h : Holds s n key g es) where
-    held-typed : length (g .buf) < 18446744073709551616 → TypedState (g .state)
-    held-typed l =
-        let b = holds-after s n key ts good width (t .keyBytes) g es h in
-        let o = subst Bounds (sym (h .state)) (run-bounds s n key es width (h .right)) in
-        let m = g .state .width in
-        let z = g .state .counter in
-        let c = counted m z (o .counter) in
-        record {
-          register = rw (b .settings, b .width, b .key) t;
-          counter = fits-64 z ∙ lt-ltb (mag z) (2 ^ 63) (omega (arith, fits-below m z (c .fits), half-small m (width-true m (c .width) .most)));
-          last = o .last;
-          issued = omega (arith, o .issued, o .last);
-          chain = b .chain .long;
-          chainBytes = b .chain .bytes;
-          length = omega (arith, h .room);
-        }
+-- one more call
+module _ (g : Register) (t : TypedState (g .state)) (cs : List CallFromC) where
+  more-receipts : (c : CallFromC) → Same (call g (callIn c)) cs → receiptsFromC (slicesOf g) (c ∷ cs) ≡ receiptsOf g (callIn c ∷ map callIn cs)
+  unfolding receiptsFromC callIn slicesAfter numberFromC
+  more-receipts (issuing c) p =
+      let z = number-same g t (issuing c) in
+      let rs = ap (λ (x : Slices). receiptsFromC x cs) (after-same g t (issuing c)) ∙ p .receipts in
+      (λ i. ifZero (z i) (receiptOfCall (orderIn c) ∷ rs i) (rs i)) ∙ sym (issue-receipts g (orderIn c) (map callIn cs))
+  more-receipts (changing serial) p =
+      ap (λ (x : Slices). receiptsFromC x cs) (after-same g t (changing serial)) ∙ p .receipts ∙ sym (change-receipts g (nameOf serial) (map callIn cs))
 
-    same-length : (c : Call) → length (call g c .buf) ≡ length (g .buf)
-    same-length c = go (numberOf g c) refl
-      where
-        go : (k : ℕ) → numberOf g c ≡ k → length (call g c .buf) ≡ length (g .buf)
-        go zero e = accepted-length s n key ts good width (t .keyBytes) g es h c e
-        go (suc k) e = ap (λ (x : Register). length (x .buf)) (refused-same g c (λ q. omega (arith, e, q)))
+  more-sections : (c : CallFromC) → Same (call g (callIn c)) cs → (x : Section) → sectionsFromC (slicesOf g) x (c ∷ cs) ≡ sectionsFrom g x (callIn c ∷ map callIn cs)
+  unfolding sectionsFromC callIn slicesAfter numberFromC
+  more-sections (issuing c) p x =
+      let z = number-same g t (issuing c) in
+      let e = after-same g t (issuing c) in
+      let y : Section = record { serial = x .serial; receipts = x .receipts ++ (receiptOfCall (orderIn c) ∷ []) } in
+      let xs = ap (λ (s : Slices). sectionsFromC s y cs) e ∙ p .sections y in
+      let ys = ap (λ (s : Slices). sectionsFromC s x cs) e ∙ p .sections x in
+      (λ i. ifZero (z i) (xs i) (ys i)) ∙ sym (issue-sections g (orderIn c) x (map callIn cs))
+  more-sections (changing serial) p x =
+      let z = number-same g t (changing serial) in
+      let e = after-same g t (changing serial) in
+      let y : Section = record { serial = nameOf serial; receipts = [] } in
+      let xs = ap (λ (s : Slices). sectionsFromC s y cs) e ∙ p .sections y in
+      let ys = ap (λ (s : Slices). sectionsFromC s x cs) e ∙ p .sections x in
+      (λ i. ifZero (z i) (x ∷ xs i) (ys i)) ∙ sym (change-sections g (nameOf serial) x (map callIn cs))
 
-  pub all-same : (cs : List IssueCall) (g : Register) (es : List Entry) → TypedIssueCalls cs → Holds s n key g es → length (g .buf) < 18446744073709551616 → Same g cs
-  unfolding issuedAll issuedNumbers issuedReceipts
-  all-same [] g es demand.none h l =
-      let e = sym (calls-none g) in
+  more-same : (c : CallFromC) → Same (call g (callIn c)) cs → Same g (c ∷ cs)
+  unfolding slicesAfterAll numbersFromC
+  more-same c p =
+      let e = after-same g t c in
+      let z = number-same g t c in
+      let m = sym (calls-more g (callIn c) (map callIn cs)) in
+      let ns = ap (λ (x : Slices). numbersFromC x cs) e ∙ p .numbers in
       record {
-        slices = ap slicesOf e;
-        numbers = sym (numbers-none g);
-        receipts = sym (receipts-none g);
-        typed = subst (λ (x : Register). TypedState (x .state)) e (held-typed g es h l);
-      }
-  all-same (c ∷ cs) g es (demand.more tc tcs) h l =
-      let k = callIn c in
-      let ks = map callIn cs in
-      let m = sym (calls-more g k ks) in
-      let h₁ : Holds s n key (call g k) (es ++ entriesOf g (k ∷ [])) =
-      subst (λ (x : Register). Holds s n key x (es ++ entriesOf g (k ∷ []))) (calls-more g k [] ∙ calls-none (call g k))
-      (holds-calls s n key ts good width (t .keyBytes) (k ∷ []) g es (more (call-typed c tc) none) h) in
-      let p = all-same cs (call g k) (es ++ entriesOf g (k ∷ [])) tcs h₁ (omega (arith, same-length g es h k)) in
-      let e = issued-same g c (held-typed g es h l) in
-      let z = number-same g c (held-typed g es h l) in
-      let ns = ap (λ (x : Slices). issuedNumbers x cs) e ∙ p .numbers in
-      let rs = ap (λ (x : Slices). issuedReceipts x cs) e ∙ p .receipts in
-      record {
-        slices = ap (λ (x : Slices). issuedAll x cs) e ∙ p .slices ∙ ap slicesOf m;
-        numbers = (λ i. z i ∷ ns i) ∙ sym (numbers-more g k ks);
-        receipts = (λ i. ifZero (z i) (receiptOfCall k ∷ rs i) (rs i)) ∙ sym (receipts-more g k ks);
+        slices = ap (λ (x : Slices). slicesAfterAll x cs) e ∙ p .slices ∙ ap slicesOf m;
+        numbers = (λ i. z i ∷ ns i) ∙ sym (numbers-more g (callIn c) (map callIn cs));
+        receipts = more-receipts c p;
+        sections = more-sections c p;
         typed = subst (λ (x : Register). TypedState (x .state)) m (p .typed);
       }
+
+none-same : (g : Register) → TypedState (g .state) → Same g []
+unfolding slicesAfterAll numbersFromC receiptsFromC sectionsFromC
+none-same g t =
+    let e = sym (calls-none g) in
+    record {
+      slices = ap slicesOf e;
+      numbers = sym (numbers-none g);
+      receipts = sym (receipts-none g);
+      sections = λ x. sym (sections-none g x);
+      typed = subst (λ (x : Register). TypedState (x .state)) e t;
+    }
+
+-- ---- a register that holds pairs, in a buffer whose length is a number of 64 bits
+
+record Held (k : List ℕ) (n : ℕ) (o : Owner) (g : Register) : Type 0 where
+  before : List Pair
+  pair : Pair
+  holds : Holds k n o g (before ++ (pair ∷ []))
+  small : length (g .buf) < 18446744073709551616
+
+module _ (k : List ℕ) (n : ℕ) (o : Owner) (kl : length k ≡ 32) (kb : AllBytes k) where
+  -- one call leaves such a register
+  held-call : (g : Register) (c : Call) → TypedCall c → Held k n o g → Held k n o (call g c)
+  held-call g c t h = go (numberOf g c) refl
+    where
+      accepted : (c : Call) → TypedCall c → numberOf g c ≡ 0 → Held k n o (call g c)
+      accepted (issue c) (issues tc) z =
+          let r = issue-right k n o g (h .before) (h .pair) (h .holds) c z kb tc in
+          record {
+            before = h .before;
+            pair = wider (h .pair) (entryIn g c);
+            holds = issue-holds k n o g (h .before) (h .pair) (h .holds) c z r;
+            small = omega (arith, h .small, issue-length k n o g (h .before) (h .pair) (h .holds) c z);
+          }
+      accepted (change s) (changes ts) z =
+          let p = change-holds k n o g (h .before) (h .pair) (h .holds) s (sym (change-number g s ∙ changed-number (g .state) s (length (g .buf))) ∙ z) ts in
+          record { before = h .before ++ (h .pair ∷ []); pair = emptyPair s; holds = p .0; small = omega (arith, h .small, p .1) }
+
+      go : (m : ℕ) → numberOf g c ≡ m → Held k n o (call g c)
+      go zero e = accepted c t e
+      go (suc m) e = subst (Held k n o) (sym (refused-same g c (λ q. omega (arith, e, q)))) h
+
+  all-same : (cs : List CallFromC) (g : Register) → TypedCallsFromC cs → Held k n o g → Same g cs
+  all-same [] g demand.none h = none-same g (holds-typed (h .before) (h .pair) kl kb (h .small) (h .holds))
+  all-same (c ∷ cs) g (demand.more t ts) h =
+      more-same g (holds-typed (h .before) (h .pair) kl kb (h .small) (h .holds)) cs c (all-same cs (call g (callIn c)) ts (held-call g (callIn c) (call-typed c t) h))
 
 -- ---- from an Open that was not refused
 
 -- all calls, in a buffer whose length is a number of 64 bits
-pub same-calls : (s : Settings) (shared : Bool) (n : ℕ) (key buf : List ℕ) → TypedSettings s → TypedRegister s n key → length buf < 18446744073709551616
-    → openNumber s shared n (length buf) ≡ 0 → (cs : List IssueCall) → TypedIssueCalls cs → Same (opening s key shared n buf) cs
-same-calls s shared n key buf ts t l z cs tcs =
+pub same-calls : (s : Settings) (shared : Bool) (n : ℕ) (key buf : List ℕ) → TypedSettings s → length key ≡ 32 → AllBytes key → length buf < 18446744073709551616
+    → openNumber s shared n (length buf) ≡ 0 → (cs : List CallFromC) → TypedCallsFromC cs → Same (opening s key shared n buf) cs
+same-calls s shared n key buf ts kl kb l z cs tcs =
     let o = open-zero s shared n (length buf) z in
-    let h = opening-holds s n key ts (o .0) (o .1) (t .keyBytes) buf shared z in
-    let m = opening-length s n key ts (o .0) (o .1) (t .keyBytes) buf shared z in
-    all-same s n key ts t (o .0) (o .1) cs (opening s key shared n buf) [] tcs h (omega (arith, m))
+    let h = opening-holds s n key ts (o .0) (o .1) buf shared z in
+    let m = opening-length s n key ts (o .0) (o .1) buf shared z in
+    all-same key n (ownerIn s) kl kb cs (opening s key shared n buf) tcs (record { before = []; pair = emptyPair (s .serial); holds = h; small = omega (arith, m, l) })
 
 -- what the types say of settings that ditgrux_open or ditgrux_open_shared accepted
 pub opened-typed : (b : List ℕ) (shared : Bool) (g : Slices) → AllBytes b → openedNumber b shared g ≡ 0
-    → TypedSettings (settingsOf b) × TypedRegister (settingsOf b) (widthOf b) (keyOf b)
+    → TypedSettings (settingsOf b) × (length (keyOf b) ≡ 32) × AllBytes (keyOf b)
 opened-typed b shared g a z =
-    let q = open-accepted b shared g z .1 in
-    let o = open-zero (settingsOf b) shared (widthOf b) (length (g .journal)) q in
-    let l = settings-long b shared (length (g .journal)) q in
-    (settings-typed b a l, register-typed b a l (o .0) (o .1))
+    let l = settings-long b shared (length (g .journal)) (open-accepted b shared g z .1) in
+    let k = key-typed b a l in
+    (settings-typed b a l, k .0, k .1)

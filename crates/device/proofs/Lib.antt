@@ -9,7 +9,9 @@ pub mod ReadBackCalls
 pub mod ReadBackLaws
 pub mod Reading
 pub mod Sizes
+pub mod Slots
 pub mod Spelling
+pub mod StateCalls
 pub mod TextAnswers
 pub mod Writers
 pub mod Zeros

@@ -39,53 +39,53 @@ module _ (settings : List ℕ) (g : Slices) where
   journal long shared = cond long (openBuffer (settingsOf settings) shared (widthOf settings) (g .journal)) (g .journal)
 
   abbrev left : Bool → List ℕ
-  left shared = journal (eqb (length (g .state)) 155) shared
+  left shared = journal (eqb (length (g .state)) 447) shared
 
   -- the number is that of Open, or 6
-  number-is : (shared : Bool) → length (g .state) ≡ 155 → answer shared .number ≡ number shared
+  number-is : (shared : Bool) → length (g .state) ≡ 447 → answer shared .number ≡ number shared
   number-is shared l =
       ap (λ (x : Opened). x .number) (open-answer settings shared (length (g .journal)) (length (g .state)) l)
       ∙ opened-number (settingsOf settings) (keyOf settings) shared (widthOf settings) (length (g .journal))
 
-  number-six : (shared : Bool) → (length (g .state) ≡ 155 → ⊥) → answer shared .number ≡ 6
+  number-six : (shared : Bool) → (length (g .state) ≡ 447 → ⊥) → answer shared .number ≡ 6
   number-six shared l = ap (λ (x : Opened). x .number) (open-six settings shared (length (g .journal)) (length (g .state)) l)
 
-  at-32 : (shared : Bool) → answer shared .number ≡ 32 → (length (g .state) ≡ 155) × SharedDigit (settingsOf settings) shared
-  at-32 shared z = go (eqb (length (g .state)) 155) refl
+  at-32 : (shared : Bool) → answer shared .number ≡ 32 → (length (g .state) ≡ 447) × SharedDigit (settingsOf settings) shared
+  at-32 shared z = go (eqb (length (g .state)) 447) refl
     where
-      go : (t : Bool) → eqb (length (g .state)) 155 ≡ t → (length (g .state) ≡ 155) × SharedDigit (settingsOf settings) shared
+      go : (t : Bool) → eqb (length (g .state)) 447 ≡ t → (length (g .state) ≡ 447) × SharedDigit (settingsOf settings) shared
       go true e =
-          let l = eqb-true (length (g .state)) 155 e in
+          let l = eqb-true (length (g .state)) 447 e in
           (l, shared-digit-gets-32 (settingsOf settings) shared (widthOf settings) (length (g .journal)) .0 (sym (number-is shared l) ∙ z))
-      go false e = absurd (omega (arith, z, number-six shared (eqb-false (length (g .state)) 155 e)))
+      go false e = absurd (omega (arith, z, number-six shared (eqb-false (length (g .state)) 447 e)))
 
   same : (answer true .number ≡ 32 → ⊥) → (answer true ≡ answer false) × (left true ≡ left false)
-  same h = go (eqb (length (g .state)) 155) refl
+  same h = go (eqb (length (g .state)) 447) refl
     where
-      go : (t : Bool) → eqb (length (g .state)) 155 ≡ t → (answer true ≡ answer false) × (left true ≡ left false)
+      go : (t : Bool) → eqb (length (g .state)) 447 ≡ t → (answer true ≡ answer false) × (left true ≡ left false)
       go true e =
-          let l = eqb-true (length (g .state)) 155 e in
+          let l = eqb-true (length (g .state)) 447 e in
           let a = open-answer settings true (length (g .journal)) (length (g .state)) l in
           let b = open-answer settings false (length (g .journal)) (length (g .state)) l in
           let m = shared-is-not-stored (settingsOf settings) (keyOf settings) true (widthOf settings) (g .journal) (λ z. h (number-is true l ∙ z)) in
-          (a ∙ m .0 ∙ sym b, ap (λ (x : List ℕ). cond (eqb (length (g .state)) 155) x (g .journal)) (m .1))
+          (a ∙ m .0 ∙ sym b, ap (λ (x : List ℕ). cond (eqb (length (g .state)) 447) x (g .journal)) (m .1))
       go false e =
-          let l = eqb-false (length (g .state)) 155 e in (
+          let l = eqb-false (length (g .state)) 447 e in (
             open-six settings true (length (g .journal)) (length (g .state)) l ∙ sym (open-six settings false (length (g .journal)) (length (g .state)) l),
             ap (λ (t : Bool). journal t true) e ∙ sym (ap (λ (t : Bool). journal t false) e),
           )
 
   refused : (shared : Bool) → (answer shared .number ≡ 0 → ⊥) → (left shared ≡ g .journal) × (answer shared .state ≡ unopened)
-  refused shared h = go (eqb (length (g .state)) 155) refl
+  refused shared h = go (eqb (length (g .state)) 447) refl
     where
-      go : (t : Bool) → eqb (length (g .state)) 155 ≡ t → (left shared ≡ g .journal) × (answer shared .state ≡ unopened)
+      go : (t : Bool) → eqb (length (g .state)) 447 ≡ t → (left shared ≡ g .journal) × (answer shared .state ≡ unopened)
       go true e =
-          let l = eqb-true (length (g .state)) 155 e in
+          let l = eqb-true (length (g .state)) 447 e in
           let a = open-answer settings shared (length (g .journal)) (length (g .state)) l in
           let r = refused-changes-nothing .opens (settingsOf settings) (keyOf settings) shared (widthOf settings) (g .journal) (λ z. h (ap (λ (x : Opened). x .number) a ∙ z)) in
           (ap (λ (t : Bool). journal t shared) e ∙ r .1, ap (λ (x : Opened). x .state) a ∙ r .0)
       go false e =
-          let a = open-six settings shared (length (g .journal)) (length (g .state)) (eqb-false (length (g .state)) 155 e) in
+          let a = open-six settings shared (length (g .journal)) (length (g .state)) (eqb-false (length (g .state)) 447 e) in
           (ap (λ (t : Bool). journal t shared) e, ap (λ (x : Opened). x .state) a)
 
 -- ---- the statements

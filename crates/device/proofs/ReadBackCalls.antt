@@ -17,11 +17,11 @@ use Rattle.receipt.specs.Compact.{readEntry}
 use Rattle.receipt.specs.declared.settings.Settings.{Settings}
 use Rattle.receipt.specs.declared.entry.Found.{Found}
 use Rattle.receipt.proofs.Names.{id-own, settings-yes, settings-zero, settings-pass, settings-stop}
-use Rattle.journal.specs.Calls.{callOf}
+use Rattle.journal.specs.Calls.{orderOf}
 use Rattle.device.specs.Layout.{settingsOf, widthOf}
 use Rattle.device.specs.Details.{detailsBytes}
 use Rattle.device.specs.ReadBack.{foundIn, readNumber, answered, readBack}
-use Rattle.device.proofs.Below.{call-details, call-signature}
+use Rattle.device.proofs.Below.{order-details, order-signature}
 
 -- ---- the questions in a row
 
@@ -115,7 +115,7 @@ module _ (settings form details signature : List ℕ) {s : Settings} {n k : ℕ}
       × (signature ≡ readBack settings form details signature .signature) × (0 ≡ readBack settings form details signature .length)
   unfolding readBack answered
   read-refused h =
-      let c = callOf (foundIn settings form .entry) in
+      let c = orderOf (foundIn settings form .entry) in
       let no : readBack settings form details signature .number ≡ 0 → ⊥ = λ z. h (number-is ∙ z) in (
         number-is,
         sym (ifZero-no _ (detailsBytes (c .details)) details no),
@@ -135,11 +135,11 @@ module _ (settings form details signature : List ℕ) {s : Settings} {n k : ℕ}
     unfolding readBack answered
     read-done e₁ e₂ =
         let e = foundIn settings form .entry in
-        let c = callOf e in
+        let c = orderOf e in
         let yes : readBack settings form details signature .number ≡ 0 = sym number-is ∙ z in
-        let d : found .entry .fields .details ≡ c .details = ap (λ (f : Found). f .entry .fields .details) found-is ∙ sym (call-details e) in
+        let d : found .entry .fields .details ≡ c .details = ap (λ (f : Found). f .entry .fields .details) found-is ∙ sym (order-details e) in
         let g : cond (found .entry .signature .failed) [] (found .entry .signature .bytes) ≡ c .signature =
-        ap (λ (f : Found). cond (f .entry .signature .failed) [] (f .entry .signature .bytes)) found-is ∙ sym (call-signature e) in (
+        ap (λ (f : Found). cond (f .entry .signature .failed) [] (f .entry .signature .bytes)) found-is ∙ sym (order-signature e) in (
           sym yes,
           e₁ ∙ ap detailsBytes d ∙ sym (ifZero-yes (detailsBytes (c .details)) details yes),
           e₂ .1 ∙ ap (overwrite signature 0) g ∙ sym (ifZero-yes (overwrite signature 0 (c .signature)) signature yes),

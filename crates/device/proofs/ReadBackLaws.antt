@@ -8,18 +8,15 @@ use borrow.Author.Tests.{eq-eqb, eqb-true, lt-ltb}
 use lib.Dec.{eqb}
 use lib.IntN.{ℤ, pos}
 use lib.ListN.{length, take, drop, getD, getD-replicate}
-use lib.Seq.{take-at}
 use Rattle.primitives.specs.Bytes.{AllBytes}
 use Rattle.primitives.specs.Counter.{widthGood, fitsIn}
 use Rattle.primitives.specs.Place.{overwrite}
 use Rattle.primitives.proofs.ByteLists.{bytes-take, bytes-drop, bytes-replicate}
-use Rattle.primitives.proofs.Counts.{part-length}
 use Rattle.primitives.proofs.Rows.{ifZero-yes, ifZero-no}
 use Rattle.primitives.proofs.Twos.{fits-64}
 use Rattle.receipt.specs.Settings.{settingsGood, TypedSettings}
 use Rattle.receipt.specs.Compact.{compact, spellable, TypedEntry}
 use Rattle.receipt.specs.Exact.{Spelled}
-use Rattle.receipt.specs.declared.settings.Settings.{Settings}
 use Rattle.receipt.specs.declared.datetime.DateTime.{DateTime}
 use Rattle.receipt.specs.declared.details.Kind.{Kind}
 use Rattle.receipt.specs.declared.details.Kind.the-variants.{Standard, Cancellation, Training}
@@ -27,33 +24,35 @@ use Rattle.receipt.specs.declared.details.Details.{Details}
 use Rattle.receipt.specs.declared.entry.Entry.{Entry}
 use Rattle.receipt.specs.declared.entry.Found.{Found}
 use Rattle.receipt.proofs.ExactEntry.{exact, compact-bytes}
-use Rattle.journal.specs.State.{unopened, TypedRegister}
+use Rattle.journal.specs.State.{noName, used, unopened, settingsNow, TypedState}
 use Rattle.journal.specs.Issuing.{entryOf, textOf, issueNumber, issued, issueBuffer}
-use Rattle.journal.specs.Calls.{Call, callOf}
+use Rattle.journal.specs.Calls.{Order, orderOf}
 use Rattle.journal.specs.declared.state.State.{State}
-use Rattle.journal.proofs.CallLists.{Eight, issue-zero}
-use Rattle.journal.proofs.Appended.{form-is-appended, state-typed, call-back, text-is, entry-spelled}
-use Rattle.device.specs.Layout.{settingsBytes, figuresBytes, stateBytes, nameAt, settingsAt, keyAt, stateAt, settingsOf, widthOf, stateOf, kept}
+use Rattle.journal.proofs.Serials.{serials-used, newest-at}
+use Rattle.journal.proofs.Answers.{Eight, Sound, sound-settings, issue-zero}
+use Rattle.journal.proofs.Appended.{form-is-appended, order-back, text-is, entry-spelled}
+use Rattle.journal.proofs.ReceiptLines.{valid-place}
+use Rattle.device.specs.Layout.{settingsAt, stateAt, noSettings, settingsOf, widthOf, stateOf, kept}
 use Rattle.device.specs.Details.{noDetails, dateOf, detailsWith, ofKind, detailsOf, detailsBytes}
 use Rattle.device.specs.Laws.{TypedDetails}
-use Rattle.device.specs.Calls.{Slices, IssueCall, callIn, issueAnswer, issuedNumber, issuedSlices}
+use Rattle.device.specs.Calls.{settingsIn, settingsInBuffer, Slices, IssueCall, orderIn, issueAnswer, issuedNumber, issuedSlices}
 use Rattle.device.specs.Demand.{TypedIssueCall}
 use Rattle.device.specs.ReadBack.{foundIn, answered, readBack}
 use Rattle.device.specs.ReadBackLaws.{readAs, Readable, ReadIsExact, AcceptedIsRead, RefusedReadChangesNothing, appended, IssuedIsRead}
-use Rattle.device.proofs.Below.{issued-number}
-use Rattle.device.proofs.Sizes.{good-register, kept-all}
-use Rattle.device.proofs.Writers.{length-settings}
-use Rattle.device.proofs.Spelling.{settings-are-read, state-is-read, bytes-are-kept}
+use Rattle.device.proofs.Below.{issued-number, issued-typed}
+use Rattle.device.proofs.Sizes.{kept-all}
+use Rattle.device.proofs.Spelling.{state-is-read, bytes-typed}
 use Rattle.device.proofs.Zeros.{unopened-gets-six}
-use Rattle.device.proofs.CallsFromC.{settings-typed, call-typed}
+use Rattle.device.proofs.CallAnswers.{serial-some}
+use Rattle.device.proofs.StateCalls.{serial-typed, settings-of-serial}
+use Rattle.device.proofs.CallsFromC.{settings-typed as from-settings, order-typed}
 use Rattle.device.proofs.DetailLaws.{details-are-read}
 use Rattle.device.proofs.ReadBackCalls.{Asked, number-zero, zero-number}
 
 -- ---- exactly
 
 -- settings of any length are typed
-none-typed : TypedSettings (unopened .settings)
-unfolding unopened
+none-typed : TypedSettings noSettings
 none-typed =
     record {
       lengths = record { csp = refl; id = refl; serial = refl };
@@ -64,17 +63,17 @@ any-typed : (b : List ℕ) → AllBytes b → TypedSettings (settingsOf b)
 unfolding settingsOf
 any-typed b a = go (eqb (length b) 123) refl
   where
-    go : (t : Bool) → eqb (length b) 123 ≡ t → TypedSettings (cond t (settingsAt b) (unopened .settings))
-    go true e = subst (λ (t : Bool). TypedSettings (cond t (settingsAt b) (unopened .settings))) e (settings-typed b a (eqb-true (length b) 123 e))
+    go : (t : Bool) → eqb (length b) 123 ≡ t → TypedSettings (cond t (settingsAt b) noSettings)
+    go true e = subst (λ (t : Bool). TypedSettings (cond t (settingsAt b) noSettings)) e (from-settings b a (eqb-true (length b) 123 e))
     go false e = none-typed
 
 -- where nothing is refused, what was found is in the outputs
 module _ (settings form details signature : List ℕ) where
   pub read-whole : Asked (settingsOf settings) (widthOf settings) (foundIn settings form .ok) (length details) (length signature)
-      → readBack settings form details signature ≡ readAs (callOf (foundIn settings form .entry)) signature
+      → readBack settings form details signature ≡ readAs (orderOf (foundIn settings form .entry)) signature
   unfolding readBack answered
   read-whole a =
-      let c = callOf (foundIn settings form .entry) in
+      let c = orderOf (foundIn settings form .entry) in
       let z = zero-number (settingsOf settings) (widthOf settings) (foundIn settings form .ok) (length details) (length signature) a in
       λ i. record {
         number = z i;
@@ -83,10 +82,7 @@ module _ (settings form details signature : List ℕ) where
         length = ifZero-yes (length (c .signature)) 0 z i;
       }
 
-  module _ (sb : AllBytes settings) (fb : AllBytes form) where
-    t : TypedSettings (settingsOf settings)
-    t = any-typed settings sb
-
+  module _ (t : TypedSettings (settingsOf settings)) (fb : AllBytes form) where
     read-spelled : readBack settings form details signature .number ≡ 0 → Readable settings form details signature
     unfolding readBack answered foundIn
     read-spelled z =
@@ -99,7 +95,7 @@ module _ (settings form details signature : List ℕ) where
           signatureLength = a .signatureLength;
         }
 
-    spelled-read : (w : Readable settings form details signature) → readBack settings form details signature ≡ readAs (callOf (w .spelled .entry)) signature
+    spelled-read : (w : Readable settings form details signature) → readBack settings form details signature ≡ readAs (orderOf (w .spelled .entry)) signature
     unfolding foundIn
     spelled-read w =
         let f : foundIn settings form ≡ record { ok = true; entry = w .spelled .entry } =
@@ -112,70 +108,52 @@ module _ (settings form details signature : List ℕ) where
           detailsLength = w .detailsLength;
           signatureLength = w .signatureLength;
         } in
-        read-whole a ∙ ap (λ (x : Found). readAs (callOf (x .entry)) signature) f
+        read-whole a ∙ ap (λ (x : Found). readAs (orderOf (x .entry)) signature) f
 
 pub read-is-exact : ReadIsExact
 read-is-exact settings form details signature sb fb =
-    (read-spelled settings form details signature sb fb, spelled-read settings form details signature sb fb)
+    let t = any-typed settings sb in
+    (read-spelled settings form details signature t fb, spelled-read settings form details signature t fb)
 
 pub accepted-is-read : AcceptedIsRead
-accepted-is-read j key n v settings sb es en before e later q details signature ld ls =
-    let r = v .each before e later q in
-    let w : Readable settings (compact (v .settings) n e) details signature =
+accepted-is-read j key n v before x later q settings sb es en details signature ld ls =
+    let r = v .each before x later q in
+    let form = compact (x .settings) n (x .entry) in
+    let w : Readable settings form details signature =
     record {
-      good = ap settingsGood es ∙ v .good;
+      good = ap settingsGood es ∙ valid-place v before x later q .good;
       width = ap widthGood en ∙ v .width;
       spelled = record {
-        entry = e;
+        entry = x .entry;
         typed = r .typed;
-        spellable = (λ i. spellable (es i) (en i) e) ∙ r .spelled;
-        is = λ i. compact (sym es i) (sym en i) e;
+        spellable = (λ i. spellable (es i) (en i) (x .entry)) ∙ r .spelled;
+        is = λ i. compact (sym es i) (sym en i) (x .entry);
       };
       detailsLength = ld;
       signatureLength = ls;
     } in
-    read-is-exact settings (compact (v .settings) n e) details signature sb (compact-bytes (v .settings) n e) .1 w
+    read-is-exact settings form details signature sb (compact-bytes (x .settings) n (x .entry)) .1 w
 
 pub refused-read-changes-nothing : RefusedReadChangesNothing
 unfolding readBack answered
 refused-read-changes-nothing settings form details signature h =
-    let c = callOf (foundIn settings form .entry) in
+    let c = orderOf (foundIn settings form .entry) in
     (ifZero-no _ (detailsBytes (c .details)) details h, ifZero-no _ (overwrite signature 0 (c .signature)) signature h, ifZero-no _ (length (c .signature)) 0 h)
 
 -- ---- what was issued
 
--- a state that was not refused is 155 bytes long
-state-long : (b : List ℕ) (d : Details) (sig : List ℕ) (room : ℕ) → issueNumber (stateOf b) d sig room ≡ 0 → length b ≡ 155
+-- a state that was not refused is 447 bytes long
+state-long : (b : List ℕ) (d : Details) (sig : List ℕ) (room : ℕ) → issueNumber (stateOf b) d sig room ≡ 0 → length b ≡ 447
 unfolding stateOf
-state-long b d sig room z = go (eqb (length b) 155) refl z
+state-long b d sig room z = go (eqb (length b) 447) refl z
   where
-    go : (t : Bool) → eqb (length b) 155 ≡ t → issueNumber (cond t (stateAt b) unopened) d sig room ≡ 0 → length b ≡ 155
-    go true e q = eqb-true (length b) 155 e
-    go false e q = absurd (omega (arith, q, unopened-gets-six d sig room .0))
+    go : (t : Bool) → eqb (length b) 447 ≡ t → issueNumber (cond t (stateAt b) unopened) d sig room ≡ 0 → length b ≡ 447
+    go true e q = eqb-true (length b) 447 e
+    go false e q = absurd (omega (arith, q, unopened-gets-six d sig noName room .0))
 
-module _ (b : List ℕ) (a : AllBytes b) (l : length b ≡ 155) where
-  state-settings : TypedSettings (stateOf b .settings)
-  unfolding stateOf stateAt settingsAt nameAt
-  state-settings =
-      rw (eq-eqb (length b) 155 l) (record {
-        lengths = record { csp = part-length b a 0 3 (omega arith); id = part-length b a 3 32 (omega arith); serial = part-length b a 43 32 (omega arith) };
-        bytes = record { csp = bytes-take 3 (bytes-drop 0 a); id = bytes-take 32 (bytes-drop 3 a); serial = bytes-take 32 (bytes-drop 43 a) };
-      })
-
-  state-key : Eight (stateOf b .chain) × (length (stateOf b .key) ≡ 32) × AllBytes (stateOf b .key)
-  unfolding stateOf stateAt keyAt
-  state-key =
-      rw (eq-eqb (length b) 155 l)
-      (record { long = part-length b a 139 8 (omega arith); bytes = bytes-take 8 (bytes-drop 139 a) }, part-length b a 91 32 (omega arith), bytes-take 32 (bytes-drop 91 a))
-
-  -- its first 123 bytes are its settings
-  first-settings : take 123 b ≡ settingsBytes (stateOf b .settings) (stateOf b .width) (stateOf b .key)
-  unfolding stateBytes
-  first-settings =
-      let st = stateOf b in
-      ap (take 123) (sym (bytes-are-kept b a l))
-      ∙ take-at (settingsBytes (st .settings) (st .width) (st .key)) (figuresBytes st) 123
-      (length-settings (st .settings) (state-settings .lengths) (st .width) (st .key) (state-key .1))
+csp-bytes : (b : List ℕ) → AllBytes b → length b ≡ 447 → AllBytes (stateOf b .csp)
+unfolding stateOf stateAt
+csp-bytes b a l = rw (eq-eqb (length b) 447 l) (bytes-take 3 (bytes-drop 0 a))
 
 -- ---- the details of a call are typed, whatever its kind
 
@@ -215,8 +193,8 @@ kind-typed number date amounts kind t = go (eqb kind 0) (eqb kind 1) (eqb kind 2
     go false false true = t Training
     go false false false = none-detailed
 
-details-typed : (c : IssueCall) → TypedIssueCall c → TypedDetails (callIn c .details)
-unfolding callIn detailsOf dateOf detailsWith
+details-typed : (c : IssueCall) → TypedIssueCall c → TypedDetails (orderIn c .details)
+unfolding orderIn detailsOf dateOf detailsWith
 details-typed c t =
     kind-typed (c .number) (dateOf (c .year) (c .month) (c .day) (c .hour) (c .minute) (c .second)) (c .standard ∷ c .reduced1 ∷ c .reduced2 ∷ c .zero ∷ c .special ∷ []) (c .kind)
     (λ k. record {
@@ -237,83 +215,110 @@ module _ (g : Slices) (a : AllBytes (g .state)) (few : length (g .journal) < 184
   st = stateOf (g .state)
 
   d : Details
-  d = callIn c .details
+  d = orderIn c .details
 
   zero-is : issueNumber st d (c .signature) (length (g .journal)) ≡ 0
   unfolding issuedNumber issueAnswer st d
   zero-is = sym (issued-number st d (c .signature) (length (g .journal))) ∙ z
 
-  long : length (g .state) ≡ 155
+  sound : Sound st
+  sound = issue-zero st d (c .signature) (length (g .journal)) zero-is .sound
+
+  long : length (g .state) ≡ 447
   unfolding st d
   long = state-long (g .state) d (c .signature) (length (g .journal)) zero-is
 
-  typed : TypedRegister (st .settings) (st .width) (st .key)
+  typed : TypedState st
   unfolding st
-  typed =
-      let s = issue-zero st d (c .signature) (length (g .journal)) zero-is .sound in
-      let k = state-key (g .state) a long in
-      good-register (st .settings) (st .width) (st .key) (state-settings (g .state) a long .lengths) (s .settings) (s .width) (k .1) (k .2)
+  typed = bytes-typed (g .state) a long
 
   entry : Entry
   unfolding st d
   entry = entryOf st d (c .signature)
 
-  entry-good : TypedEntry entry × (spellable (st .settings) (st .width) entry ≡ true)
-  unfolding st d entry callIn
+  entry-good : TypedEntry entry × (spellable (settingsNow st) (st .width) entry ≡ true)
+  unfolding d entry orderIn
   entry-good =
-      let k = state-key (g .state) a long in
-      let tc = call-typed c t in
-      entry-spelled st d (c .signature) (length (g .journal)) (k .2) (k .0) (tc .number) (tc .amounts) (tc .bytes) zero-is
+      let o = order-typed c t in
+      let e : Eight (st .chain) = record { long = typed .chain; bytes = typed .chainBytes } in
+      entry-spelled st d (c .signature) (length (g .journal)) (typed .keyBytes) e (o .number) (o .amounts) (o .bytes) zero-is
 
   appended-is : appended g c ≡ textOf st d (c .signature)
-  unfolding appended issuedSlices issueAnswer st d callIn
+  unfolding appended issuedSlices issueAnswer st d orderIn
   appended-is =
       let x = issued st d (c .signature) (length (g .journal)) .state in
       let f = form-is-appended st d (c .signature) (g .journal) zero-is in
       let e : stateOf (kept (g .state) x) ≡ x =
-      ap stateOf (kept-all (g .state) x long) ∙ state-is-read x (state-typed st d (c .signature) (length (g .journal)) typed (call-typed c t .number) few zero-is) in
+      ap stateOf (kept-all (g .state) x long)
+      ∙ state-is-read x (issued-typed st d (c .signature) (length (g .journal)) typed (order-typed c t .number) few zero-is) in
       let m : stateOf (kept (g .state) x) .length - (st .length + 2) ≡ length (textOf st d (c .signature)) = omega (arith, ap (λ (y : State). y .length) e, f .0) in
       ap (λ (k : ℕ). take k (drop (st .length + 2) (issueBuffer st d (c .signature) (g .journal)))) m ∙ f .1
 
-  settings-are : (settingsOf (take 123 (g .state)) ≡ st .settings) × (widthOf (take 123 (g .state)) ≡ st .width)
-  unfolding st
-  settings-are =
-      let e = first-settings (g .state) a long in
-      let r = settings-are-read (st .settings) (st .width) (st .key) typed in
-      (ap settingsOf e ∙ r .0, ap widthOf e ∙ r .1)
+  -- the newest serial
+  last-is : settingsIn st (length (used (st .serials)) - 1) ≡ settingsNow st
+  unfolding settingsIn
+  last-is =
+      let k = length (used (st .serials)) in
+      let h = serials-used (st .serials) (sound .serials) .some in
+      let e = sym (serial-some st (k - 1) refl noName (omega (arith, h))) ∙ newest-at (st .serials) k noName refl h in
+      λ i. record { csp = st .csp; id = st .id; serial = e i }
 
-  call-is : callOf entry ≡ callIn c
-  unfolding st d entry callIn
-  call-is = call-back st d (c .signature)
+  order-is : orderOf entry ≡ orderIn c
+  unfolding st d entry orderIn
+  order-is = order-back st d (c .signature)
 
-  spelled : Spelled (settingsOf (take 123 (g .state))) (widthOf (take 123 (g .state))) (appended g c)
-  unfolding st d entry
-  spelled =
-      let e = settings-are in
-      record {
-        entry = entry;
-        typed = entry-good .0;
-        spellable = (λ i. spellable (e .0 i) (e .1 i) entry) ∙ entry-good .1;
-        is = appended-is ∙ text-is st d (c .signature) ∙ (λ i. compact (sym (e .0) i) (sym (e .1) i) entry);
-      }
+  module _ (out : List ℕ) (lo : length out ≡ 123) where
+    settings : List ℕ
+    settings = settingsInBuffer st (length (used (st .serials)) - 1) out
 
-  readable : (details signature : List ℕ) → length details ≡ 72 → length signature ≡ 64 → Readable (take 123 (g .state)) (appended g c) details signature
-  unfolding st
-  readable details signature ld ls =
-      let s = issue-zero st d (c .signature) (length (g .journal)) zero-is .sound in
-      let e = settings-are in
-      record { good = ap settingsGood (e .0) ∙ s .settings; width = ap widthGood (e .1) ∙ s .width; spelled = spelled; detailsLength = ld; signatureLength = ls }
+    settings-are : (settingsOf settings ≡ settingsNow st) × (widthOf settings ≡ st .width)
+    unfolding settings
+    settings-are =
+        let r = settings-of-serial st (length (used (st .serials)) - 1) out typed lo in
+        (r .0 ∙ last-is, r .1)
 
-  appended-bytes : AllBytes (appended g c)
-  appended-bytes = subst AllBytes (sym (spelled .is)) (compact-bytes (settingsOf (take 123 (g .state))) (widthOf (take 123 (g .state))) (spelled .entry))
+    settings-typed : TypedSettings (settingsOf settings)
+    unfolding settings settingsIn st
+    settings-typed =
+        let s = serial-typed typed (length (used (st .serials)) - 1) in
+        subst TypedSettings (sym (settings-of-serial st (length (used (st .serials)) - 1) out typed lo .0)) (record {
+          lengths = record { csp = typed .csp; id = typed .id .long; serial = s .long };
+          bytes = record { csp = csp-bytes (g .state) a long; id = typed .id .bytes; serial = s .bytes };
+        })
 
-  read-again : (details signature : List ℕ) → length details ≡ 72 → length signature ≡ 64
-      → readBack (take 123 (g .state)) (appended g c) details signature ≡ readAs (callIn c) signature
-  unfolding readable spelled
-  read-again details signature ld ls =
-      read-is-exact (take 123 (g .state)) (appended g c) details signature (bytes-take 123 a) appended-bytes .1 (readable details signature ld ls)
-      ∙ ap (λ (k : Call). readAs k signature) call-is
+    spelled : Spelled (settingsOf settings) (widthOf settings) (appended g c)
+    unfolding d entry
+    spelled =
+        let e = settings-are in
+        record {
+          entry = entry;
+          typed = entry-good .0;
+          spellable = (λ i. spellable (e .0 i) (e .1 i) entry) ∙ entry-good .1;
+          is = appended-is ∙ text-is st d (c .signature) ∙ (λ i. compact (sym (e .0) i) (sym (e .1) i) entry);
+        }
+
+    readable : (details signature : List ℕ) → length details ≡ 72 → length signature ≡ 64 → Readable settings (appended g c) details signature
+    readable details signature ld ls =
+        let e = settings-are in
+        record {
+          good = ap settingsGood (e .0) ∙ sound-settings st sound;
+          width = ap widthGood (e .1) ∙ sound .width;
+          spelled = spelled;
+          detailsLength = ld;
+          signatureLength = ls;
+        }
+
+    appended-bytes : AllBytes (appended g c)
+    appended-bytes = subst AllBytes (sym (spelled .is)) (compact-bytes (settingsOf settings) (widthOf settings) (spelled .entry))
+
+    read-again : (details signature : List ℕ) → length details ≡ 72 → length signature ≡ 64
+        → readBack settings (appended g c) details signature ≡ readAs (orderIn c) signature
+    unfolding readable spelled
+    read-again details signature ld ls =
+        spelled-read settings (appended g c) details signature settings-typed appended-bytes (readable details signature ld ls)
+        ∙ ap (λ (k : Order). readAs k signature) order-is
 
 pub issued-is-read : IssuedIsRead
-issued-is-read g a few c t z details signature ld ls =
-    (read-again g a few c t z details signature ld ls, details-are-read (callIn c .details) (details-typed c t) .1)
+unfolding settings st
+issued-is-read g a few c t z out details signature lo ld ls =
+    (read-again g a few c t z out lo details signature ld ls, details-are-read (orderIn c .details) (details-typed c t) .1)

@@ -1,7 +1,7 @@
 -- What is read from bytes, over plain variables.
 use Prim.Native.Nat.{ℕ, _+_, _-_, _≤_}
 use mathlib.Core.Path.{_≡_, sym, ap, _∙_}
-use mathlib.Core.List.{List}
+use mathlib.Core.List.{List, [], _∷_}
 use native.Mathlib.Omega.{arith}
 use lib.IntN.{ℤ}
 use lib.ListN.{length, take, drop, length-drop}
@@ -15,8 +15,8 @@ use Rattle.primitives.specs.Counter.{counterValue}
 use Rattle.primitives.specs.declared.buffer.Number.the-variants.{Is, Missing}
 use Rattle.primitives.proofs.Numbers.{number-there, number-found}
 use Rattle.primitives.proofs.Over.{length-over, read-over, placed-room}
-use Rattle.receipt.specs.declared.settings.Settings.{Settings}
-use Rattle.device.specs.Layout.{settingsAt, widthAt, keyAt, stateAt}
+use Rattle.receipt.specs.declared.settings.Name.{Name}
+use Rattle.device.specs.Layout.{nameAt, namesAt, stateAt}
 use Rattle.primitives.proofs.Counts.{count-is}
 
 -- ---- arrays
@@ -56,10 +56,43 @@ counter-found b at {v = v} f e q = toZ-ofZ w64 v f ∙ q ∙ ap (counterValue 8)
 
 -- ---- the state
 
-pub state-found : (b : List ℕ) {s : Settings} {n : ℕ} {key : List ℕ} {z : ℤ} {last issued : ℕ} {chain : List ℕ} {len : ℕ} → s ≡ settingsAt b → n ≡ widthAt b
-    → key ≡ keyAt b → z ≡ counterValue 8 (take 8 (drop 123 b)) → last ≡ countAt b 131 4 → issued ≡ countAt b 135 4 → chain ≡ take 8 (drop 139 b)
-    → len ≡ countAt b 147 8
-    → record { settings = s; width = n; key = key; counter = z; last = last; issued = issued; chain = chain; length = len } ≡ stateAt b
+pub serials-found : (b : List ℕ) {s₀ s₁ s₂ s₃ s₄ s₅ s₆ s₇ : Name} → s₀ ≡ nameAt b 43 → s₁ ≡ nameAt b 83 → s₂ ≡ nameAt b 123 → s₃ ≡ nameAt b 163 → s₄ ≡ nameAt b 203
+    → s₅ ≡ nameAt b 243 → s₆ ≡ nameAt b 283 → s₇ ≡ nameAt b 323 → s₀ ∷ s₁ ∷ s₂ ∷ s₃ ∷ s₄ ∷ s₅ ∷ s₆ ∷ s₇ ∷ [] ≡ namesAt b 43 8
+unfolding namesAt
+serials-found b e₀ e₁ e₂ e₃ e₄ e₅ e₆ e₇ = λ i. e₀ i ∷ e₁ i ∷ e₂ i ∷ e₃ i ∷ e₄ i ∷ e₅ i ∷ e₆ i ∷ e₇ i ∷ []
+
+pub state-found : (b : List ℕ) {csp : List ℕ} {id : Name} {serials : List Name} {n : ℕ} {key : List ℕ} {z : ℤ} {last issued : ℕ} {chain : List ℕ} {len section place : ℕ}
+    → csp ≡ take 3 (drop 0 b) → id ≡ nameAt b 3 → serials ≡ namesAt b 43 8 → n ≡ countAt b 363 8 → key ≡ take 32 (drop 371 b)
+    → z ≡ counterValue 8 (take 8 (drop 403 b)) → last ≡ countAt b 411 4 → issued ≡ countAt b 415 4 → chain ≡ take 8 (drop 419 b) → len ≡ countAt b 427 8
+    → section ≡ countAt b 435 4 → place ≡ countAt b 439 8
+    → record {
+      csp = csp;
+      id = id;
+      serials = serials;
+      width = n;
+      key = key;
+      counter = z;
+      last = last;
+      issued = issued;
+      chain = chain;
+      length = len;
+      section = section;
+      place = place;
+    }
+    ≡ stateAt b
 unfolding stateAt
-state-found b e₁ e₂ e₃ e₄ e₅ e₆ e₇ e₈ =
-    λ i. record { settings = e₁ i; width = e₂ i; key = e₃ i; counter = e₄ i; last = e₅ i; issued = e₆ i; chain = e₇ i; length = e₈ i }
+state-found b e₁ e₂ e₃ e₄ e₅ e₆ e₇ e₈ e₉ e₁₀ e₁₁ e₁₂ =
+    λ i. record {
+      csp = e₁ i;
+      id = e₂ i;
+      serials = e₃ i;
+      width = e₄ i;
+      key = e₅ i;
+      counter = e₆ i;
+      last = e₇ i;
+      issued = e₈ i;
+      chain = e₉ i;
+      length = e₁₀ i;
+      section = e₁₁ i;
+      place = e₁₂ i;
+    }

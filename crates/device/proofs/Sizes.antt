@@ -20,7 +20,7 @@ use Rattle.journal.specs.State.{unopened, TypedRegister}
 use Rattle.journal.specs.Opening.{opened}
 use Rattle.journal.specs.Checking.{takeOver}
 use Rattle.journal.specs.declared.state.State.{State}
-use Rattle.device.specs.Layout.{stateBytes, arrayOf, settingsOf, widthOf, keyOf, kept}
+use Rattle.device.specs.Layout.{stateBytes, arrayOf, settingsOf, widthOf, keyOf, stateOf, kept}
 use Rattle.device.specs.Calls.{settingsFrom, widthWith, openAnswer, takeOverAnswer}
 
 -- ---- arrays and keys
@@ -81,30 +81,34 @@ good-register s n key t good width l b =
 
 -- ---- states
 
-pub kept-not : (b : List ℕ) (st : State) → (length b ≡ 155 → ⊥) → kept b st ≡ b
-unfolding kept
-kept-not b st h = rw (ne-eqb (length b) 155 h)
+pub state-none : (b : List ℕ) → (length b ≡ 447 → ⊥) → stateOf b ≡ unopened
+unfolding stateOf
+state-none b h = rw (ne-eqb (length b) 447 h)
 
-pub kept-all : (b : List ℕ) (st : State) → length b ≡ 155 → kept b st ≡ stateBytes st
+pub kept-not : (b : List ℕ) (st : State) → (length b ≡ 447 → ⊥) → kept b st ≡ b
 unfolding kept
-kept-all b st h = rw (eq-eqb (length b) 155 h)
+kept-not b st h = rw (ne-eqb (length b) 447 h)
+
+pub kept-all : (b : List ℕ) (st : State) → length b ≡ 447 → kept b st ≡ stateBytes st
+unfolding kept
+kept-all b st h = rw (eq-eqb (length b) 447 h)
 
 -- ---- open and take over
 
 module _ (settings : List ℕ) (shared : Bool) (room size : ℕ) where
-  pub open-six : (size ≡ 155 → ⊥) → openAnswer settings shared room size ≡ record { number = 6; state = unopened }
+  pub open-six : (size ≡ 447 → ⊥) → openAnswer settings shared room size ≡ record { number = 6; state = unopened }
   unfolding openAnswer
-  open-six h = rw (ne-eqb size 155 h)
+  open-six h = rw (ne-eqb size 447 h)
 
-  pub open-answer : size ≡ 155 → openAnswer settings shared room size ≡ opened (settingsOf settings) (keyOf settings) shared (widthOf settings) room
+  pub open-answer : size ≡ 447 → openAnswer settings shared room size ≡ opened (settingsOf settings) (keyOf settings) shared (widthOf settings) room
   unfolding openAnswer
-  open-answer h = rw (eq-eqb size 155 h)
+  open-answer h = rw (eq-eqb size 447 h)
 
 module _ (journal key : List ℕ) (n size : ℕ) where
-  pub take-six : (size ≡ 155 → ⊥) → takeOverAnswer journal key n size ≡ record { number = 6; index = 0; state = unopened }
+  pub take-six : (size ≡ 447 → ⊥) → takeOverAnswer journal key n size ≡ record { number = 6; index = 0; state = unopened }
   unfolding takeOverAnswer
-  take-six h = rw (ne-eqb size 155 h)
+  take-six h = rw (ne-eqb size 447 h)
 
-  pub take-answer : size ≡ 155 → takeOverAnswer journal key n size ≡ takeOver journal (arrayOf 32 key) (widthWith key n)
+  pub take-answer : size ≡ 447 → takeOverAnswer journal key n size ≡ takeOver journal (arrayOf 32 key) (widthWith key n)
   unfolding takeOverAnswer
-  take-answer h = rw (eq-eqb size 155 h)
+  take-answer h = rw (eq-eqb size 447 h)

@@ -2,27 +2,29 @@
 use mathlib.Core.Path.{_≡_, refl}
 use mathlib.Core.Bool.{false}
 use native.Mathlib.Omega.{arith}
+use lib.ListN.{replicate}
 use borrow.Author.Tests.{le-ltb}
 use Rattle.primitives.specs.Number.{digitsOf, bytesOf}
 use Rattle.primitives.specs.Counter.{widthGood, half, fitsIn, counterFits, twos, counterBytes}
 use Rattle.primitives.proofs.Rows.{ask-no}
-use Rattle.receipt.specs.Settings.{between, cspGood, settingsGood, settingsNumberFor}
+use Rattle.receipt.specs.Settings.{between, cspGood, settingsNumberFor}
 use Rattle.journal.specs.State.{unopened}
+use Rattle.journal.specs.Changing.{changeNumber}
 use Rattle.primitives.specs.Questions.{ask}
 use Rattle.journal.specs.Opening.{openNumber}
 use Rattle.journal.specs.Step.{soundAlone, sound, numberAbove, detailsNumberWithin}
 use Rattle.journal.specs.Issuing.{issueNumberWithin}
 use Rattle.journal.specs.Preparing.{prepareNumber}
-use Rattle.device.specs.Layout.{settingsBytes, figuresBytes, stateBytes}
+use Rattle.device.specs.Layout.{namesBytes, registerBytes, figuresBytes, stateBytes}
 use Rattle.device.specs.Details.{noDetails}
 use Rattle.device.specs.Laws.{UnopenedIsZero, NoSettingsGetOne, UnopenedGetsSix, UnknownKindGetsSeven}
 
 pub unopened-is-zero : UnopenedIsZero
-unfolding stateBytes settingsBytes figuresBytes unopened digitsOf bytesOf counterBytes counterFits fitsIn half widthGood twos
+unfolding stateBytes registerBytes namesBytes figuresBytes unopened digitsOf bytesOf counterBytes counterFits fitsIn half widthGood twos
 unopened-is-zero = refl
 
-csp-bad : cspGood (unopened .settings .csp) ≡ false
-unfolding unopened cspGood between
+csp-bad : cspGood (replicate 3 0) ≡ false
+unfolding cspGood between
 csp-bad = refl
 
 pub no-settings-get-one : NoSettingsGetOne
@@ -30,12 +32,12 @@ unfolding openNumber settingsNumberFor
 no-settings-get-one shared n room = ask-no 1 _ csp-bad
 
 unopened-unsound : soundAlone unopened ≡ false
-unfolding soundAlone settingsGood
+unfolding soundAlone unopened
 unopened-unsound = rw csp-bad
 
 pub unopened-gets-six : UnopenedGetsSix
-unfolding issueNumberWithin prepareNumber sound ask
-unopened-gets-six d sig room = (rw unopened-unsound, rw unopened-unsound)
+unfolding issueNumberWithin prepareNumber changeNumber sound ask
+unopened-gets-six d sig serial room = (rw unopened-unsound, rw unopened-unsound, rw unopened-unsound)
 
 pub unknown-kind-gets-seven : UnknownKindGetsSeven
 unfolding detailsNumberWithin numberAbove noDetails ask

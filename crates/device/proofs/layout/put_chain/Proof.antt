@@ -15,15 +15,37 @@ put-requires c κs = search needs
 put-number-requires : tie.Need-put-number-requires
 put-number-requires c κs = search needs
 
+cast-put-number : tie.Need-cast-put-number
+cast-put-number c = search needs
+
+put-number-requires-2 : tie.Need-put-number-requires-2
+put-number-requires-2 c κs = search needs
+
+put-number-requires-3 : tie.Need-put-number-requires-3
+put-number-requires-3 c κs = search needs
+
 same-length : tie.Need-same-length
 same-length c = search needs
 
 returns : tie.Need-returns
 returns c =
-    let start = c .before .before .before .before .before .before .before .before .before .before .before in
-    let e : length (start .args .st .chain) ≡ 8 = search needs in
-    put-chain (start .args .st) (start .args .out .now) (start .pre) e (c .before .before .before .before .before .before .put .ensures .1) (c .before .before .put-number .ensures .1)
+    let s = c .before .before .before .before .before .before .before .before .before .before .before .before .before .before .before .before .before .before .before .before in
+    let e : length (s .args .st .chain) ≡ 8 = search needs in
+    put-chain (s .args .st) (s .args .out .now) e (s .pre)
+    (c .before .before .before .before .before .before .before .before .before .before .before .before .before .before .before .put .ensures .1)
+    (c .before .before .before .before .before .before .before .before .before .before .before .put-number .ensures .1)
+    (c .before .before .before .before .before .before .put-number2 .ensures .1)
+    (c .before .before .put-number3 .ensures .1)
 
 pub put-chain-spec : {M : Type 1} → statement M
 put-chain-spec =
-    tie.close (tie.spec slice-aggregate-put put-requires put-number-requires same-length returns)
+    tie.close
+    (tie.spec
+    slice-aggregate-put
+    put-requires
+    put-number-requires
+    cast-put-number
+    put-number-requires-2
+    put-number-requires-3
+    same-length
+    returns)

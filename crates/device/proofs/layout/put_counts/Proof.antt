@@ -32,9 +32,13 @@ same-length c = search needs
 
 returns : tie.Need-returns
 returns c =
-    let start = c .before .before .before .before .before .before .before .before .before .before .before .before .before .before .before .before .before .before in
-    let f : SFits w64 (start .args .st .counter) = search needs in
-    put-counts (start .args .st) (start .args .out .now) (start .pre) f (c .before .before .before .before .before .before .before .before .before .before .before .before .before .before .before .counter-bytes .ensures) (c .before .before .before .before .before .before .before .before .before .before .before .before .put .ensures .1) (c .before .before .before .before .before .before .before .put-number .ensures .1) (c .before .before .put-number2 .ensures .1)
+    let s = c .before .before .before .before .before .before .before .before .before .before .before .before .before .before .before .before .before .before in
+    let f : SFits w64 (s .args .st .counter) = search needs in
+    put-counts (s .args .st) (s .args .out .now) (s .pre) f
+    (c .before .before .before .before .before .before .before .before .before .before .before .before .before .before .before .counter-bytes .ensures)
+    (c .before .before .before .before .before .before .before .before .before .before .before .before .put .ensures .1)
+    (c .before .before .before .before .before .before .before .put-number .ensures .1)
+    (c .before .before .put-number2 .ensures .1)
 
 pub put-counts-spec : {M : Type 1} → statement M
 put-counts-spec =

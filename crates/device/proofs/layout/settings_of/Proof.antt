@@ -1,18 +1,13 @@
 -- `layout::settings_of` meets its contract.
-use mathlib.Core.Path.{ap}
 use borrow.Author.Tests.{eq-eqb, ne-eqb}
-use Rattle.journal.specs.declared.state.State.{State}
 use Rattle.device.specs.Layout.{settingsOf}
 use borrow.Author.Needs.{needs}
 use Rattle.device.proofs.layout.settings_of.Statement.{statement}
 use Rattle.device.proofs.layout.settings_of.Tie as tie
 
-unopened-requires : tie.Need-unopened-requires
-unopened-requires c κs = search needs
-
 returns : tie.Need-returns
 unfolding settingsOf
-returns c = rw (ne-eqb _ 123 (c .before .before .if1 .taken)) (ap (λ (x : State). x .settings) (c .before .unopened .ensures))
+returns c = rw (ne-eqb _ 123 (c .if1 .taken))
 
 settings-at-requires : tie.Need-settings-at-requires
 settings-at-requires c κs = search needs
@@ -22,4 +17,4 @@ unfolding settingsOf
 returns-2 c = rw (eq-eqb _ 123 (c .before .if1 .left)) (c .settings-at .ensures)
 
 pub settings-of-spec : {M : Type 1} → statement M
-settings-of-spec = tie.close (tie.spec unopened-requires returns settings-at-requires returns-2)
+settings-of-spec = tie.close (tie.spec returns settings-at-requires returns-2)
