@@ -24,8 +24,8 @@ use Rattle.journal.specs.State.{TypedName, TypedRegister, TypedState}
 use Rattle.journal.specs.Opening.{openNumber}
 use Rattle.journal.specs.Checking.{accepted, takeOver}
 use Rattle.journal.specs.Receipts.{Receipt, receiptsIn}
-use Rattle.journal.specs.Valid.{Owner, Pair, settingsFor, Placed, placed, allPlaced, entriesIn, Valid, headOf}
-use Rattle.journal.specs.Calls.{Call, issue, change, Register, journalOf, opening, calls, numbersOf, receiptsOf, Section, sectionsFrom, sectionsIn, orderOf, issuesOf, laterCalls, callsOf}
+use Rattle.journal.specs.Valid.{Owner, Pair, settingsFor, Placed, placedUnder, allPlaced, entriesIn, Valid, headOf}
+use Rattle.journal.specs.Calls.{Call, issue, change, Register, journalOf, opening, calls, numbersOf, receiptsOf, Period, periodsFrom, periodsIn, orderOf, issuesOf, laterCalls, callsOf}
 use Rattle.journal.specs.Demands.{Written, Again}
 use Rattle.journal.specs.declared.state.State.{State}
 use Rattle.journal.specs.declared.state.Opened.{Opened}
@@ -40,7 +40,7 @@ use Rattle.device.specs.Layout.{settingsBytes, stateBytes, arrayOf, sett
 use Rattle.device.specs.Details.{dateOf, detailsWith, ofKind, detailsOf, kindNumber}
 use Rattle.device.specs.Calls.{settingsFrom, widthWith, settingsAnswer, settingsBuffer, Slices, openedNumber, openedSlices, orderIn, takeOverAnswer}
 use Rattle.device.specs.Demand as demand
-use Rattle.device.specs.Demand.{CallFromC, changing, TypedCallFromC, TypedCallsFromC, callIn, slicesAfterAll, numbersFromC, receiptsFromC, sectionsFromC, journalIn, AcceptedIsValidInC, registerIn, WrittenInC, WrittenIsAcceptedInC, settingsAgain, issueCallOf, laterFromC, callsFromC, AgainInC, AcceptedIsWrittenInC, WritingAndCheckingAgreeInC}
+use Rattle.device.specs.Demand.{CallFromC, changing, TypedCallFromC, TypedCallsFromC, callIn, slicesAfterAll, numbersFromC, receiptsFromC, periodsFromC, journalIn, AcceptedIsValidInC, registerIn, WrittenInC, WrittenIsAcceptedInC, settingsAgain, issueCallOf, laterFromC, callsFromC, AgainInC, AcceptedIsWrittenInC, WritingAndCheckingAgreeInC}
 use Rattle.device.proofs.Below.{date-words, opened-number, journal-is, accepted-is, order-details, issues-none, issues-more, later-none, later-more, pairs-none, pairs-more, placed-more, all-more, head-is}
 use Rattle.device.proofs.Sizes.{array-whole, width-whole, key-long, good-register, open-answer, kept-all, take-six, take-answer}
 use Rattle.device.proofs.Spelling.{settings-are-read, state-is-read}
@@ -77,13 +77,13 @@ accepted-is-valid-in-c j key n size b = (yes, no)
 -- ---- what is written is accepted
 
 -- what the journal proves, of the bytes of the register
-module _ (b : List ℕ) (g : Register) (x : Section) (cs : List Call) (l : length (keyOf b) ≡ 32) (t : TypedState (calls g cs .state))
+module _ (b : List ℕ) (g : Register) (x : Period) (cs : List Call) (l : length (keyOf b) ≡ 32) (t : TypedState (calls g cs .state))
     (w : Written (keyOf b) (widthOf b) g x cs) where
   same-journal : journalIn (slicesOf (calls g cs)) ≡ journalOf (calls g cs)
   unfolding slicesOf journalIn
   same-journal = ap (λ (x : State). take (x .length) (calls g cs .buf)) (state-is-read (calls g cs .state) t) ∙ sym (journal-is (calls g cs))
 
-  written-same : WrittenInC b (slicesOf (calls g cs)) (receiptsOf g cs) (sectionsFrom g x cs)
+  written-same : WrittenInC b (slicesOf (calls g cs)) (receiptsOf g cs) (periodsFrom g x cs)
   unfolding slicesOf
   written-same =
       let q = state-is-read (calls g cs .state) t in
@@ -97,8 +97,8 @@ module _ (b : List ℕ) (g : Register) (x : Section) (cs : List Call) (l : lengt
         valid = subst (λ (j : List ℕ). Valid j (keyOf b) (widthOf b)) (sym same-journal) (w .valid);
         receipts =
             subst (λ (j : List ℕ). (v : Valid j (keyOf b) (widthOf b)) → receiptsIn (entriesIn (v .pairs)) ≡ receiptsOf g cs) (sym same-journal) (w .receipts);
-        sections =
-            subst (λ (j : List ℕ). (v : Valid j (keyOf b) (widthOf b)) → sectionsIn (v .pairs) ≡ sectionsFrom g x cs) (sym same-journal) (w .sections);
+        periods =
+            subst (λ (j : List ℕ). (v : Valid j (keyOf b) (widthOf b)) → periodsIn (v .pairs) ≡ periodsFrom g x cs) (sym same-journal) (w .periods);
         counter = ap (λ (x : State). x .counter) q ∙ w .counter;
       }
 
@@ -107,16 +107,16 @@ written-is-accepted-in-c b shared g a l z cs tcs =
     let r = registerIn b shared (g .journal) in
     let t = opened-typed b shared g a z in
     let o = open-accepted b shared g z in
-    let x : Section = record { serial = settingsOf b .serial; receipts = [] } in
+    let x : Period = record { serial = settingsOf b .serial; receipts = [] } in
     let m = same-calls (settingsOf b) shared (widthOf b) (keyOf b) (g .journal) (t .0) (t .1) (t .2) l (o .1) cs tcs in
     let w = written-is-accepted (settingsOf b) (keyOf b) shared (widthOf b) (g .journal) (t .0) (t .2) (o .1) (map callIn cs) (calls-typed cs tcs) in
     let f = opened-same b shared g (o .0) in
     let e : slicesAfterAll (openedSlices b shared g) cs ≡ slicesOf (calls r (map callIn cs)) = ap (λ (y : Slices). slicesAfterAll y cs) f ∙ m .slices in
     let q : receiptsFromC (openedSlices b shared g) cs ≡ receiptsOf r (map callIn cs) = ap (λ (y : Slices). receiptsFromC y cs) f ∙ m .receipts in
-    let p : sectionsFromC (openedSlices b shared g) x cs ≡ sectionsFrom r x (map callIn cs) = ap (λ (y : Slices). sectionsFromC y x cs) f ∙ m .sections x in (
-      subst (λ (y : Slices). WrittenInC b y (receiptsFromC (openedSlices b shared g) cs) (sectionsFromC (openedSlices b shared g) x cs)) (sym e)
-          (subst (λ (y : List Receipt). WrittenInC b (slicesOf (calls r (map callIn cs))) y (sectionsFromC (openedSlices b shared g) x cs)) (sym q)
-          (subst (λ (y : List Section). WrittenInC b (slicesOf (calls r (map callIn cs))) (receiptsOf r (map callIn cs)) y) (sym p)
+    let p : periodsFromC (openedSlices b shared g) x cs ≡ periodsFrom r x (map callIn cs) = ap (λ (y : Slices). periodsFromC y x cs) f ∙ m .periods x in (
+      subst (λ (y : Slices). WrittenInC b y (receiptsFromC (openedSlices b shared g) cs) (periodsFromC (openedSlices b shared g) x cs)) (sym e)
+          (subst (λ (y : List Receipt). WrittenInC b (slicesOf (calls r (map callIn cs))) y (periodsFromC (openedSlices b shared g) x cs)) (sym q)
+          (subst (λ (y : List Period). WrittenInC b (slicesOf (calls r (map callIn cs))) (receiptsOf r (map callIn cs)) y) (sym p)
           (written-same b r x (map callIn cs) (t .1) (m .typed) w))),
       ap (λ (y : Slices). numbersFromC y cs) f ∙ m .numbers,
     )
@@ -168,11 +168,11 @@ Makes cs ds = TypedCallsFromC cs × (map callIn cs ≡ ds)
 first-right : (k : List ℕ) (n : ℕ) (c : Core) (x : Placed) (xs : List Placed) → AllRight k n c (x ∷ xs) → RightFor k n c x × AllRight k n (stepCore n c x) xs
 first-right k n c x xs (placing.more h hs) = (h, hs)
 
-entries-made : (k : List ℕ) (n : ℕ) (c : Core) (s : Settings) (es : List Entry) (cs : List CallFromC) (ds : List Call) → AllRight k n c (placed s es) → Makes cs ds
+entries-made : (k : List ℕ) (n : ℕ) (c : Core) (s : Settings) (es : List Entry) (cs : List CallFromC) (ds : List Call) → AllRight k n c (placedUnder s es) → Makes cs ds
     → Makes (map issueCallOf es ++ cs) (issuesOf es ++ ds)
 entries-made k n c s [] cs ds r m = (m .0, m .1 ∙ ap (λ (l : List Call). l ++ ds) (sym issues-none))
 entries-made k n c s (e ∷ es) cs ds r m =
-    let h = first-right k n c _ (placed s es) (subst (AllRight k n c) (placed-more s e es) r) in
+    let h = first-right k n c _ (placedUnder s es) (subst (AllRight k n c) (placed-more s e es) r) in
     let p = entries-made k n _ s es cs ds (h .1) m in (
       demand.more (call-allowed s n e (h .0 .typed) (h .0 .spelled)) (p .0),
       (λ i. call-same e (h .0 .typed .fields .amounts) i ∷ p .1 i) ∙ ap (λ (l : List Call). l ++ ds) (sym (issues-more e es)),
@@ -184,7 +184,7 @@ pair-made : (k : List ℕ) (n : ℕ) (o : Owner) (c : Core) (p : Pair) (ps : Lis
     → Makes (map issueCallOf (p .entries) ++ laterFromC ps) (issuesOf (p .entries) ++ laterCalls ps)
 pair-made k n o c p ps r f =
     let s = settingsFor o (p .serial) in
-    let h = right-split k n c (placed s (p .entries)) (allPlaced o ps) (subst (AllRight k n c) (all-more o p ps) r) in
+    let h = right-split k n c (placedUnder s (p .entries)) (allPlaced o ps) (subst (AllRight k n c) (all-more o p ps) r) in
     entries-made k n c s (p .entries) (laterFromC ps) (laterCalls ps) (h .0) (f _ (h .1))
 
 later-made : (k : List ℕ) (n : ℕ) (o : Owner) (c : Core) (us : List Name) (ps : List Pair) → AllRight k n c (allPlaced o ps) → Names us ps

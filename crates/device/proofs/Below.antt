@@ -27,8 +27,8 @@ use Rattle.journal.specs.Step.{newCounter, next}
 use Rattle.journal.specs.Issuing.{textOf, issueNumber, issued, issuedWithin, issueBuffer}
 use Rattle.journal.specs.Checking.{accepted}
 use Rattle.journal.specs.Changing.{changeNumber, changed, changeBuffer}
-use Rattle.journal.specs.Valid.{Owner, Pair, settingsFor, placed, allPlaced, headOf}
-use Rattle.journal.specs.Calls.{Order, Call, issue, change, Register, journalOf, opening, numberOf, numbersOf, receiptOfCall, receiptsOf, Section, sectionsFrom, call, callWithin, calls, callsWithin, orderOf, issuesOf, laterCalls, callsOf}
+use Rattle.journal.specs.Valid.{Owner, Pair, settingsFor, placedUnder, allPlaced, headOf}
+use Rattle.journal.specs.Calls.{Order, Call, issue, change, Register, journalOf, opening, numberOf, numbersOf, receiptOfCall, receiptsOf, Period, periodsFrom, call, callWithin, calls, callsWithin, orderOf, issuesOf, laterCalls, callsOf}
 use Rattle.journal.specs.declared.state.State.{State}
 use Rattle.journal.proofs.Check.{new-fits, new-is}
 use Rattle.journal.proofs.Answers.{chain-eight, issue-zero}
@@ -97,8 +97,8 @@ module _ (g : Register) where
   unfolding receiptsOf
   receipts-none = refl
 
-  pub sections-none : (x : Section) → sectionsFrom g x [] ≡ x ∷ []
-  unfolding sectionsFrom
+  pub sections-none : (x : Period) → periodsFrom g x [] ≡ x ∷ []
+  unfolding periodsFrom
   sections-none x = refl
 
 module _ (g : Register) (c : Call) (cs : List Call) where
@@ -128,11 +128,11 @@ module _ (g : Register) (c : Order) where
   unfolding receiptsOf
   issue-receipts cs = refl
 
-  pub issue-sections : (x : Section) (cs : List Call)
-      → sectionsFrom g x (issue c ∷ cs)
-      ≡ ifZero (numberOf g (issue c)) (sectionsFrom (call g (issue c)) (record { serial = x .serial; receipts = x .receipts ++ (receiptOfCall c ∷ []) }) cs)
-      (sectionsFrom (call g (issue c)) x cs)
-  unfolding sectionsFrom
+  pub issue-sections : (x : Period) (cs : List Call)
+      → periodsFrom g x (issue c ∷ cs)
+      ≡ ifZero (numberOf g (issue c)) (periodsFrom (call g (issue c)) (record { serial = x .serial; receipts = x .receipts ++ (receiptOfCall c ∷ []) }) cs)
+      (periodsFrom (call g (issue c)) x cs)
+  unfolding periodsFrom
   issue-sections x cs = refl
 
 module _ (g : Register) (s : Name) where
@@ -148,10 +148,10 @@ module _ (g : Register) (s : Name) where
   unfolding receiptsOf
   change-receipts cs = refl
 
-  pub change-sections : (x : Section) (cs : List Call)
-      → sectionsFrom g x (change s ∷ cs)
-      ≡ ifZero (numberOf g (change s)) (x ∷ sectionsFrom (call g (change s)) (record { serial = s; receipts = [] }) cs) (sectionsFrom (call g (change s)) x cs)
-  unfolding sectionsFrom
+  pub change-sections : (x : Period) (cs : List Call)
+      → periodsFrom g x (change s ∷ cs)
+      ≡ ifZero (numberOf g (change s)) (x ∷ periodsFrom (call g (change s)) (record { serial = s; receipts = [] }) cs) (periodsFrom (call g (change s)) x cs)
+  unfolding periodsFrom
   change-sections x cs = refl
 
 pub issued-number : (st : State) (d : Details) (sig : List ℕ) (room : ℕ) → issued st d sig room .number ≡ issueNumber st d sig room
@@ -186,7 +186,7 @@ issued-typed st d sig room t number small z =
       chain = c .long;
       chainBytes = c .bytes;
       inJournal = omega (arith, a .fits);
-      section = omega (arith, a .sound .section, a .sound .issued, a .details .above);
+      since = omega (arith, a .sound .since, a .sound .issued, a .details .above);
       place = t .place;
     })
 
@@ -226,11 +226,11 @@ pairs-more p ps = refl
 
 -- ---- journal: the entries of pairs
 
-pub placed-more : (s : Settings) (e : Entry) (es : List Entry) → placed s (e ∷ es) ≡ record { settings = s; entry = e } ∷ placed s es
-unfolding placed
+pub placed-more : (s : Settings) (e : Entry) (es : List Entry) → placedUnder s (e ∷ es) ≡ record { settings = s; entry = e } ∷ placedUnder s es
+unfolding placedUnder
 placed-more s e es = refl
 
-pub all-more : (o : Owner) (p : Pair) (ps : List Pair) → allPlaced o (p ∷ ps) ≡ placed (settingsFor o (p .serial)) (p .entries) ++ allPlaced o ps
+pub all-more : (o : Owner) (p : Pair) (ps : List Pair) → allPlaced o (p ∷ ps) ≡ placedUnder (settingsFor o (p .serial)) (p .entries) ++ allPlaced o ps
 unfolding allPlaced
 all-more o p ps = refl
 

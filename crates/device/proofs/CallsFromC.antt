@@ -23,7 +23,7 @@ use Rattle.journal.specs.Opening.{openNumber, openBuffer}
 use Rattle.journal.specs.Issuing.{issued, issueBuffer}
 use Rattle.journal.specs.Changing.{changed, changeBuffer}
 use Rattle.journal.specs.Valid.{Owner, Pair}
-use Rattle.journal.specs.Calls.{TypedOrder, Call, issue, change, TypedCall, issues, changes, TypedCalls, none, more, Register, opening, numberOf, numbersOf, receiptOfCall, receiptsOf, Section, sectionsFrom, call, calls}
+use Rattle.journal.specs.Calls.{TypedOrder, Call, issue, change, TypedCall, issues, changes, TypedCalls, none, more, Register, opening, numberOf, numbersOf, receiptOfCall, receiptsOf, Period, periodsFrom, call, calls}
 use Rattle.journal.specs.declared.state.State.{State}
 use Rattle.journal.specs.declared.state.Opened.{Opened}
 use Rattle.journal.proofs.OpenCalls.{open-zero}
@@ -35,7 +35,7 @@ use Rattle.device.specs.Layout.{stateBytes, nameAt, settingsAt, keyAt, n
 use Rattle.device.specs.Details.{noDetails, dateOf, detailsWith, ofKind, detailsOf}
 use Rattle.device.specs.Calls.{Slices, openedNumber, openedSlices, IssueCall, orderIn, issueAnswer, issuedNumber, issuedSlices, changeAnswer, changedNumber, changedSlices}
 use Rattle.device.specs.Demand as demand
-use Rattle.device.specs.Demand.{TypedIssueCall, CallFromC, issuing, changing, TypedCallFromC, TypedCallsFromC, callIn, numberFromC, slicesAfter, slicesAfterAll, numbersFromC, receiptsFromC, sectionsFromC, registerIn}
+use Rattle.device.specs.Demand.{TypedIssueCall, CallFromC, issuing, changing, TypedCallFromC, TypedCallsFromC, callIn, numberFromC, slicesAfter, slicesAfterAll, numbersFromC, receiptsFromC, periodsFromC, registerIn}
 use Rattle.device.proofs.Below.{opened-number, opening-is, calls-none, calls-more, numbers-none, numbers-more, receipts-none, sections-none, issue-number, issue-call, issue-receipts, issue-sections, change-number, change-call, change-receipts, change-sections, changed-number}
 use Rattle.device.proofs.Sizes.{kept-all, open-six, open-answer}
 use Rattle.device.proofs.Slots.{typed-lengths}
@@ -160,7 +160,7 @@ pub record Same (g : Register) (cs : List CallFromC) : Type 0 where
   pub slices : slicesAfterAll (slicesOf g) cs ≡ slicesOf (calls g (map callIn cs))
   pub numbers : numbersFromC (slicesOf g) cs ≡ numbersOf g (map callIn cs)
   pub receipts : receiptsFromC (slicesOf g) cs ≡ receiptsOf g (map callIn cs)
-  pub sections : (x : Section) → sectionsFromC (slicesOf g) x cs ≡ sectionsFrom g x (map callIn cs)
+  pub periods : (x : Period) → periodsFromC (slicesOf g) x cs ≡ periodsFrom g x (map callIn cs)
   pub typed : TypedState (calls g (map callIn cs) .state)
 
 -- one more call
@@ -174,21 +174,21 @@ module _ (g : Register) (t : TypedState (g .state)) (cs : List CallFromC) where
   more-receipts (changing serial) p =
       ap (λ (x : Slices). receiptsFromC x cs) (after-same g t (changing serial)) ∙ p .receipts ∙ sym (change-receipts g (nameOf serial) (map callIn cs))
 
-  more-sections : (c : CallFromC) → Same (call g (callIn c)) cs → (x : Section) → sectionsFromC (slicesOf g) x (c ∷ cs) ≡ sectionsFrom g x (callIn c ∷ map callIn cs)
-  unfolding sectionsFromC callIn slicesAfter numberFromC
+  more-sections : (c : CallFromC) → Same (call g (callIn c)) cs → (x : Period) → periodsFromC (slicesOf g) x (c ∷ cs) ≡ periodsFrom g x (callIn c ∷ map callIn cs)
+  unfolding periodsFromC callIn slicesAfter numberFromC
   more-sections (issuing c) p x =
       let z = number-same g t (issuing c) in
       let e = after-same g t (issuing c) in
-      let y : Section = record { serial = x .serial; receipts = x .receipts ++ (receiptOfCall (orderIn c) ∷ []) } in
-      let xs = ap (λ (s : Slices). sectionsFromC s y cs) e ∙ p .sections y in
-      let ys = ap (λ (s : Slices). sectionsFromC s x cs) e ∙ p .sections x in
+      let y : Period = record { serial = x .serial; receipts = x .receipts ++ (receiptOfCall (orderIn c) ∷ []) } in
+      let xs = ap (λ (s : Slices). periodsFromC s y cs) e ∙ p .periods y in
+      let ys = ap (λ (s : Slices). periodsFromC s x cs) e ∙ p .periods x in
       (λ i. ifZero (z i) (xs i) (ys i)) ∙ sym (issue-sections g (orderIn c) x (map callIn cs))
   more-sections (changing serial) p x =
       let z = number-same g t (changing serial) in
       let e = after-same g t (changing serial) in
-      let y : Section = record { serial = nameOf serial; receipts = [] } in
-      let xs = ap (λ (s : Slices). sectionsFromC s y cs) e ∙ p .sections y in
-      let ys = ap (λ (s : Slices). sectionsFromC s x cs) e ∙ p .sections x in
+      let y : Period = record { serial = nameOf serial; receipts = [] } in
+      let xs = ap (λ (s : Slices). periodsFromC s y cs) e ∙ p .periods y in
+      let ys = ap (λ (s : Slices). periodsFromC s x cs) e ∙ p .periods x in
       (λ i. ifZero (z i) (x ∷ xs i) (ys i)) ∙ sym (change-sections g (nameOf serial) x (map callIn cs))
 
   more-same : (c : CallFromC) → Same (call g (callIn c)) cs → Same g (c ∷ cs)
@@ -202,19 +202,19 @@ module _ (g : Register) (t : TypedState (g .state)) (cs : List CallFromC) where
         slices = ap (λ (x : Slices). slicesAfterAll x cs) e ∙ p .slices ∙ ap slicesOf m;
         numbers = (λ i. z i ∷ ns i) ∙ sym (numbers-more g (callIn c) (map callIn cs));
         receipts = more-receipts c p;
-        sections = more-sections c p;
+        periods = more-sections c p;
         typed = subst (λ (x : Register). TypedState (x .state)) m (p .typed);
       }
 
 none-same : (g : Register) → TypedState (g .state) → Same g []
-unfolding slicesAfterAll numbersFromC receiptsFromC sectionsFromC
+unfolding slicesAfterAll numbersFromC receiptsFromC periodsFromC
 none-same g t =
     let e = sym (calls-none g) in
     record {
       slices = ap slicesOf e;
       numbers = sym (numbers-none g);
       receipts = sym (receipts-none g);
-      sections = λ x. sym (sections-none g x);
+      periods = λ x. sym (sections-none g x);
       typed = subst (λ (x : Register). TypedState (x .state)) e t;
     }
 

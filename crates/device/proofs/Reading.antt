@@ -61,10 +61,10 @@ pub serials-found : (b : List ℕ) {s₀ s₁ s₂ s₃ s₄ s₅ s₆ s₇ : Na
 unfolding namesAt
 serials-found b e₀ e₁ e₂ e₃ e₄ e₅ e₆ e₇ = λ i. e₀ i ∷ e₁ i ∷ e₂ i ∷ e₃ i ∷ e₄ i ∷ e₅ i ∷ e₆ i ∷ e₇ i ∷ []
 
-pub state-found : (b : List ℕ) {csp : List ℕ} {id : Name} {serials : List Name} {n : ℕ} {key : List ℕ} {z : ℤ} {last issued : ℕ} {chain : List ℕ} {len section place : ℕ}
+pub state-found : (b : List ℕ) {csp : List ℕ} {id : Name} {serials : List Name} {n : ℕ} {key : List ℕ} {z : ℤ} {last issued : ℕ} {chain : List ℕ} {len since place : ℕ}
     → csp ≡ take 3 (drop 0 b) → id ≡ nameAt b 3 → serials ≡ namesAt b 43 8 → n ≡ countAt b 363 8 → key ≡ take 32 (drop 371 b)
     → z ≡ counterValue 8 (take 8 (drop 403 b)) → last ≡ countAt b 411 4 → issued ≡ countAt b 415 4 → chain ≡ take 8 (drop 419 b) → len ≡ countAt b 427 8
-    → section ≡ countAt b 435 4 → place ≡ countAt b 439 8
+    → since ≡ countAt b 435 4 → place ≡ countAt b 439 8
     → record {
       csp = csp;
       id = id;
@@ -76,7 +76,7 @@ pub state-found : (b : List ℕ) {csp : List ℕ} {id : Name} {serials : List Na
       issued = issued;
       chain = chain;
       length = len;
-      section = section;
+      since = since;
       place = place;
     }
     ≡ stateAt b
@@ -93,6 +93,6 @@ state-found b e₁ e₂ e₃ e₄ e₅ e₆ e₇ e₈ e₉ e₁₀ e₁₁ e₁�
       issued = e₈ i;
       chain = e₉ i;
       length = e₁₀ i;
-      section = e₁₁ i;
+      since = e₁₁ i;
       place = e₁₂ i;
     }

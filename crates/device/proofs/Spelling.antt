@@ -114,11 +114,11 @@ module _ (st : State) (t : TypedState st) where
   abbrev from-place : List ℕ
   from-place = bytesOf 8 (st .place) ++ []
 
-  abbrev from-section : List ℕ
-  from-section = bytesOf 4 (st .section) ++ from-place
+  abbrev from-since : List ℕ
+  from-since = bytesOf 4 (st .since) ++ from-place
 
   abbrev from-length : List ℕ
-  from-length = bytesOf 8 (st .length) ++ from-section
+  from-length = bytesOf 8 (st .length) ++ from-since
 
   abbrev from-chain : List ℕ
   from-chain = st .chain ++ from-length
@@ -164,8 +164,8 @@ module _ (st : State) (t : TypedState st) where
       let d₈ = part-after l 411 4 (bytesOf 4 (st .last)) from-issued d₇ (length-bytesOf 4 (st .last)) in
       let d₉ = part-after l 415 4 (bytesOf 4 (st .issued)) from-chain d₈ (length-bytesOf 4 (st .issued)) in
       let d₁₀ = part-after l 419 8 (st .chain) from-length d₉ (t .chain) in
-      let d₁₁ = part-after l 427 8 (bytesOf 8 (st .length)) from-section d₁₀ (length-bytesOf 8 (st .length)) in
-      let d₁₂ = part-after l 435 4 (bytesOf 4 (st .section)) from-place d₁₁ (length-bytesOf 4 (st .section)) in
+      let d₁₁ = part-after l 427 8 (bytesOf 8 (st .length)) from-since d₁₀ (length-bytesOf 8 (st .length)) in
+      let d₁₂ = part-after l 435 4 (bytesOf 4 (st .since)) from-place d₁₁ (length-bytesOf 4 (st .since)) in
       let csp = part-here l 0 3 (st .csp) from-states-id d₁ (t .csp) in
       let id = name-here l 3 (st .id) from-serials d₂ (t .id .long) (t .id .small) in
       let serials = ap (namesAt l 43) (sym (t .eight)) ∙ names-here l 43 (st .serials) from-states-width d₃ (λ i h. t .serials i (omega (arith, t .eight))) in
@@ -176,8 +176,8 @@ module _ (st : State) (t : TypedState st) where
       let last = count-here l 411 4 (st .last) from-issued d₇ (omega (arith, t .last)) in
       let issued = count-here l 415 4 (st .issued) from-chain d₈ (omega (arith, t .issued)) in
       let chain = part-here l 419 8 (st .chain) from-length d₉ (t .chain) in
-      let len = count-here l 427 8 (st .length) from-section d₁₀ (omega (arith, t .inJournal)) in
-      let section = count-here l 435 4 (st .section) from-place d₁₁ (omega (arith, t .section)) in
+      let len = count-here l 427 8 (st .length) from-since d₁₀ (omega (arith, t .inJournal)) in
+      let since = count-here l 435 4 (st .since) from-place d₁₁ (omega (arith, t .since)) in
       let place = count-here l 439 8 (st .place) [] d₁₂ (omega (arith, t .place)) in
       λ i. record {
         csp = csp i;
@@ -190,7 +190,7 @@ module _ (st : State) (t : TypedState st) where
         issued = issued i;
         chain = chain i;
         length = len i;
-        section = section i;
+        since = since i;
         place = place i;
       }
 
@@ -245,7 +245,7 @@ module _ (b : List ℕ) (a : AllBytes b) where
 
     figures-split : (y : List ℕ) (st : State)
         → y ++ figuresBytes st
-        ≡ y ++ counterBytes 8 (st .counter) ++ bytesOf 4 (st .last) ++ bytesOf 4 (st .issued) ++ st .chain ++ bytesOf 8 (st .length) ++ bytesOf 4 (st .section)
+        ≡ y ++ counterBytes 8 (st .counter) ++ bytesOf 4 (st .last) ++ bytesOf 4 (st .issued) ++ st .chain ++ bytesOf 8 (st .length) ++ bytesOf 4 (st .since)
         ++ bytesOf 8 (st .place)
     unfolding figuresBytes
     figures-split y st = simp append-assoc
@@ -319,6 +319,6 @@ module _ (b : List ℕ) (a : AllBytes b) where
         chain = part-length b a 419 8 (omega arith);
         chainBytes = bytes-take 8 (bytes-drop 419 a);
         inJournal = omega (arith, count-lt b a 427 8 (omega arith));
-        section = omega (arith, count-lt b a 435 4 (omega arith));
+        since = omega (arith, count-lt b a 435 4 (omega arith));
         place = omega (arith, count-lt b a 439 8 (omega arith));
       })

@@ -1,4 +1,4 @@
--- What holds of the calls that take a state: a refused one, one with a state of version 1, and the settings with one of its serials.
+-- What holds of the calls that take a state: a refused one, one with a state of another length, and the settings with one of its serials.
 use Prim.Native.Nat.{ℕ}
 use mathlib.Core.Path.{_≡_, refl, sym, ap, _∙_, subst}
 use mathlib.Core.Bool.{Bool, true, false}
@@ -12,14 +12,14 @@ use Rattle.receipt.specs.Settings.{nameOf}
 use Rattle.journal.specs.State.{noName, used, unopened, TypedName, TypedRegister, TypedState}
 use Rattle.journal.specs.Issuing.{issued}
 use Rattle.journal.specs.Changing.{changed}
+use Rattle.journal.specs.Preparing.{prepareNumber}
 use Rattle.journal.specs.declared.state.State.{State}
-use Rattle.journal.specs.declared.state.TakenOver.{TakenOver}
 use Rattle.journal.proofs.Refusals.{refused-changes-nothing}
 use Rattle.journal.proofs.Serials.{used-length}
 use Rattle.device.specs.Layout.{stateOf, kept}
 use Rattle.device.specs.Details.{noDetails}
 use Rattle.device.specs.Calls.{Slices, serialIn, settingsIn, settingsInBuffer, openedNumber, openedSlices, IssueCall, orderIn, issueAnswer, issuedNumber, issuedSlices, changeAnswer, changedNumber, changedSlices}
-use Rattle.device.specs.Laws.{RefusedIssueKeepsSlices, RefusedChangeKeepsSlices, OldStatesGetSix, SettingsOfSerial}
+use Rattle.device.specs.Laws.{RefusedIssueKeepsSlices, RefusedChangeKeepsSlices, OtherLengthsGetSix, SettingsOfSerial}
 use Rattle.device.proofs.Below.{issued-number, changed-number}
 use Rattle.device.proofs.Sizes.{state-none, kept-not, take-six}
 use Rattle.device.proofs.Spelling.{settings-are-read, kept-as-it-was}
@@ -49,12 +49,9 @@ refused-issue-keeps-slices g a c h = issue-left g c h (kept-as-it-was (g .state)
 pub refused-change-keeps-slices : RefusedChangeKeepsSlices
 refused-change-keeps-slices g a serial h = change-left g serial h (kept-as-it-was (g .state) a)
 
--- ---- a state of version 1 is not 447 bytes long
+-- ---- a state that is not 447 bytes long
 
-module _ (g : Slices) (e : length (g .state) ≡ 155) where
-  not-long : length (g .state) ≡ 447 → ⊥
-  not-long q = absurd (omega (arith, e, q))
-
+module _ (g : Slices) (not-long : length (g .state) ≡ 447 → ⊥) where
   open-six : (settings : List ℕ) (shared : Bool) → (openedNumber settings shared g ≡ 6) × (openedSlices settings shared g ≡ g)
   open-six settings shared =
       let p = open-none settings shared g not-long in
@@ -80,13 +77,14 @@ module _ (g : Slices) (e : length (g .state) ≡ 155) where
   kept-old : kept (g .state) (stateOf (g .state)) ≡ g .state
   kept-old = kept-not (g .state) (stateOf (g .state)) not-long
 
-pub old-states-get-six : OldStatesGetSix
-old-states-get-six =
+pub other-lengths-get-six : OtherLengthsGetSix
+other-lengths-get-six =
     record {
       opens = λ settings shared g e. open-six g e settings shared;
       issues = λ g c e. (issue-six g e c, issue-left g c (λ z. omega (arith, z, issue-six g e c)) (kept-old g e));
       changes = λ g serial e. (change-six g e serial, change-left g serial (λ z. omega (arith, z, change-six g e serial)) (kept-old g e));
-      takes = λ j key n. ap (λ (x : TakenOver). x .number) (take-six j key n 155 (λ q. omega (arith, q)));
+      prepares = λ state d room e. ap (λ (x : State). prepareNumber x d room) (state-none state e) ∙ unopened-gets-six d [] noName room .1;
+      takes = λ j key n state e. (take-six j key n (length state) e, kept-not state unopened e);
     }
 
 -- ---- the settings with one of the serials

@@ -116,7 +116,7 @@ module _ (st : State) where
   countsBytes = counterBytes 8 (st .counter) ++ bytesOf 4 (st .last) ++ bytesOf 4 (st .issued)
 
   abbrev chainBytes : List ℕ
-  chainBytes = st .chain ++ bytesOf 8 (st .length) ++ bytesOf 4 (st .section) ++ bytesOf 8 (st .place)
+  chainBytes = st .chain ++ bytesOf 8 (st .length) ++ bytesOf 4 (st .since) ++ bytesOf 8 (st .place)
 
   last-long : length (counterBytes 8 (st .counter) ++ bytesOf 4 (st .last)) ≡ 12
   last-long =
@@ -135,12 +135,12 @@ module _ (st : State) where
     length-long : length (st .chain ++ bytesOf 8 (st .length)) ≡ 16
     length-long = length-append (st .chain) (bytesOf 8 (st .length)) ∙ omega (arith, length-bytesOf 8 (st .length))
 
-    section-long : length (st .chain ++ bytesOf 8 (st .length) ++ bytesOf 4 (st .section)) ≡ 20
-    section-long = length-append (st .chain ++ bytesOf 8 (st .length)) (bytesOf 4 (st .section)) ∙ omega (arith, length-long, length-bytesOf 4 (st .section))
+    since-long : length (st .chain ++ bytesOf 8 (st .length) ++ bytesOf 4 (st .since)) ≡ 20
+    since-long = length-append (st .chain ++ bytesOf 8 (st .length)) (bytesOf 4 (st .since)) ∙ omega (arith, length-long, length-bytesOf 4 (st .since))
 
     chain-long : length chainBytes ≡ 28
     chain-long =
-        length-append (st .chain ++ bytesOf 8 (st .length) ++ bytesOf 4 (st .section)) (bytesOf 8 (st .place)) ∙ omega (arith, section-long, length-bytesOf 8 (st .place))
+        length-append (st .chain ++ bytesOf 8 (st .length) ++ bytesOf 4 (st .since)) (bytesOf 8 (st .place)) ∙ omega (arith, since-long, length-bytesOf 8 (st .place))
 
   module _ (t : Lengths st) where
     serials-long : length (st .csp ++ nameBytes (st .id) ++ namesBytes (st .serials)) ≡ 363
@@ -196,18 +196,18 @@ module _ (st : State) where
         then-placed b (counterBytes 8 z ++ bytesOf 4 (st .last)) (bytesOf 4 (st .issued)) 403 415 w e₃ (omega arith) (omega arith)
 
     pub put-chain : {b₁ b₂ b₃ b₄ : List ℕ} → length (st .chain) ≡ 8 → 447 ≤ length b → b₁ ≡ placed b 419 (st .chain) → b₂ ≡ placed b₁ 427 (bytesOf 8 (st .length))
-        → b₃ ≡ placed b₂ 435 (bytesOf 4 (st .section)) → b₄ ≡ placed b₃ 439 (bytesOf 8 (st .place)) → b₄ ≡ overwrite b 419 chainBytes
+        → b₃ ≡ placed b₂ 435 (bytesOf 4 (st .since)) → b₄ ≡ placed b₃ 439 (bytesOf 8 (st .place)) → b₄ ≡ overwrite b 419 chainBytes
     put-chain t h e₁ e₂ e₃ e₄ =
         let p₁ = st .chain in
         let p₂ = p₁ ++ bytesOf 8 (st .length) in
         let l₂ = length-bytesOf 8 (st .length) in
-        let l₃ = length-bytesOf 4 (st .section) in
+        let l₃ = length-bytesOf 4 (st .since) in
         let l₄ = length-bytesOf 8 (st .place) in
         let l₅ = length-long t in
-        let l₆ = section-long t in
+        let l₆ = since-long t in
         let w₁ = both-placed b p₁ (bytesOf 8 (st .length)) 419 427 e₁ e₂ (omega arith) (omega arith) in
-        let w₂ = then-placed b p₂ (bytesOf 4 (st .section)) 419 435 w₁ e₃ (omega arith) (omega arith) in
-        then-placed b (p₂ ++ bytesOf 4 (st .section)) (bytesOf 8 (st .place)) 419 439 w₂ e₄ (omega arith) (omega arith)
+        let w₂ = then-placed b p₂ (bytesOf 4 (st .since)) 419 435 w₁ e₃ (omega arith) (omega arith) in
+        then-placed b (p₂ ++ bytesOf 4 (st .since)) (bytesOf 8 (st .place)) 419 439 w₂ e₄ (omega arith) (omega arith)
 
     pub put-state : {b₁ b₂ b₃ : List ℕ} → Lengths st → length b ≡ 447 → b₁ ≡ overwrite b 0 (registerBytes st) → b₂ ≡ overwrite b₁ 403 countsBytes
         → b₃ ≡ overwrite b₂ 419 chainBytes → b₃ ≡ stateBytes st

@@ -15,7 +15,7 @@ use Rattle.receipt.specs.declared.details.Details.{Details}
 use Rattle.receipt.specs.declared.entry.Entry.{Entry}
 use Rattle.journal.specs.Receipts.{Receipt, receiptsIn, sum}
 use Rattle.journal.specs.Valid.{Pair, entriesIn, Valid, headOf}
-use Rattle.journal.specs.Calls.{Call, issue, change, Register, opening, numbersOf, receiptOfCall, Section, sectionsIn, orderOf}
+use Rattle.journal.specs.Calls.{Call, issue, change, Register, opening, numbersOf, receiptOfCall, Period, periodsIn, orderOf}
 use Rattle.device.specs.Layout.{settingsOf, widthOf, keyOf, stateOf, kept}
 use Rattle.device.specs.Details.{kindNumber}
 use Rattle.device.specs.Calls.{settingsFrom, widthWith, settingsAnswer, settingsBuffer, Slices, openedNumber, openedSlices, IssueCall, callWith, orderIn, issuedNumber, issuedSlices, changedNumber, changedSlices, takeOverAnswer}
@@ -84,16 +84,16 @@ receiptsFromC g (issuing c ∷ cs) =
     ifZero (issuedNumber g c) (receiptOfCall (orderIn c) ∷ receiptsFromC (issuedSlices g c) cs) (receiptsFromC (issuedSlices g c) cs)
 receiptsFromC g (changing serial ∷ cs) = receiptsFromC (changedSlices g serial) cs
 
--- the sections that the calls make which return 0
-unfoldable pub sectionsFromC : Slices → Section → List CallFromC → List Section
-sectionsFromC g x [] = x ∷ []
-sectionsFromC g x (issuing c ∷ cs) =
+-- the periods that the calls make which return 0
+unfoldable pub periodsFromC : Slices → Period → List CallFromC → List Period
+periodsFromC g x [] = x ∷ []
+periodsFromC g x (issuing c ∷ cs) =
     ifZero (issuedNumber g c)
-    (sectionsFromC (issuedSlices g c) (record { serial = x .serial; receipts = x .receipts ++ (receiptOfCall (orderIn c) ∷ []) }) cs)
-    (sectionsFromC (issuedSlices g c) x cs)
-sectionsFromC g x (changing serial ∷ cs) =
-    ifZero (changedNumber g serial) (x ∷ sectionsFromC (changedSlices g serial) (record { serial = nameOf serial; receipts = [] }) cs)
-    (sectionsFromC (changedSlices g serial) x cs)
+    (periodsFromC (issuedSlices g c) (record { serial = x .serial; receipts = x .receipts ++ (receiptOfCall (orderIn c) ∷ []) }) cs)
+    (periodsFromC (issuedSlices g c) x cs)
+periodsFromC g x (changing serial ∷ cs) =
+    ifZero (changedNumber g serial) (x ∷ periodsFromC (changedSlices g serial) (record { serial = nameOf serial; receipts = [] }) cs)
+    (periodsFromC (changedSlices g serial) x cs)
 
 -- the journal: as many bytes as ditgrux_journal_length says
 unfoldable pub journalIn : Slices → List ℕ
@@ -114,9 +114,9 @@ AcceptedIsValidInC =
 abbrev pub registerIn : List ℕ → Bool → List ℕ → Register
 registerIn settings shared buffer = opening (settingsOf settings) (keyOf settings) shared (widthOf settings) buffer
 
--- what holds of the slices that the calls left, and of the receipts rs and the sections xs of those that returned 0, since ditgrux_open or
+-- what holds of the slices that the calls left, and of the receipts rs and the periods xs of those that returned 0, since ditgrux_open or
 -- ditgrux_open_shared got these settings
-pub record WrittenInC (settings : List ℕ) (left : Slices) (rs : List Receipt) (xs : List Section) : Type 0 where
+pub record WrittenInC (settings : List ℕ) (left : Slices) (rs : List Receipt) (xs : List Period) : Type 0 where
   -- ditgrux_take_over accepts the journal under the key and the width of the settings, with the register's own state
   pub taken : takeOverAnswer (journalIn left) (keyOf settings) (widthOf settings) 447 ≡ record { number = 0; index = 0; state = stateOf (left .state) }
   -- the bytes that it writes into any state's slice are those of the register's state
@@ -125,7 +125,7 @@ pub record WrittenInC (settings : List ℕ) (left : Slices) (rs : List Receipt) 
   pub valid : Valid (journalIn left) (keyOf settings) (widthOf settings)
   pub receipts : (v : Valid (journalIn left) (keyOf settings) (widthOf settings)) → receiptsIn (entriesIn (v .pairs)) ≡ rs
   -- each under the serial that was the newest when it was issued
-  pub sections : (v : Valid (journalIn left) (keyOf settings) (widthOf settings)) → sectionsIn (v .pairs) ≡ xs
+  pub periods : (v : Valid (journalIn left) (keyOf settings) (widthOf settings)) → periodsIn (v .pairs) ≡ xs
   -- the counter that ditgrux_counter returns is the sum of their amounts
   pub counter : stateOf (left .state) .counter ≡ sum rs
 
@@ -135,7 +135,7 @@ WrittenIsAcceptedInC =
     (settings : List ℕ) (shared : Bool) (g : Slices) → AllBytes settings → length (g .journal) < 18446744073709551616 → openedNumber settings shared g ≡ 0
     → (cs : List CallFromC) → TypedCallsFromC cs
     → WrittenInC settings (slicesAfterAll (openedSlices settings shared g) cs) (receiptsFromC (openedSlices settings shared g) cs)
-    (sectionsFromC (openedSlices settings shared g) (record { serial = settingsOf settings .serial; receipts = [] }) cs)
+    (periodsFromC (openedSlices settings shared g) (record { serial = settingsOf settings .serial; receipts = [] }) cs)
     × (numbersFromC (openedSlices settings shared g) cs ≡ numbersOf (registerIn settings shared (g .journal)) (map callIn cs))
 
 -- ---- what is accepted is written

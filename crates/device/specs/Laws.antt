@@ -96,19 +96,22 @@ RefusedOpenKeepsJournal =
 abbrev pub RefusedIssueKeepsSlices : Type 0
 RefusedIssueKeepsSlices = (g : Slices) → AllBytes (g .state) → (c : IssueCall) → (issuedNumber g c ≡ 0 → ⊥) → issuedSlices g c ≡ g
 
--- nor does a refused ditgrux_change
+-- and so does a refused ditgrux_change
 abbrev pub RefusedChangeKeepsSlices : Type 0
 RefusedChangeKeepsSlices =
     (g : Slices) → AllBytes (g .state) → (serial : List ℕ) → (changedNumber g serial ≡ 0 → ⊥) → changedSlices g serial ≡ g
 
--- ---- states of version 1
+-- ---- a state that is not 447 bytes long, such as the 155 bytes of version 1
 
--- they were 155 bytes long: each call that takes a state gets 6 with them, and leaves their bytes
-pub record OldStatesGetSix : Type 0 where
-  pub opens : (settings : List ℕ) (shared : Bool) (g : Slices) → length (g .state) ≡ 155 → (openedNumber settings shared g ≡ 6) × (openedSlices settings shared g ≡ g)
-  pub issues : (g : Slices) (c : IssueCall) → length (g .state) ≡ 155 → (issuedNumber g c ≡ 6) × (issuedSlices g c ≡ g)
-  pub changes : (g : Slices) (serial : List ℕ) → length (g .state) ≡ 155 → (changedNumber g serial ≡ 6) × (changedSlices g serial ≡ g)
-  pub takes : (j key : List ℕ) (n : ℕ) → takeOverAnswer j key n 155 .number ≡ 6
+-- it is left as it was: Open, Issue, Change, Prepare and Take over get 6 with it
+pub record OtherLengthsGetSix : Type 0 where
+  pub opens : (settings : List ℕ) (shared : Bool) (g : Slices) → (length (g .state) ≡ 447 → ⊥)
+      → (openedNumber settings shared g ≡ 6) × (openedSlices settings shared g ≡ g)
+  pub issues : (g : Slices) (c : IssueCall) → (length (g .state) ≡ 447 → ⊥) → (issuedNumber g c ≡ 6) × (issuedSlices g c ≡ g)
+  pub changes : (g : Slices) (serial : List ℕ) → (length (g .state) ≡ 447 → ⊥) → (changedNumber g serial ≡ 6) × (changedSlices g serial ≡ g)
+  pub prepares : (state : List ℕ) (d : Details) (room : ℕ) → (length state ≡ 447 → ⊥) → prepareNumber (stateOf state) d room ≡ 6
+  pub takes : (j key : List ℕ) (n : ℕ) (state : List ℕ) → (length state ≡ 447 → ⊥)
+      → (takeOverAnswer j key n (length state) ≡ record { number = 6; index = 0; state = unopened }) × (kept state unopened ≡ state)
 
 -- ---- the serials of a state
 

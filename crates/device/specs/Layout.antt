@@ -40,7 +40,7 @@ registerBytes st = st .csp ++ nameBytes (st .id) ++ namesBytes (st .serials) ++ 
 -- then the receipts in the open section, and the place of its count: 4 and 8
 unfoldable pub figuresBytes : State → List ℕ
 figuresBytes st =
-    counterBytes 8 (st .counter) ++ bytesOf 4 (st .last) ++ bytesOf 4 (st .issued) ++ st .chain ++ bytesOf 8 (st .length) ++ bytesOf 4 (st .section)
+    counterBytes 8 (st .counter) ++ bytesOf 4 (st .last) ++ bytesOf 4 (st .issued) ++ st .chain ++ bytesOf 8 (st .length) ++ bytesOf 4 (st .since)
     ++ bytesOf 8 (st .place)
 
 unfoldable pub stateBytes : State → List ℕ
@@ -79,7 +79,7 @@ stateAt b =
       issued = countAt b 415 4;
       chain = take 8 (drop 419 b);
       length = countAt b 427 8;
-      section = countAt b 435 4;
+      since = countAt b 435 4;
       place = countAt b 439 8;
     }
 

@@ -151,7 +151,7 @@ fn state_at(b: &[u8]) -> State
     let issued = word_at(b, 415);
     let chain = array8_at(b, 419);
     let length = long_at(b, 427);
-    let section = word_at(b, 435);
+    let since = word_at(b, 435);
     let place = long_at(b, 439);
     State {
         csp,
@@ -164,7 +164,7 @@ fn state_at(b: &[u8]) -> State
         issued,
         chain,
         length,
-        section,
+        since,
         place,
     }
 }
@@ -307,12 +307,12 @@ fn put_counts(st: State, out: &mut [u8])
 fn put_chain(st: State, out: &mut [u8])
     requires { ⌜ 447 ≤ length (now out) ⌝ }
     ensures { λ _.
-        ⌜ now (out .exit) ≡ overwrite (now (out .entry)) 419 (st .chain ++ bytesOf 8 (st .length) ++ bytesOf 4 (st .section) ++ bytesOf 8 (st .place)) ⌝ }
+        ⌜ now (out .exit) ≡ overwrite (now (out .entry)) 419 (st .chain ++ bytesOf 8 (st .length) ++ bytesOf 4 (st .since) ++ bytesOf 8 (st .place)) ⌝ }
 {
     let chain = st.chain;
     let _ = receipt::put(out, 419, &chain);
     let _ = receipt::put_number(out, 427, 8, st.length as u64);
-    let _ = receipt::put_number(out, 435, 4, st.section as u64);
+    let _ = receipt::put_number(out, 435, 4, st.since as u64);
     let _ = receipt::put_number(out, 439, 8, st.place as u64);
 }
 

@@ -39,7 +39,7 @@ use Rattle.journal.specs.Opening.{openNumber}
 use Rattle.journal.specs.Issuing.{signatureSized, givenSignature, entryOf, textOf, issueNumber}
 use Rattle.journal.specs.Changing.{changeNumber}
 use Rattle.journal.specs.Checking.{accepted, takeOver}
-use Rattle.journal.specs.Valid.{Owner, Pair, settingsFor, texts, pairTexts, ownerText, journalText, Placed, placed, allPlaced, serialsOf, GoodOwner, Valid, headOf}
+use Rattle.journal.specs.Valid.{Owner, Pair, settingsFor, texts, pairTexts, ownerText, journalText, Placed, placedUnder, allPlaced, serialsOf, GoodOwner, Valid, headOf}
 use Rattle.journal.specs.Calls.{Order, TypedOrder, Call, issue, change, issues, changes, TypedCalls, none, more, Register, opening, numberOf, call, calls, callsWithin, numbersOf, orderOf, issuesOf, laterCalls, callsOf}
 use Rattle.journal.specs.Demands.{beforeCount, Again, AcceptedIsWritten}
 use Rattle.journal.specs.declared.state.State.{State}
@@ -181,8 +181,8 @@ start-bounds : (n : ℕ) (o : Owner) → widthGood n ≡ true → Bounds n (star
 unfolding startCore
 start-bounds n o w = record { issued = omega arith; counter = zero-fits n w }
 
-length-placed : (s : Settings) (es : List Entry) → length (placed s es) ≡ length es
-unfolding placed
+length-placed : (s : Settings) (es : List Entry) → length (placedUnder s es) ≡ length es
+unfolding placedUnder
 length-placed s [] = refl
 length-placed s (e ∷ es) = ap suc (length-placed s es)
 
@@ -198,7 +198,7 @@ last-length o ps p =
     omega (
       arith,
       ap length (last-placed o ps p),
-      length-append (allPlaced o ps) (placed (settingsFor o (p .serial)) (p .entries)),
+      length-append (allPlaced o ps) (placedUnder (settingsFor o (p .serial)) (p .entries)),
       length-placed (settingsFor o (p .serial)) (p .entries),
     )
 
@@ -241,7 +241,7 @@ run-sound k n o ps p w =
       width = ap widthGood (base .width) ∙ w .width;
       counter = (λ i. counterFits (base .width i) (c i .counter)) ∙ b .counter;
       issued = subst (λ (x : Core). x .issued ≤ x .last) (sym c) (b .issued);
-      section = omega (arith, q .section, ic, last-length o ps p);
+      since = omega (arith, q .since, ic, last-length o ps p);
       place =
           omega (
             arith,
@@ -310,8 +310,8 @@ core-wider n o ps p e =
     ap (runCore n (startCore o)) (all-wider o ps p e) ∙ run-append n (startCore o) (allPlaced o (ps ++ (p ∷ []))) (under o (p .serial) e ∷ [])
 
 core-snoc : (n : ℕ) (o : Owner) (ps : List Pair) (q : Pair)
-    → coreOfPairs n o (ps ++ (q ∷ [])) ≡ runCore n (coreOfPairs n o ps) (placed (settingsFor o (q .serial)) (q .entries))
-core-snoc n o ps q = ap (runCore n (startCore o)) (last-placed o ps q) ∙ run-append n (startCore o) (allPlaced o ps) (placed (settingsFor o (q .serial)) (q .entries))
+    → coreOfPairs n o (ps ++ (q ∷ [])) ≡ runCore n (coreOfPairs n o ps) (placedUnder (settingsFor o (q .serial)) (q .entries))
+core-snoc n o ps q = ap (runCore n (startCore o)) (last-placed o ps q) ∙ run-append n (startCore o) (allPlaced o ps) (placedUnder (settingsFor o (q .serial)) (q .entries))
 
 number-issue : (g : Register) (c : Order) → issueNumber (g .state) (c .details) (c .signature) (length (g .buf)) ≡ 0 → numberOf g (issue c) ≡ 0
 unfolding numberOf
@@ -357,9 +357,9 @@ module _ (k : List ℕ) (n : ℕ) (o : Owner) (kb : AllBytes k) (g : Register) (
       ∙ (step-length (g .state) e ∙ omega (arith, length-text))
 
 again-entries : (k : List ℕ) (n : ℕ) (o : Owner) → AllBytes k → (es : List Entry) (g : Register) (ps : List Pair) (p : Pair) → Holds k n o g (ps ++ (p ∷ []))
-    → AllRight k n (coreOfPairs n o (ps ++ (p ∷ []))) (placed (settingsFor o (p .serial)) es) → g .state .length + length (texts (settingsFor o (p .serial)) n es) ≤ length (g .buf)
+    → AllRight k n (coreOfPairs n o (ps ++ (p ∷ []))) (placedUnder (settingsFor o (p .serial)) es) → g .state .length + length (texts (settingsFor o (p .serial)) n es) ≤ length (g .buf)
     → Redone k n o g (issuesOf es) (ps ++ (record { serial = p .serial; entries = p .entries ++ es } ∷ []))
-unfolding issuesOf placed texts
+unfolding issuesOf placedUnder texts
 again-entries k n o kb [] g ps p h r l =
     redone-none k n o g (ps ++ (record { serial = p .serial; entries = p .entries ++ [] } ∷ []))
     (subst (λ (es : List Entry). Holds k n o g (ps ++ (record { serial = p .serial; entries = es } ∷ []))) (sym (append-nil (p .entries))) h)
@@ -370,7 +370,7 @@ again-entries k n o kb (e ∷ es) g ps p h (placing.more x xs) l =
     let room : g .state .length + length t ≤ length (g .buf) = omega (arith, la, l) in
     let c = issue (orderOf e) in
     let r = again-entries k n o kb es (call g c) ps (wider p e) (one-holds k n o kb g ps p h e x room)
-    (subst (λ (d : Core). AllRight k n d (placed (settingsFor o s) es)) (sym (core-wider n o ps p e)) xs)
+    (subst (λ (d : Core). AllRight k n d (placedUnder (settingsFor o s) es)) (sym (core-wider n o ps p e)) xs)
     (omega (arith, la, l, one-long k n o kb g ps p h e x room, one-length k n o kb g ps p h e x room)) in
     redone-more k n o g c (issuesOf es) (ps ++ (record { serial = s; entries = p .entries ++ (e ∷ es) } ∷ [])) (one-zero k n o kb g ps p h e x room) (one-long k n o kb g ps p h e x room)
     (subst (λ (ys : List Entry). Redone k n o (call g c) (issuesOf es) (ps ++ (record { serial = s; entries = ys } ∷ []))) (append-assoc (p .entries) (e ∷ []) es) r)
@@ -402,10 +402,10 @@ again-pairs k n o kb (q ∷ qs) g ps p h r (placing.more b ns) l =
     let w = change-holds k n o g ps p h s z (b .typed) in
     let g₁ = call g (change s) in
     let l₁ : g₁ .state .length ≡ st .length + 8 + s .len = ap (λ (y : State). y .length) (change-state g s z) ∙ renewed-length st s in
-    let rs = right-split k n (coreOfPairs n o xs) (placed (settingsFor o s) (q .entries)) (allPlaced o qs) r in
+    let rs = right-split k n (coreOfPairs n o xs) (placedUnder (settingsFor o s) (q .entries)) (allPlaced o qs) r in
     let e₁ : coreOfPairs n o xs ≡ coreOfPairs n o (xs ++ (emptyPair s ∷ [])) = ap (runCore n (startCore o)) (sym (all-empty o xs s)) in
     let a : Redone k n o g₁ (issuesOf (q .entries)) (xs ++ (q ∷ [])) =
-    again-entries k n o kb (q .entries) g₁ xs (emptyPair s) (w .0) (subst (λ (d : Core). AllRight k n d (placed (settingsFor o s) (q .entries))) e₁ (rs .0)) (omega (arith, l₁, pl, ql, l, w .1)) in
+    again-entries k n o kb (q .entries) g₁ xs (emptyPair s) (w .0) (subst (λ (d : Core). AllRight k n d (placedUnder (settingsFor o s) (q .entries))) e₁ (rs .0)) (omega (arith, l₁, pl, ql, l, w .1)) in
     let g₂ = calls g₁ (issuesOf (q .entries)) in
     let l₂ = holds-length k n o g₂ xs q (a .holds) in
     let c : Redone k n o g₂ (laterCalls qs) (xs ++ (q ∷ qs)) =
@@ -418,8 +418,8 @@ again-pairs k n o kb (q ∷ qs) g ps p h r (placing.more b ns) l =
 
 -- ---- what the code's types say of the calls
 
-issues-typed : (k : List ℕ) (n : ℕ) (c : Core) (s : Settings) (es : List Entry) (more-calls : List Call) → AllRight k n c (placed s es) → TypedCalls more-calls → TypedCalls (issuesOf es ++ more-calls)
-unfolding issuesOf placed
+issues-typed : (k : List ℕ) (n : ℕ) (c : Core) (s : Settings) (es : List Entry) (more-calls : List Call) → AllRight k n c (placedUnder s es) → TypedCalls more-calls → TypedCalls (issuesOf es ++ more-calls)
+unfolding issuesOf placedUnder
 issues-typed k n c s [] cs placing.none t = t
 issues-typed k n c s (e ∷ es) cs (placing.more h hs) t = more (issues (order-typed e (h .typed))) (issues-typed k n (stepCore n c (record { settings = s; entry = e })) s es cs hs t)
 
@@ -428,8 +428,8 @@ unfolding laterCalls allPlaced
 later-typed k n o c us [] h ns = none
 later-typed k n o c us (p ∷ ps) h (placing.more b ns) =
     let s = settingsFor o (p .serial) in
-    let hs = right-split k n c (placed s (p .entries)) (allPlaced o ps) h in
-    more (changes (b .typed)) (issues-typed k n c s (p .entries) (laterCalls ps) (hs .0) (later-typed k n o (runCore n c (placed s (p .entries))) (us ++ (p .serial ∷ [])) ps (hs .1) ns))
+    let hs = right-split k n c (placedUnder s (p .entries)) (allPlaced o ps) h in
+    more (changes (b .typed)) (issues-typed k n c s (p .entries) (laterCalls ps) (hs .0) (later-typed k n o (runCore n c (placedUnder s (p .entries))) (us ++ (p .serial ∷ [])) ps (hs .1) ns))
 
 -- ---- the journal
 
@@ -445,12 +445,12 @@ record Rewritten (k : List ℕ) (n : ℕ) (o : Owner) (ps : List Pair) (buf : Li
   first-long : length (opening (headOf o ps) k false n buf .buf) ≡ length buf
 
 empty-core : (n : ℕ) (o : Owner) (s : Name) → startCore o ≡ coreOfPairs n o (emptyPair s ∷ [])
-unfolding runCore allPlaced placed
+unfolding runCore allPlaced placedUnder
 empty-core n o s = refl
 
-first-core : (n : ℕ) (o : Owner) (p : Pair) → runCore n (startCore o) (placed (settingsFor o (p .serial)) (p .entries)) ≡ coreOfPairs n o (p ∷ [])
+first-core : (n : ℕ) (o : Owner) (p : Pair) → runCore n (startCore o) (placedUnder (settingsFor o (p .serial)) (p .entries)) ≡ coreOfPairs n o (p ∷ [])
 unfolding allPlaced
-first-core n o p = ap (runCore n (startCore o)) (sym (append-nil (placed (settingsFor o (p .serial)) (p .entries))))
+first-core n o p = ap (runCore n (startCore o)) (sym (append-nil (placedUnder (settingsFor o (p .serial)) (p .entries))))
 
 no-texts : (s : Settings) (n : ℕ) → length (texts s n []) ≡ 0
 unfolding texts
@@ -469,7 +469,7 @@ rewrite-first k n o kb p ps buf width g b ns r l f =
     let g₀ = opening sf k false n buf in
     let h : Holds k n o g₀ (emptyPair s ∷ []) = opening-holds sf n k typed good width buf false z in
     let ol = opening-length sf n k typed good width buf false z in
-    let rs = right-split k n (startCore o) (placed sf (p .entries)) (allPlaced o ps) r in
+    let rs = right-split k n (startCore o) (placedUnder sf (p .entries)) (allPlaced o ps) r in
     let j₀ = journal-longer o n [] (p ∷ ps) in
     let j₁ = journal-longer o n [] (p ∷ []) in
     let j₂ = journal-longer o n [] (emptyPair s ∷ []) in
@@ -480,7 +480,7 @@ rewrite-first k n o kb p ps buf width g b ns r l f =
     let ql = pair-long o n p (b .typed) (b .good) in
     let el = pair-long o n (emptyPair s) (b .typed) (b .good) in
     let a : Redone k n o g₀ (issuesOf (p .entries)) (p ∷ []) =
-    again-entries k n o kb (p .entries) g₀ [] (emptyPair s) h (subst (λ (d : Core). AllRight k n d (placed sf (p .entries))) (empty-core n o s) (rs .0))
+    again-entries k n o kb (p .entries) g₀ [] (emptyPair s) h (subst (λ (d : Core). AllRight k n d (placedUnder sf (p .entries))) (empty-core n o s) (rs .0))
     (omega (arith, holds-length k n o g₀ [] (emptyPair s) h, j₀, j₂, np, pl, p₂, ql, el, no-texts sf n, l, ol)) in
     let g₁ = calls g₀ (issuesOf (p .entries)) in
     let c : Redone k n o g₁ (laterCalls ps) (p ∷ ps) =
@@ -489,7 +489,7 @@ rewrite-first k n o kb p ps buf width g b ns r l f =
     record {
       not-refused-open = z;
       typed-calls =
-          issues-typed k n (startCore o) sf (p .entries) (laterCalls ps) (rs .0) (later-typed k n o (runCore n (startCore o) (placed sf (p .entries))) (s ∷ []) ps (rs .1) ns);
+          issues-typed k n (startCore o) sf (p .entries) (laterCalls ps) (rs .0) (later-typed k n o (runCore n (startCore o) (placedUnder sf (p .entries))) (s ∷ []) ps (rs .1) ns);
       redone = redone-append k n o (issuesOf (p .entries)) (laterCalls ps) g₀ (p ∷ []) (p ∷ ps) a c;
       first-long = ol;
     }

@@ -25,7 +25,7 @@ use Rattle.journal.specs.Head.{section, front, head, headLength, countPl
 use Rattle.journal.specs.State.{used, inEight, added, isIn, TypedName}
 use Rattle.journal.specs.Step.{fresh, next, renewed}
 use Rattle.journal.specs.Checking.{headNumber, after, entryNumber, full, oneStep, steps, refused, accepted, lastAnswer, takeOver}
-use Rattle.journal.specs.Valid.{Owner, Pair, settingsFor, texts, pairText, pairTexts, ownerText, journalText, Placed, placed, allPlaced, GoodOwner, Valid}
+use Rattle.journal.specs.Valid.{Owner, Pair, settingsFor, texts, pairText, pairTexts, ownerText, journalText, Placed, placedUnder, allPlaced, GoodOwner, Valid}
 use Rattle.journal.specs.declared.state.State.{State}
 use Rattle.journal.specs.declared.state.TakenOver.{TakenOver}
 use Rattle.journal.specs.declared.checking.Checked.{Checked}
@@ -72,21 +72,21 @@ pub record Reads (o : Owner) (k : List ℕ) (n : ℕ) (s : Name) (c : Core) (us 
   pub entries : List Entry
   pub pairs : List Pair
   pub bytes : drop (st .length) j ≡ texts (settingsFor o s) n entries ++ pairTexts o n pairs
-  pub count : countAt j (st .place) 4 ≡ st .section + length entries
-  pub right : AllRight k n c (placed (settingsFor o s) entries ++ allPlaced o pairs)
+  pub count : countAt j (st .place) 4 ≡ st .since + length entries
+  pub right : AllRight k n c (placedUnder (settingsFor o s) entries ++ allPlaced o pairs)
   pub names : Names us pairs
 
 pub step-place : (st : State) (e : Entry) → step st e .place ≡ st .place
 unfolding next
 step-place st e = refl
 
-pub step-section : (st : State) (e : Entry) → step st e .section ≡ st .section + 1
+pub step-section : (st : State) (e : Entry) → step st e .since ≡ st .since + 1
 unfolding next
 step-section st e = refl
 
 reads-entry : {st : State} {o : Owner} {k : List ℕ} {n : ℕ} {s : Name} {c : Core} {us : List Name} (j : List ℕ) (a : At st o k n s c us) (x : EntryAt st j)
     → Reads o k n s (stepCore n c (under o s (x .entry))) us (step st (x .entry)) j → Reads o k n s c us st j
-unfolding texts placed
+unfolding texts placedUnder
 reads-entry {st} {o} {k} {n} {s} j a x r =
     let e = x .entry in
     record {
@@ -123,9 +123,9 @@ module _ (st : State) (o : Owner) (k : List ℕ) (n : ℕ) (s : Name) (c : Core)
       placing.more (record { typed = x .typed; good = x .good; new = new; room = room; few = few }) (r .names)
 
 reads-start : {st : State} {o : Owner} {k : List ℕ} {n : ℕ} {s : Name} {c : Core} {us : List Name} (j : List ℕ) (s′ : Name)
-    (x : StartAt j (st .length) s′ (countAt j (st .length + 4 + s′ .len) 4)) → isIn s′ us ≡ false → length us < 8 → countAt j (st .place) 4 ≡ st .section
+    (x : StartAt j (st .length) s′ (countAt j (st .length + 4 + s′ .len) 4)) → isIn s′ us ≡ false → length us < 8 → countAt j (st .place) 4 ≡ st .since
     → Reads o k n s′ c (us ++ (s′ ∷ [])) (renewed st s′) j → Reads o k n s c us st j
-unfolding texts placed allPlaced
+unfolding texts placedUnder allPlaced
 reads-start {st} {o} {k} {n} {s} {c} {us} j s′ x new room count r =
     record {
       entries = [];
@@ -148,17 +148,17 @@ steps-zero k n st j z = go (oneStep k st j .number) refl z
     go (suc m) e q = absurd (omega (arith, e, q))
 
 sound-case : {st : State} {o : Owner} {k : List ℕ} {n : ℕ} {s : Name} {c : Core} {us : List Name} (m : ℕ) (j : List ℕ) → At st o k n s c us → AllBytes j → st .length ≤ length j
-    → length j < suc m + st .length → st .section ≤ countAt j (st .place) 4 → steps (keySchedule k) m (oneStep (keySchedule k) st j .state) j .number ≡ 0 → Case (keySchedule k) st j
+    → length j < suc m + st .length → st .since ≤ countAt j (st .place) 4 → steps (keySchedule k) m (oneStep (keySchedule k) st j .state) j .number ≡ 0 → Case (keySchedule k) st j
     → ((st′ : State) (s′ : Name) (c′ : Core) (us′ : List Name) → At st′ o k n s′ c′ us′ → st′ .length ≤ length j → length j < m + st′ .length
-    → st′ .section ≤ countAt j (st′ .place) 4 → steps (keySchedule k) m st′ j .number ≡ 0 → Reads o k n s′ c′ us′ st′ j)
+    → st′ .since ≤ countAt j (st′ .place) 4 → steps (keySchedule k) m st′ j .number ≡ 0 → Reads o k n s′ c′ us′ st′ j)
     → Reads o k n s c us st j
-unfolding texts pairTexts placed allPlaced
+unfolding texts pairTexts placedUnder allPlaced
 sound-case {st} {o} {k} {n} {s} {c} {us} m j a b l fuel less z (an-entry h w e) rec =
     let x = entry-at j a b w in
     let y = x .entry in
     let q : oneStep (keySchedule k) st j .state ≡ step st y = ap (λ (r : Checked). r .state) e ∙ x .state in
     let f = full-false st j h in
-    let less′ : step st y .section ≤ countAt j (step st y .place) 4 = rw (step-section st y, step-place st y) (omega (arith, f)) in
+    let less′ : step st y .since ≤ countAt j (step st y .place) 4 = rw (step-section st y, step-place st y) (omega (arith, f)) in
     reads-entry j a x
     (rec (step st y) s (stepCore n c (under o s y)) us (at-next y a (x .right)) (x .fits) (omega (arith, x .moved)) less′
     (subst (λ (t : State). steps (keySchedule k) m t j .number ≡ 0) q z))
@@ -175,7 +175,7 @@ sound-case {st} {o} {k} {n} {s} {c} {us} m j a b l fuel less z (a-start h w x e)
     (omega (arith, renewed-section st s′)) (subst (λ (t : State). steps (keySchedule k) m t j .number ≡ 0) q z))
 
 pub sound-from : {st : State} {o : Owner} {k : List ℕ} {n : ℕ} {s : Name} {c : Core} {us : List Name} (m : ℕ) (j : List ℕ) → At st o k n s c us → AllBytes j → st .length ≤ length j
-    → length j < m + st .length → st .section ≤ countAt j (st .place) 4 → steps (keySchedule k) m st j .number ≡ 0 → Reads o k n s c us st j
+    → length j < m + st .length → st .since ≤ countAt j (st .place) 4 → steps (keySchedule k) m st j .number ≡ 0 → Reads o k n s c us st j
 sound-from zero j a b l fuel less z = absurd (omega arith)
 sound-from {st} {k = k} (suc m) j a b l fuel less z =
     let w = steps-zero (keySchedule k) m st j z in
@@ -230,7 +230,7 @@ blank o k n =
       issued = 0;
       chain = chainValue (nameText (o .id));
       length = 11 + o .id .len;
-      section = 0;
+      since = 0;
       place = 0;
     }
 
@@ -259,7 +259,7 @@ fresh-is o k n s =
       issued = 0;
       chain = chainValue (nameText (o .id));
       length = l i;
-      section = 0;
+      since = 0;
       place = p i;
     }
 
@@ -274,7 +274,7 @@ pub fresh-place : (o : Owner) (k : List ℕ) (n : ℕ) (s : Name) → fresh (set
 unfolding fresh
 fresh-place o k n s = refl
 
-pub fresh-section : (o : Owner) (k : List ℕ) (n : ℕ) (s : Name) → fresh (settingsFor o s) n k .section ≡ 0
+pub fresh-section : (o : Owner) (k : List ℕ) (n : ℕ) (s : Name) → fresh (settingsFor o s) n k .since ≡ 0
 unfolding fresh
 fresh-section o k n s = refl
 
@@ -345,7 +345,7 @@ takes-first o k n p ps w g h b ns =
     let z : length es + (stepsOf ps + m) ≡ length j =
     omega (arith, length-append pre t, length-append (texts sf n es) (pairTexts o n ps), entries-size sf n es, pairs-size o n ps) in
     let q : j ≡ pre ++ (texts sf n es ++ (pairTexts o n ps ++ [])) = ap (λ (l : List ℕ). pre ++ (texts sf n es ++ l)) (sym (append-nil (pairTexts o n ps))) in
-    let count : countAt j (st .place) 4 ≡ st .section + length es =
+    let count : countAt j (st .place) 4 ≡ st .since + length es =
     ap (λ (x : ℕ). countAt j x 4) (fresh-place o k n s)
     ∙ (read-count-at sf (typed-for o s g (b .typed) .lengths) (good-for o s g (b .good)) (length es) (b .few) t ∙ omega (arith, fresh-section o k n s)) in
     let r = passed-pairs ps es m pre j [] (fresh-at o k n s g (b .typed) (b .good)) (lh ∙ sym (fresh-length o k n s)) h ns q count in

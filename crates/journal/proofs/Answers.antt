@@ -33,7 +33,7 @@ use Rattle.receipt.proofs.Chains.{length-chain, bytes-chain, length-encrypted, 
 use Rattle.journal.specs.Head.{head, entryText}
 use Rattle.primitives.specs.Questions.{ask, ifZero}
 use Rattle.journal.specs.Changing.{changeNumber}
-use Rattle.journal.specs.Step.{countWithin, soundAlone, sound, numberAbove, firstGood, newCounter, detailsNumber, detailsNumberWithin, fieldsOf, serialNumber}
+use Rattle.journal.specs.Step.{countWithin, soundAlone, sound, numberAbove, firstGood, newCounter, detailsNumber, detailsNumberWithin, fieldsOf, renewNumber}
 use Rattle.journal.specs.Issuing.{signatureSized, givenSignature, entryOf, textOf, entryFits, issueNumber, issueNumberWithin, issued}
 use Rattle.journal.specs.Calls.{Order, TypedOrder}
 use Rattle.journal.specs.declared.state.State.{State}
@@ -61,7 +61,7 @@ pub record Sound (st : State) : Type 0 where
   pub width : widthGood (st .width) ≡ true
   pub counter : counterFits (st .width) (st .counter) ≡ true
   pub issued : st .issued ≤ st .last
-  pub section : st .section ≤ st .issued
+  pub since : st .since ≤ st .issued
   pub place : st .place + 4 ≤ st .length
   pub head : headLengthNow st ≤ st .length
 
@@ -83,7 +83,7 @@ sound-true st e =
       width = p₂ .0;
       counter = p₃ .0;
       issued = leb-true _ _ (c .0);
-      section = leb-true _ _ (c .1);
+      since = leb-true _ _ (c .1);
       place = leb-true _ _ (p₅ .0);
       head = leb-true _ _ (p₅ .1);
     }
@@ -91,7 +91,7 @@ sound-true st e =
 pub sound-yes : (st : State) → Sound st → soundAlone st ≡ true
 unfolding soundAlone countWithin
 sound-yes st s =
-    rw (s .csp, s .id, s .serials, s .width, s .counter, le-leb _ _ (s .issued), le-leb _ _ (s .section), le-leb _ _ (s .place), le-leb _ _ (s .head))
+    rw (s .csp, s .id, s .serials, s .width, s .counter, le-leb _ _ (s .issued), le-leb _ _ (s .since), le-leb _ _ (s .place), le-leb _ _ (s .head))
 
 pub settings-three : (csp : List ℕ) (id serial : Name) → cspGood csp ≡ true → idGood id ≡ true → serialGood serial ≡ true
     → settingsGood (record { csp = csp; id = id; serial = serial }) ≡ true
@@ -283,15 +283,15 @@ pub record Changeable (st : State) (s : Name) (room : ℕ) : Type 0 where
   pub few : length (used (st .serials)) < 8
   pub fits : st .length + (8 + s .len) ≤ room
 
-pub serial-zero : (st : State) (s : Name) (rest : ℕ) → serialNumber st s rest ≡ 0 → (isIn s (used (st .serials)) ≡ false) × (length (used (st .serials)) < 8) × (rest ≡ 0)
-unfolding serialNumber
+pub serial-zero : (st : State) (s : Name) (rest : ℕ) → renewNumber st s rest ≡ 0 → (isIn s (used (st .serials)) ≡ false) × (length (used (st .serials)) < 8) × (rest ≡ 0)
+unfolding renewNumber
 serial-zero st s rest z =
     let p = ask-zero _ _ _ z in
     let q = ask-zero _ _ _ (p .1) in
     (not-true _ (p .0), ltb-true _ _ (q .0), q .1)
 
-pub serial-yes : (st : State) (s : Name) (rest : ℕ) → isIn s (used (st .serials)) ≡ false → length (used (st .serials)) < 8 → serialNumber st s rest ≡ rest
-unfolding serialNumber ask
+pub serial-yes : (st : State) (s : Name) (rest : ℕ) → isIn s (used (st .serials)) ≡ false → length (used (st .serials)) < 8 → renewNumber st s rest ≡ rest
+unfolding renewNumber ask
 serial-yes st s rest n f = rw (n, lt-ltb _ _ f)
 
 pub change-zero : (st : State) (s : Name) (room : ℕ) → changeNumber st s room ≡ 0 → Changeable st s room

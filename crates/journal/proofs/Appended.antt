@@ -39,20 +39,20 @@ module _ (st : State) (d : Details) (sig buf : List ℕ) (z : issueNumber st d s
   new-length = ap (λ (x : State). x .length) (ifZero-yes (next st d (textOf st d sig)) st z) ∙ omega (arith, length-entry (textOf st d sig))
 
   -- the count is rewritten before the entry
-  after-count : issueBuffer st d sig buf ≡ overwrite (overwrite buf (countPlaceNow st) (bytesOf 4 (st .section + 1))) (st .length) (entryText (textOf st d sig))
+  after-count : issueBuffer st d sig buf ≡ overwrite (overwrite buf (countPlaceNow st) (bytesOf 4 (st .since + 1))) (st .length) (entryText (textOf st d sig))
   unfolding issueBufferWithin withEntry
   after-count =
       let t = entryText (textOf st d sig) in
-      let n = bytesOf 4 (st .section + 1) in
-      let l = length-bytesOf 4 (st .section + 1) in
+      let n = bytesOf 4 (st .since + 1) in
+      let l = length-bytesOf 4 (st .since + 1) in
       ifZero-yes (withEntry st (textOf st d sig) buf) buf z
       ∙ sym (over-comm buf (countPlaceNow st) n (st .length) t (omega (arith, a .sound .place)) (a .fits))
 
   there : take (length (textOf st d sig)) (drop (st .length + 2) (issueBuffer st d sig buf)) ≡ textOf st d sig
   there =
-      let b = overwrite buf (countPlaceNow st) (bytesOf 4 (st .section + 1)) in
+      let b = overwrite buf (countPlaceNow st) (bytesOf 4 (st .since + 1)) in
       let l : length b ≡ length buf =
-      length-over buf (countPlaceNow st) (bytesOf 4 (st .section + 1)) (omega (arith, a .sound .place, a .within, length-bytesOf 4 (st .section + 1))) in
+      length-over buf (countPlaceNow st) (bytesOf 4 (st .since + 1)) (omega (arith, a .sound .place, a .within, length-bytesOf 4 (st .since + 1))) in
       ap (λ (x : List ℕ). take (length (textOf st d sig)) (drop (st .length + 2) x)) after-count
       ∙ entry-text b (textOf st d sig) (st .length) (omega (arith, a .fits))
 

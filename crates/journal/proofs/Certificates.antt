@@ -25,12 +25,12 @@ use Rattle.receipt.specs.declared.settings.Settings.{Settings}
 use Rattle.receipt.specs.declared.entry.Entry.{Entry}
 use Rattle.journal.specs.Head.{head, headSettings, headGood, entryText, pairStart, textAt, startThere}
 use Rattle.journal.specs.State.{sameName, used, inEight, isIn, allGood, settingsNow}
-use Rattle.journal.specs.Step.{fresh, sound, numberAbove, firstGood, newCounter, detailsNumberWithin, next, renewed, serialNumber}
+use Rattle.journal.specs.Step.{fresh, sound, numberAbove, firstGood, newCounter, detailsNumberWithin, next, renewed, renewNumber}
 use Rattle.journal.specs.Issuing.{signatureSized, entryFits, textOf, issueNumberWithin}
 use Rattle.journal.specs.Changing.{changeNumber, changed, changeBuffer}
 use Rattle.journal.specs.Checking.{headNumber, found, after, entryNumber, checked, stopped, placeChecked, startNumber, startChecked, full, oneStep, steps, refused, accepted, lastAnswer, takeOver}
 use Rattle.journal.specs.Certificates.{EachGood, GoodSerials, SerialsGoodExactly, ChangeAsks6AsIssue, BadSerialGets3, OneOf, UsedSerialGets30, NinthSerialGets31, NoRoomGets13, SerialAdded, ChangeAddsSerial, ChangeAppends, ChangeTouchesNoOther, ChangedSerialIsSpelled, RunsOn, ChangeRunsOn, oneStepBefore, stepsBefore, takeOverBefore, OneSectionAsBefore}
-use Rattle.journal.specs.Valid.{Owner, Pair, settingsFor, texts, pairTexts, placed, allPlaced, journalText, GoodOwner, Valid, headOf}
+use Rattle.journal.specs.Valid.{Owner, Pair, settingsFor, texts, pairTexts, placedUnder, allPlaced, journalText, GoodOwner, Valid, headOf}
 use Rattle.journal.specs.declared.state.State.{State}
 use Rattle.journal.specs.declared.state.TakenOver.{TakenOver}
 use Rattle.journal.specs.declared.checking.Checked.{Checked}
@@ -166,13 +166,14 @@ in-none : (s : Name) (ns : List Name) → isIn s ns ≡ false → OneOf s ns →
 in-none s ns e h = true-is-not-false (sym e ∙ one-in s ns h)
 
 pub change-asks-6-as-issue : ChangeAsks6AsIssue
-unfolding changeNumber serialNumber issueNumberWithin detailsNumberWithin ask
-change-asks-6-as-issue st serial d sig room =
-    ((λ z. rw (row-6 (sound st room) (serialGood serial) (isIn serial (used (st .serials))) (ltb (length (used (st .serials))) 8) (leb (st .length + (8 + serial .len)) room) z)),
-    (λ z. rw (issue-row (sound st room) (numberAbove st d) (dateGood (d .date)) (amountsWithin amountLimit (d .amounts)) (firstGood st d) (newCounter st d .fits) (signatureSized sig) (entryFits st (textOf st d sig) room) z)))
+unfolding changeNumber renewNumber issueNumberWithin detailsNumberWithin ask
+change-asks-6-as-issue st serial d sig room = (
+  (λ z. rw (row-6 (sound st room) (serialGood serial) (isIn serial (used (st .serials))) (ltb (length (used (st .serials))) 8) (leb (st .length + (8 + serial .len)) room) z)),
+  (λ z. rw (issue-row (sound st room) (numberAbove st d) (dateGood (d .date)) (amountsWithin amountLimit (d .amounts)) (firstGood st d) (newCounter st d .fits) (signatureSized sig) (entryFits st (textOf st d sig) room) z)),
+)
 
 pub bad-serial-gets-3 : BadSerialGets3
-unfolding changeNumber serialNumber ask
+unfolding changeNumber renewNumber ask
 bad-serial-gets-3 =
     record {
       only = λ st serial room z.
@@ -182,7 +183,7 @@ bad-serial-gets-3 =
     }
 
 pub used-serial-gets-30 : UsedSerialGets30
-unfolding changeNumber serialNumber ask
+unfolding changeNumber renewNumber ask
 used-serial-gets-30 =
     record {
       only = λ st serial room z.
@@ -192,7 +193,7 @@ used-serial-gets-30 =
     }
 
 pub ninth-serial-gets-31 : NinthSerialGets31
-unfolding changeNumber serialNumber ask
+unfolding changeNumber renewNumber ask
 ninth-serial-gets-31 =
     record {
       only = λ st serial room z.
@@ -205,7 +206,7 @@ ninth-serial-gets-31 =
     }
 
 pub no-room-gets-13 : NoRoomGets13
-unfolding changeNumber serialNumber ask
+unfolding changeNumber renewNumber ask
 no-room-gets-13 =
     record {
       only = λ st serial room z.
@@ -241,7 +242,7 @@ module _ (st : State) (serial : Name) (room : ℕ) (z : changeNumber st serial r
   serial-added =
       record {
         serials = ap (λ (x : State). used (x .serials)) state-is ∙ used-added (st .serials) serial (answered .good);
-        empty = ap (λ (x : State). x .section) state-is;
+        empty = ap (λ (x : State). x .since) state-is;
         last = ap (λ (x : State). x .place + 4) state-is ∙ (omega arith ∙ ap (λ (x : State). x .length) (sym state-is));
       }
 
@@ -391,9 +392,9 @@ before-idle k (suc n) st j e =
 
 -- right entries with nothing after them passed before, too
 before-passed : {st : State} {o : Owner} {k : List ℕ} {n : ℕ} {s : Name} {c : Core} {us : List Name} (es : List Entry) (m : ℕ) (p j : List ℕ) → At st o k n s c us → length p ≡ st .length
-    → AllRight k n c (placed (settingsFor o s) es) → j ≡ p ++ texts (settingsFor o s) n es → countAt j (st .place) 4 ≡ st .section + length es
+    → AllRight k n c (placedUnder (settingsFor o s) es) → j ≡ p ++ texts (settingsFor o s) n es → countAt j (st .place) 4 ≡ st .since + length es
     → stepsBefore (keySchedule k) (length es + m) st j .number ≡ 0
-unfolding texts placed
+unfolding texts placedUnder
 before-passed {st} {k = k} [] m p j a at h q c =
     let f = full-yes st j (omega (arith, c)) in
     let l : length j ≤ st .length = omega (arith, ap length (q ∙ append-nil p), at) in
@@ -402,11 +403,11 @@ before-passed {st} {o} {k} {n} {s} (e ∷ es) m p j a at (placing.more h hs) q c
     let t = entryText (compact (settingsFor o s) n e) in
     let u = texts (settingsFor o s) n es in
     let i : suc (length es) + m ≡ suc (length es + m) = omega arith in
-    let less : st .section < countAt j (st .place) 4 = omega (arith, c) in
+    let less : st .since < countAt j (st .place) 4 = omega (arith, c) in
     let y = before-entry (keySchedule k) st j (full-no st j less) ∙ entry-step a e p u j at h q less in
     let at′ : length (p ++ t) ≡ step st e .length =
     length-append p t ∙ (ap (λ (x : ℕ). x + length t) at ∙ (ap (λ (x : List ℕ). st .length + length (entryText x)) (sym (text-is a e)) ∙ sym (step-length st e))) in
-    let c′ : countAt j (step st e .place) 4 ≡ step st e .section + length es = ap (λ (x : ℕ). countAt j x 4) (step-place st e) ∙ (c ∙ omega (arith, step-section st e)) in
+    let c′ : countAt j (step st e .place) 4 ≡ step st e .since + length es = ap (λ (x : ℕ). countAt j x 4) (step-place st e) ∙ (c ∙ omega (arith, step-section st e)) in
     ap (λ (x : ℕ). stepsBefore (keySchedule k) x st j .number) i
     ∙ (ap (λ (x : Step). x .number) (before-turn (keySchedule k) (length es + m) st j (ap (λ (x : Checked). x .number) y) (ap (λ (x : Checked). x .state) y))
     ∙ before-passed es m (p ++ t) j (at-next e a (right-here a e h)) at′ hs (q ∙ sym (append-assoc p t u)) c′)
@@ -433,9 +434,9 @@ one-pair o key n p j w g r b e =
     let lh = length-head sf ts gs (length es) in
     let d = length j - length es in
     let z : length es + d ≡ length j = omega (arith, ap length q, length-append pre t, entries-size sf n es) in
-    let c : countAt j (st .place) 4 ≡ st .section + length es =
+    let c : countAt j (st .place) 4 ≡ st .since + length es =
     (λ i. countAt (q i) (fresh-place o key n s i) 4) ∙ (read-count-at sf ts gs (length es) (b .few) t ∙ omega (arith, fresh-section o key n s)) in
-    let r₁ : AllRight key n (startCore o) (placed sf es) = subst (AllRight key n (startCore o)) (append-nil (placed sf es)) r in
+    let r₁ : AllRight key n (startCore o) (placedUnder sf es) = subst (AllRight key n (startCore o)) (append-nil (placedUnder sf es)) r in
     ap (λ (x : TakenOver). x .number) (before-good j key n (head-zero j n w hg))
     ∙ (answer-number (stepsBefore (keySchedule key) (length j) (fresh (headSettings j) n key) j)
     ∙ ((λ i. stepsBefore (keySchedule key) (sym z i) (fresh (hs i) n key) j .number)

@@ -15,24 +15,24 @@ use Rattle.receipt.specs.declared.settings.Name.{Name}
 use Rattle.journal.specs.Changing.{changeNumber, changed, changeBuffer}
 use Rattle.journal.specs.Head.{pairStart}
 use Rattle.journal.specs.State.{used, isIn, serialsGood}
-use Rattle.journal.specs.Step.{sound, renewed, serialNumber}
+use Rattle.journal.specs.Step.{sound, renewed, renewNumber}
 use Rattle.journal.specs.declared.state.State.{State}
 use Rattle.journal.proofs.Answers.{Changeable, serial-zero, serial-yes, change-zero}
 
 -- ---- questions 30 and 31
 
 module _ (st : State) (s : Name) (rest : ℕ) where
-  pub serial-used : isIn s (used (st .serials)) ≡ true → 30 ≡ serialNumber st s rest
-  unfolding serialNumber ask
+  pub serial-used : isIn s (used (st .serials)) ≡ true → 30 ≡ renewNumber st s rest
+  unfolding renewNumber ask
   serial-used e = rw e
 
-  pub serial-ninth : isIn s (used (st .serials)) ≡ false → 8 ≤ length (used (st .serials)) → 31 ≡ serialNumber st s rest
-  unfolding serialNumber ask
+  pub serial-ninth : isIn s (used (st .serials)) ≡ false → 8 ≤ length (used (st .serials)) → 31 ≡ renewNumber st s rest
+  unfolding renewNumber ask
   serial-ninth e h = rw (e, le-ltb (length (used (st .serials))) 8 h)
 
   -- the two alone, and then the rest: as code asks them
-  serial-then : serialNumber st s rest ≡ ifZero (serialNumber st s 0) rest (serialNumber st s 0)
-  unfolding serialNumber ask ifZero
+  serial-then : renewNumber st s rest ≡ ifZero (renewNumber st s 0) rest (renewNumber st s 0)
+  unfolding renewNumber ask ifZero
   serial-then = go (not (isIn s (used (st .serials)))) (ltb (length (used (st .serials))) 8)
     where
       go : (a b : Bool) → ask a 30 (ask b 31 rest) ≡ ifZero (ask a 30 (ask b 31 0)) rest (ask a 30 (ask b 31 0))
@@ -52,14 +52,14 @@ module _ (st : State) (s : Name) (room : ℕ) where
     unfolding changeNumber
     change-bad h = sym (ask-yes 6 _ a ∙ ask-no 3 _ h)
 
-    module _ (g : serialGood s ≡ true) {k : ℕ} (e : k ≡ serialNumber st s 0) where
-      number-is : changeNumber st s room ≡ serialNumber st s (ask (leb (st .length + (8 + s .len)) room) 13 0)
+    module _ (g : serialGood s ≡ true) {k : ℕ} (e : k ≡ renewNumber st s 0) where
+      number-is : changeNumber st s room ≡ renewNumber st s (ask (leb (st .length + (8 + s .len)) room) 13 0)
       unfolding changeNumber
       number-is = ask-yes 6 _ a ∙ ask-yes 3 _ g
 
       pub change-serial : (k ≡ 0 → ⊥) → k ≡ changeNumber st s room
       change-serial h =
-          e ∙ sym (number-is ∙ (serial-then st s (ask (leb (st .length + (8 + s .len)) room) 13 0) ∙ ifZero-no (serialNumber st s 0) _ _ (λ z. h (e ∙ z))))
+          e ∙ sym (number-is ∙ (serial-then st s (ask (leb (st .length + (8 + s .len)) room) 13 0) ∙ ifZero-no (renewNumber st s 0) _ _ (λ z. h (e ∙ z))))
 
       module _ (z : k ≡ 0) where
         number-left : changeNumber st s room ≡ ask (leb (st .length + (8 + s .len)) room) 13 0

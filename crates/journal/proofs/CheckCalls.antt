@@ -24,7 +24,7 @@ use Rattle.receipt.specs.declared.settings.Name.{Name}
 use Rattle.receipt.specs.declared.settings.Settings.{Settings}
 use Rattle.primitives.proofs.Zlaws.{same-bits}
 use Rattle.primitives.proofs.Rows.{both, true-is-not-false, and-no, and-yes, not-yes, ask-zero, ask-yes, ask-no, ifZero-yes, ifZero-no}
-use Rattle.journal.specs.Step.{fresh, newCounter, next, renewed, soundAlone, sound, serialNumber}
+use Rattle.journal.specs.Step.{fresh, newCounter, next, renewed, soundAlone, sound, renewNumber}
 use Rattle.primitives.specs.Questions.{ask, ifZero}
 use Rattle.primitives.specs.Number.{countAt}
 use Rattle.journal.specs.Head.{headSettings, headGood, lengthAt, there, textAt, headLength, countPlace, entryText, serialAt, startThere}
@@ -173,21 +173,21 @@ module _ (k : List (List ℕ)) (st : State) (text : List ℕ) {r : Found} (e : r
 -- ---- after the last entry of a section
 
 module _ (st : State) (j : List ℕ) where
-  pub full-is : {count : ℕ} → count ≡ countAt j (st .place) 4 → leb count (st .section) ≡ full st j
+  pub full-is : {count : ℕ} → count ≡ countAt j (st .place) 4 → leb count (st .since) ≡ full st j
   unfolding full
-  full-is q = ap (λ (n : ℕ). leb n (st .section)) q
+  full-is q = ap (λ (n : ℕ). leb n (st .since)) q
 
   pub start-missing : {c : Checked} → startThere j (st .length) ≡ false → c ≡ stopped 21 st → c ≡ startChecked st j
   unfolding startChecked startNumber
   start-missing h q =
-      let n = ask-no 21 (serialNumber st (serialAt j (st .length)) 0) h in
-      let k = ask (startThere j (st .length)) 21 (serialNumber st (serialAt j (st .length)) 0) in
+      let n = ask-no 21 (renewNumber st (serialAt j (st .length)) 0) h in
+      let k = ask (startThere j (st .length)) 21 (renewNumber st (serialAt j (st .length)) 0) in
       q ∙ (ap (λ (m : ℕ). stopped m st) (sym n) ∙ sym (ifZero-no k _ _ (λ z. omega (arith, n, z))))
 
-  module _ (h : startThere j (st .length) ≡ true) {s : Name} (e : s ≡ serialAt j (st .length)) {n : ℕ} (q : n ≡ serialNumber st s 0) where
+  module _ (h : startThere j (st .length) ≡ true) {s : Name} (e : s ≡ serialAt j (st .length)) {n : ℕ} (q : n ≡ renewNumber st s 0) where
     start-number : startNumber st j ≡ n
     unfolding startNumber
-    start-number = ask-yes 21 _ h ∙ (ap (λ (x : Name). serialNumber st x 0) (sym e) ∙ sym q)
+    start-number = ask-yes 21 _ h ∙ (ap (λ (x : Name). renewNumber st x 0) (sym e) ∙ sym q)
 
     pub start-stopped : {c : Checked} → (n ≡ 0 → ⊥) → c ≡ stopped n st → c ≡ startChecked st j
     unfolding startChecked
@@ -293,7 +293,7 @@ module _ (j key : List ℕ) (n : ℕ) (s : Settings) {st : State} (e : st ≡ fr
       record {
         serials = eight-good (s .serial ∷ []) (omega arith) (rw (settings-all s g .serial));
         issued = omega arith;
-        section = omega arith;
+        since = omega arith;
         place = omega arith;
       }
 
@@ -315,14 +315,14 @@ module _ (st : State) (text : List ℕ) where
       go true w = sym (le-leb (st .length + length (entryText text)) 18446744073709551615 (omega (arith, length-entry text, leb-true (st .length + length text) 18446744073709551613 w)))
       go false w = sym (lt-leb (st .length + length (entryText text)) 18446744073709551615 (omega (arith, length-entry text, leb-false (st .length + length text) 18446744073709551613 w)))
 
-  pub ready-true : entryReady st text ≡ true → (st .issued ≤ st .last) × (st .section ≤ st .issued) × (st .length + 2 + length text < 18446744073709551616)
+  pub ready-true : entryReady st text ≡ true → (st .issued ≤ st .last) × (st .since ≤ st .issued) × (st .length + 2 + length text < 18446744073709551616)
   unfolding entryReady
   ready-true h =
       let p = both _ _ h in
       let s = sound-true st (p .0) in
       let l = length-entry text in
       let m = leb-true (st .length + length (entryText text)) 18446744073709551615 (p .1) in
-      (s .issued, s .section, omega arith)
+      (s .issued, s .since, omega arith)
 
   pub entry-asked : (k : List (List ℕ)) {c : Checked} → entryReady st text ≡ false → c ≡ stopped 6 st → c ≡ entryChecked k st text
   unfolding entryChecked
@@ -347,7 +347,7 @@ module _ (st : State) (j : List ℕ) where
       let p = both _ _ h in
       let s = sound-true st (p .0) in
       let l = leb-true (st .length) (length j) (p .1) in
-      record { serials = s .serials; issued = s .issued; section = s .section; place = omega (arith, s .place) }
+      record { serials = s .serials; issued = s .issued; since = s .since; place = omega (arith, s .place) }
 
 pub steps-none : (k : List (List ℕ)) (left : ℕ) (st : State) (j : List ℕ) → left ≡ 0 → steps k left st j ≡ record { number = 0; state = st }
 unfolding steps

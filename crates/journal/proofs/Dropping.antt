@@ -13,7 +13,7 @@ use Rattle.receipt.proofs.Chains.{input-same}
 use Rattle.receipt.specs.declared.settings.Name.{Name}
 use Rattle.receipt.specs.declared.entry.Entry.{Entry}
 use Rattle.journal.specs.Head.{pairStart}
-use Rattle.journal.specs.Valid.{Owner, Pair, settingsFor, texts, pairTexts, ownerText, journalText, Placed, placed, allPlaced, entriesOf, entriesIn, Valid}
+use Rattle.journal.specs.Valid.{Owner, Pair, settingsFor, texts, pairTexts, ownerText, journalText, Placed, placedUnder, allPlaced, entriesOf, entriesIn, Valid}
 use Rattle.journal.specs.Demands.{beforeCount, ValidWith, Dropping, InputsDiffer}
 use Rattle.journal.proofs.Placing.{Core, startCore, stepCore, AllRight, right-split, Names}
 use Rattle.journal.proofs.Placing as placing
@@ -31,14 +31,14 @@ module _ (k : List ℕ) (n : ℕ) (o : Owner) (before : List Pair) (s : Name) (k
   short : Pair
   short = record { serial = s; entries = kept }
 
-  all-short : allPlaced o (before ++ (whole ∷ later)) ≡ allPlaced o (before ++ (short ∷ [])) ++ (placed (settingsFor o s) dropped ++ allPlaced o later)
+  all-short : allPlaced o (before ++ (whole ∷ later)) ≡ allPlaced o (before ++ (short ∷ [])) ++ (placedUnder (settingsFor o s) dropped ++ allPlaced o later)
   unfolding allPlaced whole short
   all-short =
-      let p = placed (settingsFor o s) kept in
-      let d = placed (settingsFor o s) dropped ++ allPlaced o later in
+      let p = placedUnder (settingsFor o s) kept in
+      let d = placedUnder (settingsFor o s) dropped ++ allPlaced o later in
       all-append o before (whole ∷ later)
       ∙ (ap (λ (l : List Placed). allPlaced o before ++ (l ++ allPlaced o later)) (placed-append (settingsFor o s) kept dropped)
-      ∙ (ap (λ (l : List Placed). allPlaced o before ++ l) (append-assoc p (placed (settingsFor o s) dropped) (allPlaced o later))
+      ∙ (ap (λ (l : List Placed). allPlaced o before ++ l) (append-assoc p (placedUnder (settingsFor o s) dropped) (allPlaced o later))
       ∙ (sym (append-assoc (allPlaced o before) p d) ∙ ap (λ (l : List Placed). l ++ d) (sym (last-placed o before short)))))
 
   names-short : (us : List Name) (ps : List Pair) → Names us (ps ++ (whole ∷ later)) → Names us (ps ++ (short ∷ []))
@@ -54,7 +54,7 @@ module _ (k : List ℕ) (n : ℕ) (o : Owner) (before : List Pair) (s : Name) (k
         width = w .width;
         good = w .good;
         some = some-snoc before short;
-        right = right-split k n (startCore o) (allPlaced o (before ++ (short ∷ []))) (placed (settingsFor o s) dropped ++ allPlaced o later) (subst (AllRight k n (startCore o)) all-short (w .right)) .0;
+        right = right-split k n (startCore o) (allPlaced o (before ++ (short ∷ []))) (placedUnder (settingsFor o s) dropped ++ allPlaced o later) (subst (AllRight k n (startCore o)) all-short (w .right)) .0;
         names = names-short [] before (w .names);
       }
 

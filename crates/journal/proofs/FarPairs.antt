@@ -24,7 +24,7 @@ use Rattle.journal.specs.State.{used, isIn}
 use Rattle.journal.specs.Step.{fresh, renewed}
 use Rattle.journal.specs.Checking.{stopped, oneStep, steps, refused, lastAnswer, takeOver}
 use Rattle.journal.specs.Receipts.{receiptsIn, sum}
-use Rattle.journal.specs.Valid.{Owner, Pair, settingsFor, texts, pairText, pairTexts, ownerText, journalText, Placed, placed, allPlaced, entriesOf, lastOf, chainOf, serialsOf, GoodOwner}
+use Rattle.journal.specs.Valid.{Owner, Pair, settingsFor, texts, pairText, pairTexts, ownerText, journalText, Placed, placedUnder, allPlaced, entriesOf, lastOf, chainOf, serialsOf, GoodOwner}
 use Rattle.journal.specs.FirstNo.{Headed, SoFar, soFar, index}
 use Rattle.journal.specs.Demands.{beforeCount}
 use Rattle.journal.specs.declared.state.State.{State}
@@ -175,7 +175,7 @@ reach-first j key n o p m rest f b =
     let gs = good-for o s g (b .good) in
     let q : j ≡ pre ++ t = f .bytes ∙ head-bytes o s m t in
     let lh = length-head sf ts gs m in
-    let r : AllRight key n (startCore o) (placed sf es) = subst (AllRight key n (startCore o)) (last-placed o [] p) (f .work .right) in
+    let r : AllRight key n (startCore o) (placedUnder sf es) = subst (AllRight key n (startCore o)) (last-placed o [] p) (f .work .right) in
     let c : countAt j (st .place) 4 ≡ m =
     (λ i. countAt (q i) (fresh-place o key n s i) 4) ∙ read-count-at sf ts gs m (f .few) t in
     record {
@@ -208,15 +208,15 @@ reach-later j key n o x qs p m rest f bx nx ns b =
     f .bytes ∙ (ap (λ (l : List ℕ). ownerText o ++ l) (append-assoc (pairText o n x) (pairTexts o n qs) tail ∙ pair-split o n x (pairTexts o n qs ++ tail)) ∙ head-bytes o (x .serial) n₀ u) in
     let st = fresh sx n key in
     let lh = length-head sx ts gs n₀ in
-    let c : countAt j (st .place) 4 ≡ st .section + n₀ =
+    let c : countAt j (st .place) 4 ≡ st .since + n₀ =
     (λ i. countAt (q i) (fresh-place o key n (x .serial) i) 4) ∙ (read-count-at sx ts gs n₀ (bx .few) u ∙ omega (arith, fresh-section o key n (x .serial))) in
-    let hs = right-split key n (startCore o) (allPlaced o (x ∷ qs)) (placed sf es) (subst (AllRight key n (startCore o)) (last-placed o (x ∷ qs) p) (f .work .right)) in
+    let hs = right-split key n (startCore o) (allPlaced o (x ∷ qs)) (placedUnder sf es) (subst (AllRight key n (startCore o)) (last-placed o (x ∷ qs) p) (f .work .right)) in
     let w : (i : ℕ) → _ = λ (i : ℕ). passed-pairs qs (x .entries) i pre j tail (fresh-at o key n (x .serial) g (bx .typed) (bx .good)) (lh ∙ sym (fresh-length o key n (x .serial))) (hs .0) nx q c in
     let st₂ = runPairs (blank o key n) (x ∷ qs) in
     let e₂ : runPairs (run st (x .entries)) qs ≡ st₂ = pairs-run o key n x qs in
     let p₂ = pre ++ (t₀ ++ pairTexts o n qs) in
     let l₂ : length p₂ ≡ st₂ .length = w 0 .1 .place ∙ ap (λ (y : State). y .length) e₂ in
-    let full₂ : countAt j (st₂ .place) 4 ≡ st₂ .section = sym (ap (λ (y : State). countAt j (y .place) 4) e₂) ∙ (w 0 .1 .full ∙ ap (λ (y : State). y .section) e₂) in
+    let full₂ : countAt j (st₂ .place) 4 ≡ st₂ .since = sym (ap (λ (y : State). countAt j (y .place) 4) e₂) ∙ (w 0 .1 .full ∙ ap (λ (y : State). y .since) e₂) in
     let r = ran (x ∷ qs) (blank o key n) o key n (startCore o) [] (blank-base o key n g) (hs .0) ns in
     let q₂ : j ≡ p₂ ++ tail = q ∙ (ap (λ (l : List ℕ). pre ++ l) (sym (append-assoc t₀ (pairTexts o n qs) tail)) ∙ sym (append-assoc pre (t₀ ++ pairTexts o n qs) tail)) in
     let sb : Startable (serialsOf (x ∷ qs)) s m = record { typed = b .typed; good = b .good; new = b .new; room = b .room; few = f .few } in

@@ -29,7 +29,7 @@ use Rattle.receipt.proofs.Entries.{admitted}
 use Rattle.receipt.proofs.ExactEntry.{back, exact}
 use Rattle.journal.specs.Head.{headSettings, headGood, headLength, entryText, there, textAt, serialAt, startThere, pairStart}
 use Rattle.journal.specs.State.{used, isIn}
-use Rattle.journal.specs.Step.{fresh, numberAbove, firstGood, renewed, serialNumber}
+use Rattle.journal.specs.Step.{fresh, numberAbove, firstGood, renewed, renewNumber}
 use Rattle.journal.specs.Checking.{headNumber, found, counterRight, contextNumber, textNumber, entryNumber, startNumber, stopped, full, oneStep, steps, refused, accepted, lastAnswer, takeOver}
 use Rattle.journal.specs.Valid.{Owner, Pair, settingsFor, Placed, serialsOf, Counted, NotIn}
 use Rattle.journal.specs.FirstNo.{Headed, SoFar, soFar, index, EntryThere, Spells, Above, StartFirst, Chained, CountedAfter, Next, Full, StartThere, NoAt, no-width, no-head, not-there, not-spelled, not-above, not-start, not-chained, not-counted, no-start, used-before, a-ninth}
@@ -91,7 +91,7 @@ module _ (j key : List ℕ) (n : ℕ) (o : Owner) (ps : List Pair) (p : Pair) (m
 
   module _ (less : length (p .entries) < m) where
     not-full : full st j ≡ false
-    not-full = full-no st j (omega (arith, s .open-at .section, s .count))
+    not-full = full-no st j (omega (arith, s .open-at .since, s .count))
 
     entry-step : (x : ℕ) → entryNumber (keySchedule key) st j ≡ suc x → oneStep (keySchedule key) st j ≡ stopped (suc x) st
     entry-step x z = entry-refused (keySchedule key) st j not-full (λ q. omega (arith, z, q)) ∙ ap (λ (y : ℕ). stopped y st) z
@@ -185,7 +185,7 @@ module _ (j key : List ℕ) (n : ℕ) (o : Owner) (ps : List Pair) (p : Pair) (m
 
   module _ (last : length (p .entries) ≡ m) where
     is-full : full st j ≡ true
-    is-full = full-yes st j (omega (arith, s .open-at .section, s .count))
+    is-full = full-yes st j (omega (arith, s .open-at .since, s .count))
 
     some-left : (rest ≡ [] → ⊥) → st .length < length j
     some-left h = go rest refl
@@ -213,8 +213,8 @@ module _ (j key : List ℕ) (n : ℕ) (o : Owner) (ps : List Pair) (p : Pair) (m
       let w = start-at j b (st .length) t in
       record { typed = w .typed; good = w .good; few = w .few; bytes = sym rest-is ∙ w .bytes }
 
-  serial-asks : (serial : Name) → serialNumber st serial 0 ≡ ask (not (isIn serial (serialsOf (ps ++ (p ∷ []))))) 30 (ask (ltb (length (serialsOf (ps ++ (p ∷ [])))) 8) 31 0)
-  unfolding serialNumber
+  serial-asks : (serial : Name) → renewNumber st serial 0 ≡ ask (not (isIn serial (serialsOf (ps ++ (p ∷ []))))) 30 (ask (ltb (length (serialsOf (ps ++ (p ∷ [])))) 8) 31 0)
+  unfolding renewNumber
   serial-asks serial = λ i. ask (not (isIn serial (used-is i))) 30 (ask (ltb (length (used-is i)) 8) 31 0)
 
   start-asks : (serial : Name) (k : ℕ) (more : List ℕ) → StartThere rest serial k more
@@ -455,7 +455,7 @@ module _ (j key : List ℕ) (n : ℕ) (b : AllBytes j) where
               let st′ = stateThere o key n ps p in
               let x = entry-at j (s′ .open-at .at) b w in
               move ps (wider p (x .entry)) m (drop (step st′ (x .entry) .length) j)
-              (far-entry j key n o ps p m rest f (omega (arith, s′ .open-at .section, s′ .count, full-false st′ j u)) x)
+              (far-entry j key n o ps p m rest f (omega (arith, s′ .open-at .since, s′ .count, full-false st′ j u)) x)
               (ap (λ (c : Checked). c .state) e ∙ (x .state ∙ sym (run-wider (blank o key n) ps p (x .entry))))
           on (at-end u l e) = absurd (h (ap (λ (x : Step). x .number) (idle (keySchedule key) j (suc i) (stateThere o key n ps p) e)))
           on (a-start u l w e) =
@@ -463,7 +463,7 @@ module _ (j key : List ℕ) (n : ℕ) (b : AllBytes j) where
               let st′ = stateThere o key n ps p in
               let serial = serialAt j (st′ .length) in
               let x = start-at j b (st′ .length) (w .there) in
-              let c : m ≡ length (p .entries) = omega (arith, s′ .open-at .section, s′ .count, f .within, full-true st′ j u) in
+              let c : m ≡ length (p .entries) = omega (arith, s′ .open-at .since, s′ .count, f .within, full-true st′ j u) in
               move (ps ++ (p ∷ [])) (emptyPair serial) (countAt j (st′ .length + 4 + serial .len) 4) (drop (st′ .length + 8 + serial .len) j)
               (far-start j key n o ps p rest serial (countAt j (st′ .length + 4 + serial .len) 4) (subst (λ (a : ℕ). Far j key n o ps p a rest) c f) x (w .new) (w .few))
               (ap (λ (y : Checked). y .state) e ∙ (state-of 0 (renewed st′ serial) ∙ sym (run-empty (blank o key n) (ps ++ (p ∷ [])) serial)))

@@ -210,7 +210,7 @@ pub next-is : (st : State) (d : Details) (text : List ℕ) {a : After} {chain : 
       issued = st .issued + 1;
       chain = chain;
       length = st .length + 2 + length text;
-      section = st .section + 1;
+      since = st .since + 1;
       place = st .place;
     } ≡ next st d text
 unfolding next
@@ -227,7 +227,7 @@ next-is st d text p q =
       issued = st .issued + 1;
       chain = q i;
       length = e i;
-      section = st .section + 1;
+      since = st .since + 1;
       place = st .place;
     }
 
@@ -252,11 +252,11 @@ module _ (st : State) (d : Details) (sig b : List ℕ) (a : Asked st d sig (leng
   asked-alone = let p = both _ _ (a .sound) in (p .0, leb-true _ _ (p .1))
 
   -- the counts of receipts, and the place of that of the open section
-  pub append-count : d .number < 4294967296 → (st .issued + 1 < 4294967296) × (st .section + 1 < 4294967296)
+  pub append-count : d .number < 4294967296 → (st .issued + 1 < 4294967296) × (st .since + 1 < 4294967296)
   append-count h =
       let s = sound-true st (asked-alone .0) in
       let n = details-zero st d 0 (a .details) .0 .above in
-      (omega (arith, s .issued), omega (arith, s .issued, s .section))
+      (omega (arith, s .issued), omega (arith, s .issued, s .since))
 
   pub append-place : st .place + 4 ≤ length b
   append-place = omega (arith, sound-true st (asked-alone .0) .place, asked-alone .1)
@@ -308,13 +308,13 @@ module _ (st : State) (d : Details) (sig b : List ℕ) (a : Asked st d sig (leng
           }
 
       pub append-done : {st₁ : State} {b₂ : List ℕ} → st₁ ≡ next st d (take (r - (st .length + 2)) (drop (st .length + 2) b₁))
-          → b₂ ≡ overwrite b₁ (st .place) (bytesOf 4 (st .section + 1))
+          → b₂ ≡ overwrite b₁ (st .place) (bytesOf 4 (st .since + 1))
           → (record { number = 0; state = st₁ } ≡ issued st d sig (length b)) × (b₂ ≡ issueBuffer st d sig b)
       unfolding issuedWithin issueBufferWithin withEntry
       append-done f g =
           let n : issueNumber st d sig (length b) ≡ 0 = number-is ∙ ask-yes 13 0 (le-leb _ _ (appended .room)) in (
             (λ i. record { number = sym n i; state = (f ∙ ap (next st d) text-is ∙ sym (ifZero-yes (next st d (textOf st d sig)) st n)) i }),
-            g ∙ (λ i. overwrite (appended .wrote i) (st .place) (bytesOf 4 (st .section + 1))) ∙ sym (ifZero-yes (withEntry st (textOf st d sig) b) b n),
+            g ∙ (λ i. overwrite (appended .wrote i) (st .place) (bytesOf 4 (st .since + 1))) ∙ sym (ifZero-yes (withEntry st (textOf st d sig) b) b n),
           )
 
 -- ---- the questions of an Issue

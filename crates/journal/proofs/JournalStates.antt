@@ -66,7 +66,7 @@ state-last k n o ps p w =
       issued = (ap (λ (x : Core). x .issued) c ∙ le) i;
       chain = ap (λ (x : Core). x .chain) c i;
       length = q .size i;
-      section = (q .section ∙ ap (λ (x : Pair). length (x .entries)) (sym ol)) i;
+      since = (q .since ∙ ap (λ (x : Pair). length (x .entries)) (sym ol)) i;
       place = (place ∙ ap (λ (x : Pair). length (journalText o n qs) - (4 + length (texts (settingsFor o (x .serial)) n (x .entries)))) (sym ol)) i;
     }
 

@@ -17,7 +17,7 @@ use Rattle.receipt.specs.Settings.{TypedSettings}
 use Rattle.receipt.proofs.ExactEntry.{back, compact-short}
 use Rattle.journal.specs.Head.{headSettings, entryText, textAt, pairStart, serialAt}
 use Rattle.journal.specs.State.{TypedName}
-use Rattle.journal.specs.Valid.{Owner, Pair, settingsFor, texts, pairTexts, ownerText, journalText, placed, allPlaced, GoodOwner, Valid, headOf}
+use Rattle.journal.specs.Valid.{Owner, Pair, settingsFor, texts, pairTexts, ownerText, journalText, placedUnder, allPlaced, GoodOwner, Valid, headOf}
 use Rattle.journal.specs.Demands.{OneReading}
 use Rattle.journal.proofs.Sections.{length-start}
 use Rattle.journal.proofs.Places.{text-at}
@@ -51,9 +51,9 @@ entry-one s n e f a b ts te tf ge gf q =
 
 -- ---- entries and pairs
 
-entries-one : (k : List ℕ) (s : Settings) (n : ℕ) (c d : Core) (es fs : List Entry) (a b : List ℕ) → TypedSettings s → length es ≡ length fs → AllRight k n c (placed s es)
-    → AllRight k n d (placed s fs) → texts s n es ++ a ≡ texts s n fs ++ b → (es ≡ fs) × (a ≡ b)
-unfolding texts placed
+entries-one : (k : List ℕ) (s : Settings) (n : ℕ) (c d : Core) (es fs : List Entry) (a b : List ℕ) → TypedSettings s → length es ≡ length fs → AllRight k n c (placedUnder s es)
+    → AllRight k n d (placedUnder s fs) → texts s n es ++ a ≡ texts s n fs ++ b → (es ≡ fs) × (a ≡ b)
+unfolding texts placedUnder
 entries-one k s n c d [] [] a b ts l p q e = (refl, e)
 entries-one k s n c d [] (f ∷ fs) a b ts l p q e = absurd (omega arith)
 entries-one k s n c d (x ∷ es) [] a b ts l p q e = absurd (omega arith)
@@ -91,12 +91,12 @@ pairs-one k o n c d us vs (p ∷ ps) (q ∷ qs) g h j (placing.more b₁ ns) (pl
     let w₁ = start-one s (q .serial) (length (p .entries)) (length (q .entries)) (texts (settingsFor o s) n (p .entries) ++ pairTexts o n ps)
     (texts (settingsFor o (q .serial)) n (q .entries) ++ pairTexts o n qs) (b₁ .typed) (b₂ .typed) (b₁ .good) (b₂ .good) (b₁ .few) (b₂ .few)
     (sym (more-text o n p ps) ∙ (e ∙ more-text o n q qs)) in
-    let h′ = right-split k n c (placed (settingsFor o s) (p .entries)) (allPlaced o ps) h in
-    let j′ = right-split k n d (placed (settingsFor o (q .serial)) (q .entries)) (allPlaced o qs) j in
+    let h′ = right-split k n c (placedUnder (settingsFor o s) (p .entries)) (allPlaced o ps) h in
+    let j′ = right-split k n d (placedUnder (settingsFor o (q .serial)) (q .entries)) (allPlaced o qs) j in
     let w₂ = entries-one k (settingsFor o s) n c d (p .entries) (q .entries) (pairTexts o n ps) (pairTexts o n qs) (typed-for o s g (b₁ .typed)) (w₁ .1) (h′ .0)
-    (subst (λ (m : Name). AllRight k n d (placed (settingsFor o m) (q .entries))) (sym (w₁ .0)) (j′ .0))
+    (subst (λ (m : Name). AllRight k n d (placedUnder (settingsFor o m) (q .entries))) (sym (w₁ .0)) (j′ .0))
     (w₁ .2 ∙ ap (λ (m : Name). texts (settingsFor o m) n (q .entries) ++ pairTexts o n qs) (sym (w₁ .0))) in
-    let r = pairs-one k o n (runCore n c (placed (settingsFor o s) (p .entries))) (runCore n d (placed (settingsFor o (q .serial)) (q .entries)))
+    let r = pairs-one k o n (runCore n c (placedUnder (settingsFor o s) (p .entries))) (runCore n d (placedUnder (settingsFor o (q .serial)) (q .entries)))
     (us ++ (s ∷ [])) (vs ++ (q .serial ∷ [])) ps qs g (h′ .1) (j′ .1) ns ms (w₂ .1) in
     λ i. record { serial = w₁ .0 i; entries = w₂ .0 i } ∷ r i
 

@@ -16,7 +16,7 @@ use Rattle.receipt.proofs.Names.{good-name, length-text}
 use Rattle.journal.specs.Head.{section, entryText, pairStart}
 use Rattle.journal.specs.State.{newest, isIn, TypedName}
 use Rattle.journal.specs.Step.{renewed}
-use Rattle.journal.specs.Valid.{Owner, Pair, settingsFor, texts, pairText, pairTexts, ownerText, journalText, Placed, placed, allPlaced, serialsOf, GoodOwner}
+use Rattle.journal.specs.Valid.{Owner, Pair, settingsFor, texts, pairText, pairTexts, ownerText, journalText, Placed, placedUnder, allPlaced, serialsOf, GoodOwner}
 use Rattle.journal.specs.Demands.{beforeCount}
 use Rattle.journal.specs.declared.state.State.{State}
 use Rattle.journal.proofs.Sections.{length-section, length-serial, length-start}
@@ -44,8 +44,8 @@ pairs-append o n [] qs = refl
 pairs-append o n (p ∷ ps) qs =
     ap (λ (l : List ℕ). pairText o n p ++ l) (pairs-append o n ps qs) ∙ sym (append-assoc (pairText o n p) (pairTexts o n ps) (pairTexts o n qs))
 
-pub placed-append : (s : Settings) (es fs : List Entry) → placed s (es ++ fs) ≡ placed s es ++ placed s fs
-unfolding placed
+pub placed-append : (s : Settings) (es fs : List Entry) → placedUnder s (es ++ fs) ≡ placedUnder s es ++ placedUnder s fs
+unfolding placedUnder
 placed-append s [] fs = refl
 placed-append s (e ∷ es) fs = ap (λ (l : List Placed). record { settings = s; entry = e } ∷ l) (placed-append s es fs)
 
@@ -53,8 +53,8 @@ pub all-append : (o : Owner) (ps qs : List Pair) → allPlaced o (ps ++ qs) ≡ 
 unfolding allPlaced
 all-append o [] qs = refl
 all-append o (p ∷ ps) qs =
-    ap (λ (l : List Placed). placed (settingsFor o (p .serial)) (p .entries) ++ l) (all-append o ps qs)
-    ∙ sym (append-assoc (placed (settingsFor o (p .serial)) (p .entries)) (allPlaced o ps) (allPlaced o qs))
+    ap (λ (l : List Placed). placedUnder (settingsFor o (p .serial)) (p .entries) ++ l) (all-append o ps qs)
+    ∙ sym (append-assoc (placedUnder (settingsFor o (p .serial)) (p .entries)) (allPlaced o ps) (allPlaced o qs))
 
 run-snoc : (st : State) (es : List Entry) (e : Entry) → run st (es ++ (e ∷ [])) ≡ step (run st es) e
 unfolding run
@@ -86,20 +86,20 @@ pub run-empty : (st : State) (ps : List Pair) (s : Name) → runPairs st (ps ++ 
 unfolding run
 run-empty st ps s = run-last st ps (emptyPair s)
 
-pub last-placed : (o : Owner) (ps : List Pair) (p : Pair) → allPlaced o (ps ++ (p ∷ [])) ≡ allPlaced o ps ++ placed (settingsFor o (p .serial)) (p .entries)
+pub last-placed : (o : Owner) (ps : List Pair) (p : Pair) → allPlaced o (ps ++ (p ∷ [])) ≡ allPlaced o ps ++ placedUnder (settingsFor o (p .serial)) (p .entries)
 unfolding allPlaced
-last-placed o ps p = all-append o ps (p ∷ []) ∙ ap (λ (l : List Placed). allPlaced o ps ++ l) (append-nil (placed (settingsFor o (p .serial)) (p .entries)))
+last-placed o ps p = all-append o ps (p ∷ []) ∙ ap (λ (l : List Placed). allPlaced o ps ++ l) (append-nil (placedUnder (settingsFor o (p .serial)) (p .entries)))
 
 pub all-wider : (o : Owner) (ps : List Pair) (p : Pair) (e : Entry) → allPlaced o (ps ++ (wider p e ∷ [])) ≡ allPlaced o (ps ++ (p ∷ [])) ++ (under o (p .serial) e ∷ [])
-unfolding placed
+unfolding placedUnder
 all-wider o ps p e =
     last-placed o ps (wider p e)
     ∙ (ap (λ (l : List Placed). allPlaced o ps ++ l) (placed-append (settingsFor o (p .serial)) (p .entries) (e ∷ []))
-    ∙ (sym (append-assoc (allPlaced o ps) (placed (settingsFor o (p .serial)) (p .entries)) (under o (p .serial) e ∷ []))
+    ∙ (sym (append-assoc (allPlaced o ps) (placedUnder (settingsFor o (p .serial)) (p .entries)) (under o (p .serial) e ∷ []))
     ∙ ap (λ (l : List Placed). l ++ (under o (p .serial) e ∷ [])) (sym (last-placed o ps p))))
 
 pub all-empty : (o : Owner) (ps : List Pair) (s : Name) → allPlaced o (ps ++ (emptyPair s ∷ [])) ≡ allPlaced o ps
-unfolding placed
+unfolding placedUnder
 all-empty o ps s = last-placed o ps (emptyPair s) ∙ append-nil (allPlaced o ps)
 
 pub names-wider : (us : List Name) (ps : List Pair) (p : Pair) (e : Entry) → length (p .entries) + 1 < 4294967296 → Names us (ps ++ (p ∷ [])) → Names us (ps ++ (wider p e ∷ []))
@@ -164,10 +164,10 @@ ran [] st o k n c us b h ns =
 ran (p ∷ ps) st o k n c us b h (placing.more g ns) =
     let s = p .serial in
     let st₁ = renewed st s in
-    let hs = right-split k n c (placed (settingsFor o s) (p .entries)) (allPlaced o ps) h in
+    let hs = right-split k n c (placedUnder (settingsFor o s) (p .entries)) (allPlaced o ps) h in
     let a₁ = at-renewed s (g .typed) (g .good) b in
     let a₂ = at-entries (p .entries) a₁ (hs .0) in
-    let r = ran ps (run st₁ (p .entries)) o k n (runCore n c (placed (settingsFor o s) (p .entries))) (us ++ (s ∷ [])) (a₂ .base) (hs .1) ns in
+    let r = ran ps (run st₁ (p .entries)) o k n (runCore n c (placedUnder (settingsFor o s) (p .entries))) (us ++ (s ∷ [])) (a₂ .base) (hs .1) ns in
     let q = r .base in
     record {
       base =
@@ -176,7 +176,7 @@ ran (p ∷ ps) st o k n c us b h (placing.more g ns) =
             id = q .id;
             key = q .key;
             width = q .width;
-            core = q .core ∙ sym (run-append n c (placed (settingsFor o s) (p .entries)) (allPlaced o ps));
+            core = q .core ∙ sym (run-append n c (placedUnder (settingsFor o s) (p .entries)) (allPlaced o ps));
             serials = q .serials ∙ append-assoc us (s ∷ []) (serialsOf ps);
             good = q .good;
           };
@@ -207,7 +207,7 @@ journal-empty o n ps s =
 -- what holds of a state whose journal has the pairs ps and then the open pair p
 pub record Open (k : List ℕ) (n : ℕ) (o : Owner) (ps : List Pair) (p : Pair) (st : State) : Type 0 where
   pub at : At st o k n (p .serial) (runCore n (startCore o) (allPlaced o (ps ++ (p ∷ [])))) (serialsOf (ps ++ (p ∷ [])))
-  pub section : st .section ≡ length (p .entries)
+  pub since : st .since ≡ length (p .entries)
   pub place : length (beforeCount o n ps (p .serial)) ≡ st .place
   pub size : st .length ≡ length (journalText o n (ps ++ (p ∷ [])))
 
@@ -225,7 +225,7 @@ open-of k n o ps p w =
     let st₁ = renewed st₀ s in
     let kp = kept (p .entries) st₁ in
     let b₀ = blank-base o k n (w .good) in
-    let h₀ = right-split k n (startCore o) (allPlaced o ps) (placed (settingsFor o s) (p .entries)) (subst (AllRight k n (startCore o)) (last-placed o ps p) (w .right)) in
+    let h₀ = right-split k n (startCore o) (allPlaced o ps) (placedUnder (settingsFor o s) (p .entries)) (subst (AllRight k n (startCore o)) (last-placed o ps p) (w .right)) in
     let r₀ = ran ps (blank o k n) o k n (startCore o) [] b₀ (h₀ .0) (ns .0) in
     let r = ran (ps ++ (p ∷ [])) (blank o k n) o k n (startCore o) [] b₀ (w .right) (w .names) in
     let a₁ = at-renewed s (b .typed) (b .good) (r₀ .base) in
@@ -234,7 +234,7 @@ open-of k n o ps p w =
     let lo = length-owner o (w .good) in
     record {
       at = record { base = r .base; serial = ap (λ (x : State). newest (x .serials)) e ∙ a₂ .serial; typed = b .typed; good = b .good };
-      section = ap (λ (x : State). x .section) e ∙ (kp .section ∙ omega (arith, renewed-section st₀ s));
+      since = ap (λ (x : State). x .since) e ∙ (kp .since ∙ omega (arith, renewed-section st₀ s));
       place =
           length-append (ownerText o) (pairTexts o n ps ++ section (nameText s))
           ∙ (omega (arith, length-append (pairTexts o n ps) (section (nameText s)), lo, length-serial s (b .typed .long) (b .good), r₀ .length, bl, renewed-place st₀ s, kp .place)

@@ -18,7 +18,7 @@ use Rattle.journal.specs.Head.{entryText, textAt, pairStart, serialAt, s
 use Rattle.journal.specs.State.{used, newest, settingsNow, TypedName}
 use Rattle.journal.specs.Step.{next, renewed}
 use Rattle.journal.specs.Checking.{found, after, entryNumber, stopped, startNumber, full, oneStep, steps}
-use Rattle.journal.specs.Valid.{Owner, Pair, settingsFor, texts, pairText, pairTexts, Placed, placed, allPlaced, Right, GoodOwner}
+use Rattle.journal.specs.Valid.{Owner, Pair, settingsFor, texts, pairText, pairTexts, Placed, placedUnder, allPlaced, Right, GoodOwner}
 use Rattle.journal.specs.declared.state.State.{State}
 use Rattle.journal.specs.declared.checking.Checked.{Checked}
 use Rattle.primitives.proofs.Rows.{ask-yes}
@@ -136,7 +136,7 @@ pub renewed-place : (st : State) (s : Name) → renewed st s .place ≡ st .leng
 unfolding renewed
 renewed-place st s = refl
 
-pub renewed-section : (st : State) (s : Name) → renewed st s .section ≡ 0
+pub renewed-section : (st : State) (s : Name) → renewed st s .since ≡ 0
 unfolding renewed
 renewed-section st s = refl
 
@@ -174,20 +174,20 @@ runPairs st (p ∷ ps) = runPairs (run (renewed st (p .serial)) (p .entries)) ps
 pub record Kept (st : State) (es : List Entry) (st′ : State) : Type 0 where
   pub serials : st′ .serials ≡ st .serials
   pub place : st′ .place ≡ st .place
-  pub section : st′ .section ≡ st .section + length es
+  pub since : st′ .since ≡ st .since + length es
   pub length : st′ .length ≡ st .length + length (texts (settingsNow st) (st .width) es)
 
 pub kept : (es : List Entry) (st : State) → Kept st es (run st es)
 unfolding run next texts
-kept [] st = record { serials = refl; place = refl; section = sym (add-zero (st .section)); length = sym (add-zero (st .length)) }
+kept [] st = record { serials = refl; place = refl; since = sym (add-zero (st .since)); length = sym (add-zero (st .length)) }
 kept (e ∷ es) st =
     let k = kept es (step st e) in
     let a = length-append (entryText (textIn st e)) (texts (settingsNow st) (st .width) es) in
-    record { serials = k .serials; place = k .place; section = k .section ∙ omega arith; length = k .length ∙ omega (arith, a) }
+    record { serials = k .serials; place = k .place; since = k .since ∙ omega arith; length = k .length ∙ omega (arith, a) }
 
 pub at-entries : {st : State} {o : Owner} {k : List ℕ} {n : ℕ} {s : Name} {c : Core} {us : List Name} (es : List Entry) → At st o k n s c us
-    → AllRight k n c (placed (settingsFor o s) es) → At (run st es) o k n s (runCore n c (placed (settingsFor o s) es)) us
-unfolding run runCore placed
+    → AllRight k n c (placedUnder (settingsFor o s) es) → At (run st es) o k n s (runCore n c (placedUnder (settingsFor o s) es)) us
+unfolding run runCore placedUnder
 at-entries [] a placing.none = a
 at-entries (e ∷ es) a (placing.more h hs) = at-entries es (at-next e a (right-here a e h)) hs
 
@@ -200,7 +200,7 @@ run-length {st} es a = kept es st .length ∙ ap (λ (l : List ℕ). st .length 
 module _ {st : State} {o : Owner} {k : List ℕ} {n : ℕ} {s : Name} {c : Core} {us : List Name} (a : At st o k n s c us) where
   -- an entry is read
   pub entry-step : (e : Entry) (p rest j : List ℕ) → length p ≡ st .length → RightFor k n c (under o s e) → j ≡ p ++ (entryText (compact (settingsFor o s) n e) ++ rest)
-      → st .section < countAt j (st .place) 4
+      → st .since < countAt j (st .place) 4
       → oneStep (keySchedule k) st j ≡ record { number = 0; found = record { ok = true; entry = e }; state = step st e }
   entry-step e p rest j at r q less =
       let h = right-here a e r in
@@ -214,7 +214,7 @@ module _ {st : State} {o : Owner} {k : List ℕ} {n : ℕ} {s : Name} {c : Core}
 
 -- the start of a pair with the serial s and the count m is read
 pub start-step : {st : State} {o : Owner} {k : List ℕ} {n : ℕ} {c : Core} {us : List Name} → Base st o k n c us → (s : Name) (m : ℕ) (p rest j : List ℕ) → length p ≡ st .length
-    → Startable us s m → j ≡ p ++ (pairStart s m ++ rest) → countAt j (st .place) 4 ≤ st .section
+    → Startable us s m → j ≡ p ++ (pairStart s m ++ rest) → countAt j (st .place) 4 ≤ st .since
     → oneStep (keySchedule k) st j ≡ stopped 0 (renewed st s)
 unfolding startNumber
 start-step {st} {k = k} b s m p rest j at g q most =
@@ -239,10 +239,10 @@ state-of m st = refl
 
 -- through the entries of the open section
 pub passed : {st : State} {o : Owner} {k : List ℕ} {n : ℕ} {s : Name} {c : Core} {us : List Name} (es : List Entry) (m : ℕ) (p rest j : List ℕ) → At st o k n s c us
-    → length p ≡ st .length → AllRight k n c (placed (settingsFor o s) es) → j ≡ p ++ (texts (settingsFor o s) n es ++ rest)
-    → st .section + length es ≤ countAt j (st .place) 4
+    → length p ≡ st .length → AllRight k n c (placedUnder (settingsFor o s) es) → j ≡ p ++ (texts (settingsFor o s) n es ++ rest)
+    → st .since + length es ≤ countAt j (st .place) 4
     → steps (keySchedule k) (length es + m) st j ≡ steps (keySchedule k) m (run st es) j
-unfolding texts run placed next
+unfolding texts run placedUnder next
 passed {st} {k = k} [] m p rest j a at h q room = let e : 0 + m ≡ m = omega arith in ap (λ (i : ℕ). steps (keySchedule k) i st j) e
 passed {st} {o} {k} {n} {s} (e ∷ es) m p rest j a at (placing.more h hs) q room =
     let t = entryText (compact (settingsFor o s) n e) in
@@ -263,16 +263,16 @@ stepsOf [] = 0
 stepsOf (p ∷ ps) = suc (length (p .entries) + stepsOf ps)
 
 module _ {st : State} {o : Owner} {k : List ℕ} {n : ℕ} {s : Name} {c : Core} {us : List Name} (es : List Entry) (p j rest : List ℕ) (a : At st o k n s c us)
-    (at : length p ≡ st .length) (count : countAt j (st .place) 4 ≡ st .section + length es) where
+    (at : length p ≡ st .length) (count : countAt j (st .place) 4 ≡ st .since + length es) where
   pub section-place : length (p ++ texts (settingsFor o s) n es) ≡ run st es .length
   section-place = length-append p (texts (settingsFor o s) n es) ∙ omega (arith, at, run-length es a)
 
-  pub section-full : countAt j (run st es .place) 4 ≡ run st es .section
-  section-full = ap (λ (x : ℕ). countAt j x 4) (kept es st .place) ∙ (count ∙ sym (kept es st .section))
+  pub section-full : countAt j (run st es .place) 4 ≡ run st es .since
+  section-full = ap (λ (x : ℕ). countAt j x 4) (kept es st .place) ∙ (count ∙ sym (kept es st .since))
 
 -- the pairs are passed, and the last one is full
 pub record Through (st : State) (j p : List ℕ) : Type 0 where
-  pub full : countAt j (st .place) 4 ≡ st .section
+  pub full : countAt j (st .place) 4 ≡ st .since
   pub place : length p ≡ st .length
 
 pub pair-split : (o : Owner) (n : ℕ) (x : Pair) (rest : List ℕ)
@@ -289,19 +289,19 @@ module _ {st : State} {o : Owner} {k : List ℕ} {n : ℕ} {c : Core} {us : List
   pub start-bytes : j ≡ (p ++ pairStart s m) ++ rest
   start-bytes = q ∙ sym (append-assoc p (pairStart s m) rest)
 
-  pub start-count : countAt j (renewed st s .place) 4 ≡ renewed st s .section + m
+  pub start-count : countAt j (renewed st s .place) 4 ≡ renewed st s .since + m
   start-count =
       (λ i. countAt (q i) (renewed-place st s i) 4)
       ∙ (count-read s (g .typed) (g .good) p m rest (st .length) at (g .few) ∙ omega (arith, renewed-section st s))
 
 pub passed-pairs : {st : State} {o : Owner} {k : List ℕ} {n : ℕ} {s : Name} {c : Core} {us : List Name} (ps : List Pair) (es : List Entry) (m : ℕ) (p j rest : List ℕ)
-    → At st o k n s c us → length p ≡ st .length → AllRight k n c (placed (settingsFor o s) es ++ allPlaced o ps) → Names us ps
-    → j ≡ p ++ (texts (settingsFor o s) n es ++ (pairTexts o n ps ++ rest)) → countAt j (st .place) 4 ≡ st .section + length es
+    → At st o k n s c us → length p ≡ st .length → AllRight k n c (placedUnder (settingsFor o s) es ++ allPlaced o ps) → Names us ps
+    → j ≡ p ++ (texts (settingsFor o s) n es ++ (pairTexts o n ps ++ rest)) → countAt j (st .place) 4 ≡ st .since + length es
     → (steps (keySchedule k) (length es + (stepsOf ps + m)) st j ≡ steps (keySchedule k) m (runPairs (run st es) ps) j)
     × Through (runPairs (run st es) ps) j (p ++ (texts (settingsFor o s) n es ++ pairTexts o n ps))
 unfolding stepsOf runPairs pairTexts allPlaced
 passed-pairs {st} {o} {k} {n} {s} {c} {us} [] es m p j rest a at h ns q count =
-    let h₁ = right-split k n c (placed (settingsFor o s) es) [] h .0 in
+    let h₁ = right-split k n c (placedUnder (settingsFor o s) es) [] h .0 in
     let f = section-full es p j rest a at count in
     let l = section-place es p j rest a at count in
     let z : 0 + m ≡ m = omega arith in (
@@ -310,7 +310,7 @@ passed-pairs {st} {o} {k} {n} {s} {c} {us} [] es m p j rest a at h ns q count =
     )
 passed-pairs {st} {o} {k} {n} {s} {c} {us} (x ∷ ps) es m p j rest a at h (placing.more g ns) q count =
     let sf = settingsFor o s in
-    let hs = right-split k n c (placed sf es) (placed (settingsFor o (x .serial)) (x .entries) ++ allPlaced o ps) h in
+    let hs = right-split k n c (placedUnder sf es) (placedUnder (settingsFor o (x .serial)) (x .entries) ++ allPlaced o ps) h in
     let r = (pairText o n x ++ pairTexts o n ps) ++ rest in
     let st₂ = run st es in
     let a₂ = at-entries es a (hs .0) in

@@ -22,7 +22,7 @@ use Rattle.journal.specs.Head.{head, headLength, entryText, lengthAt, th
 use Rattle.journal.specs.State.{noName, used, inEight, added, serialsGood}
 use Rattle.journal.specs.Step.{fresh, soundAlone, sound, next, renewed}
 use Rattle.journal.specs.Checking.{found, entryNumber, textNumber, stopped, checked, textChecked, placeChecked, oneStep, entryReady, entryChecked, stepChecked, readBySteps}
-use Rattle.journal.specs.Valid.{Owner, Pair, settingsFor, texts, pairText, pairTexts, journalText, placed, allPlaced, entriesIn, GoodOwner, Valid, headOf}
+use Rattle.journal.specs.Valid.{Owner, Pair, settingsFor, texts, pairText, pairTexts, journalText, placedUnder, allPlaced, entriesIn, GoodOwner, Valid, headOf}
 use Rattle.journal.specs.Demands.{StepsReadEntries, StepIsItsEntry}
 use Rattle.journal.specs.declared.state.State.{State}
 use Rattle.journal.specs.declared.checking.Checked.{Checked}
@@ -53,7 +53,7 @@ sound-next st e h s =
       width = s .width;
       counter = ap (counterFits (st .width)) (step-counter st e h) ∙ h .counter .fits;
       issued = omega (arith, s .issued, h .above);
-      section = omega (arith, s .section);
+      since = omega (arith, s .since);
       place = omega (arith, s .place);
       head = omega (arith, s .head);
     }
@@ -79,7 +79,7 @@ sound-renewed st s g x =
       width = x .width;
       counter = x .counter;
       issued = x .issued;
-      section = omega arith;
+      since = omega arith;
       place = omega arith;
       head = omega (arith, ap (λ (n : Name). n .len) (first-stays (st .serials) s (x .serials)), x .head);
     }
@@ -117,9 +117,9 @@ read-none k (suc m) st j q = read-past k m st j st q ∙ read-none k m st j q
 -- ---- entries and pairs
 
 read-entries : {st : State} {o : Owner} {k : List ℕ} {n : ℕ} {s : Name} {c : Core} {us : List Name} (es : List Entry) (m : ℕ) (p rest j : List ℕ) → At st o k n s c us → Sound st
-    → length p ≡ st .length → AllRight k n c (placed (settingsFor o s) es) → j ≡ p ++ (texts (settingsFor o s) n es ++ rest) → st .section + length es ≤ countAt j (st .place) 4
+    → length p ≡ st .length → AllRight k n c (placedUnder (settingsFor o s) es) → j ≡ p ++ (texts (settingsFor o s) n es ++ rest) → st .since + length es ≤ countAt j (st .place) 4
     → (readBySteps (keySchedule k) (length es + m) st j ≡ es ++ readBySteps (keySchedule k) m (run st es) j) × Sound (run st es)
-unfolding texts run placed next
+unfolding texts run placedUnder next
 read-entries {st} {k = k} [] m p rest j a x at h q room = let e : 0 + m ≡ m = omega arith in (ap (λ (i : ℕ). readBySteps (keySchedule k) i st j) e, x)
 read-entries {st} {o} {k} {n} {s} (e ∷ es) m p rest j a x at (placing.more h hs) q room =
     let t = entryText (compact (settingsFor o s) n e) in
@@ -139,12 +139,12 @@ read-entries {st} {o} {k} {n} {s} (e ∷ es) m p rest j a x at (placing.more h h
     )
 
 read-pairs : {st : State} {o : Owner} {k : List ℕ} {n : ℕ} {s : Name} {c : Core} {us : List Name} (ps : List Pair) (es : List Entry) (m : ℕ) (p j : List ℕ)
-    → At st o k n s c us → Sound st → length p ≡ st .length → AllRight k n c (placed (settingsFor o s) es ++ allPlaced o ps) → Names us ps
-    → j ≡ p ++ (texts (settingsFor o s) n es ++ pairTexts o n ps) → countAt j (st .place) 4 ≡ st .section + length es
+    → At st o k n s c us → Sound st → length p ≡ st .length → AllRight k n c (placedUnder (settingsFor o s) es ++ allPlaced o ps) → Names us ps
+    → j ≡ p ++ (texts (settingsFor o s) n es ++ pairTexts o n ps) → countAt j (st .place) 4 ≡ st .since + length es
     → readBySteps (keySchedule k) (length es + (stepsOf ps + m)) st j ≡ es ++ entriesIn ps
 unfolding stepsOf pairTexts allPlaced entriesIn
 read-pairs {st} {o} {k} {n} {s} {c} {us} [] es m p j a x at h ns q count =
-    let h₁ = right-split k n c (placed (settingsFor o s) es) [] h .0 in
+    let h₁ = right-split k n c (placedUnder (settingsFor o s) es) [] h .0 in
     let w = read-entries es (0 + m) p [] j a x at h₁ q (omega arith) in
     let f = section-full es p j [] a at count in
     let l = section-place es p j [] a at count in
@@ -154,7 +154,7 @@ read-pairs {st} {o} {k} {n} {s} {c} {us} [] es m p j a x at h ns q count =
     w .0 ∙ ap (λ (z : List Entry). es ++ z) (read-none (keySchedule k) (0 + m) st₂ j (checked-is (keySchedule k) st₂ j (sound-here st₂ j (w .1) (omega (arith, e))) ∙ i))
 read-pairs {st} {o} {k} {n} {s} {c} {us} (x ∷ ps) es m p j a y at h (placing.more g ns) q count =
     let sf = settingsFor o s in
-    let hs = right-split k n c (placed sf es) (placed (settingsFor o (x .serial)) (x .entries) ++ allPlaced o ps) h in
+    let hs = right-split k n c (placedUnder sf es) (placedUnder (settingsFor o (x .serial)) (x .entries) ++ allPlaced o ps) h in
     let r = pairText o n x ++ pairTexts o n ps in
     let st₂ = run st es in
     let a₂ = at-entries es a (hs .0) in
@@ -199,7 +199,7 @@ read-first o k n p ps j m w g h b ns bytes fuel =
     let d = m - (length es + stepsOf ps) in
     let z : length es + (stepsOf ps + d) ≡ m =
     omega (arith, fuel, ap length q, length-append pre t, length-append (texts sf n es) (pairTexts o n ps), entries-size sf n es, pairs-size o n ps) in
-    let count : countAt j (st .place) 4 ≡ st .section + length es =
+    let count : countAt j (st .place) 4 ≡ st .since + length es =
     (λ i. countAt (q i) (fresh-place o k n s i) 4) ∙ (read-count-at sf (ts .lengths) gs (length es) (b .few) t ∙ omega (arith, fresh-section o k n s)) in
     ap (λ (i : ℕ). readBySteps (keySchedule k) i st j) (sym z)
     ∙ read-pairs ps es d pre j (fresh-at o k n s g (b .typed) (b .good)) (fresh-sound o k n s (empty-work k n sf ts gs w)) (lh ∙ sym (fresh-length o k n s)) h ns q count

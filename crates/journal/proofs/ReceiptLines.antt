@@ -8,7 +8,7 @@ use Rattle.receipt.specs.declared.settings.Name.{Name}
 use Rattle.receipt.specs.declared.settings.Settings.{Settings}
 use Rattle.receipt.specs.declared.entry.Entry.{Entry}
 use Rattle.receipt.proofs.ReceiptLines.{form-has-line}
-use Rattle.journal.specs.Valid.{Owner, Pair, settingsFor, Placed, placed, allPlaced, GoodOwner, Valid}
+use Rattle.journal.specs.Valid.{Owner, Pair, settingsFor, Placed, placedUnder, allPlaced, GoodOwner, Valid}
 use Rattle.journal.specs.Demands.{EveryReceiptHasLine}
 use Rattle.journal.proofs.Placing.{Names}
 use Rattle.journal.proofs.Placing as placing
@@ -24,8 +24,8 @@ data EachPlace : List Placed → Type 0 where
   none : EachPlace []
   more : {x : Placed} {xs : List Placed} → GoodPlace x → EachPlace xs → EachPlace (x ∷ xs)
 
-section-places : (s : Settings) (es : List Entry) (xs : List Placed) → TypedSettings s → settingsGood s ≡ true → EachPlace xs → EachPlace (placed s es ++ xs)
-unfolding placed
+section-places : (s : Settings) (es : List Entry) (xs : List Placed) → TypedSettings s → settingsGood s ≡ true → EachPlace xs → EachPlace (placedUnder s es ++ xs)
+unfolding placedUnder
 section-places s [] xs t g h = h
 section-places s (e ∷ es) xs t g h = more (record { typed = t; good = g }) (section-places s es xs t g h)
 

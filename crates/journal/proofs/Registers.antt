@@ -29,8 +29,8 @@ use Rattle.journal.specs.Opening.{openNumber, opened, openBuffer}
 use Rattle.journal.specs.Issuing.{entryOf, textOf, issueNumberWithin, issuedWithin, withEntry, issueBufferWithin}
 use Rattle.journal.specs.Changing.{changeNumber, changed, changeBuffer}
 use Rattle.journal.specs.Receipts.{Receipt, receiptOf, receiptsIn, sum}
-use Rattle.journal.specs.Valid.{Owner, Pair, settingsFor, texts, pairTexts, ownerText, journalText, Placed, placed, allPlaced, entriesOf, entriesIn, serialsOf, GoodOwner}
-use Rattle.journal.specs.Calls.{Order, TypedOrder, Call, issue, change, TypedCall, issues, changes, TypedCalls, none, more, Register, opening, numberOf, call, callWithin, calls, callsWithin, receiptOfCall, receiptsOf, Section, sectionsFrom, sectionsIn}
+use Rattle.journal.specs.Valid.{Owner, Pair, settingsFor, texts, pairTexts, ownerText, journalText, Placed, placedUnder, allPlaced, entriesOf, entriesIn, serialsOf, GoodOwner}
+use Rattle.journal.specs.Calls.{Order, TypedOrder, Call, issue, change, TypedCall, issues, changes, TypedCalls, none, more, Register, opening, numberOf, call, callWithin, calls, callsWithin, receiptOfCall, receiptsOf, Period, periodsFrom, periodsIn}
 use Rattle.journal.specs.Demands.{beforeCount}
 use Rattle.journal.specs.declared.state.State.{State}
 use Rattle.journal.proofs.OpenCalls.{open-zero}
@@ -180,7 +180,7 @@ module _ (k : List ℕ) (n : ℕ) (o : Owner) (g : Register) (ps : List Pair) (p
 
     buf-is : call g (issue c) .buf ≡ overwrite (overwrite (g .buf) (g .state .length) text) (g .state .place) (bytesOf 4 (length (p .entries) + 1))
     unfolding withEntry
-    buf-is = call-buf g c z ∙ (λ i. overwrite (overwrite (g .buf) (g .state .length) (text-as i)) (g .state .place) (bytesOf 4 (opened-pair .section i + 1)))
+    buf-is = call-buf g c z ∙ (λ i. overwrite (overwrite (g .buf) (g .state .length) (text-as i)) (g .state .place) (bytesOf 4 (opened-pair .since i + 1)))
 
     length-is : call g (issue c) .state .length ≡ g .state .length + length text
     length-is = ap (λ (x : State). x .length) (call-state g c z) ∙ (step-length (g .state) (entryIn g c) ∙ ap (λ (l : List ℕ). g .state .length + length l) text-as)
@@ -222,7 +222,7 @@ module _ (k : List ℕ) (n : ℕ) (o : Owner) (g : Register) (ps : List Pair) (p
     pub issue-holds : RightAt (g .state) (entryIn g c) → Holds k n o (call g (issue c)) (ps ++ (wider p (entryIn g c) ∷ []))
     issue-holds ok =
         let a = call-answered g c z in
-        let few : length (p .entries) + 1 < 4294967296 = omega (arith, a .sound .issued, a .sound .section, opened-pair .section, ok .above, ok .typed .fields .number) in
+        let few : length (p .entries) + 1 < 4294967296 = omega (arith, a .sound .issued, a .sound .since, opened-pair .since, ok .above, ok .typed .fields .number) in
         record {
           state = call-state g c z ∙ (ap (λ (x : State). step x (entryIn g c)) (h .state) ∙ sym (run-wider (blank o k n) ps p (entryIn g c)));
           work = few-is few (h .work) ok;
@@ -317,7 +317,7 @@ unfolding receiptsIn
 receipts-append [] fs = refl
 receipts-append (e ∷ es) fs = ap (λ (l : List Receipt). receiptOf e ∷ l) (receipts-append es fs)
 
-sectionOf : Pair → Section
+sectionOf : Pair → Period
 sectionOf p = record { serial = p .serial; receipts = receiptsIn (p .entries) }
 
 section-wider : (g : Register) (c : Order) (p : Pair)
@@ -326,27 +326,27 @@ unfolding sectionOf receiptsIn
 section-wider g c p =
     λ i. record { serial = p .serial; receipts = (receipts-append (p .entries) (entryIn g c ∷ []) ∙ ap (λ (r : Receipt). receiptsIn (p .entries) ++ (r ∷ [])) (receipt-same g c)) i }
 
-sections-from : (cs : List Call) (g : Register) (p : Pair) → sectionsIn (pairsFrom g p cs) ≡ sectionsFrom g (sectionOf p) cs
-unfolding sectionsIn sectionsFrom pairsFrom ifZero sectionOf receiptsIn
+sections-from : (cs : List Call) (g : Register) (p : Pair) → periodsIn (pairsFrom g p cs) ≡ periodsFrom g (sectionOf p) cs
+unfolding periodsIn periodsFrom pairsFrom ifZero sectionOf receiptsIn
 sections-from [] g p = refl
 sections-from (issue c ∷ cs) g p = go (numberOf g (issue c)) (sections-from cs (call g (issue c)) p) (sections-from cs (call g (issue c)) (wider p (entryIn g c)))
   where
-    go : (m : ℕ) → sectionsIn (pairsFrom (call g (issue c)) p cs) ≡ sectionsFrom (call g (issue c)) (sectionOf p) cs
-        → sectionsIn (pairsFrom (call g (issue c)) (wider p (entryIn g c)) cs) ≡ sectionsFrom (call g (issue c)) (sectionOf (wider p (entryIn g c))) cs
-        → sectionsIn (ifZero m (pairsFrom (call g (issue c)) (wider p (entryIn g c)) cs) (pairsFrom (call g (issue c)) p cs))
-        ≡ ifZero m (sectionsFrom (call g (issue c)) (record { serial = p .serial; receipts = receiptsIn (p .entries) ++ (receiptOfCall c ∷ []) }) cs) (sectionsFrom (call g (issue c)) (sectionOf p) cs)
-    go zero e f = f ∙ ap (λ (x : Section). sectionsFrom (call g (issue c)) x cs) (section-wider g c p)
+    go : (m : ℕ) → periodsIn (pairsFrom (call g (issue c)) p cs) ≡ periodsFrom (call g (issue c)) (sectionOf p) cs
+        → periodsIn (pairsFrom (call g (issue c)) (wider p (entryIn g c)) cs) ≡ periodsFrom (call g (issue c)) (sectionOf (wider p (entryIn g c))) cs
+        → periodsIn (ifZero m (pairsFrom (call g (issue c)) (wider p (entryIn g c)) cs) (pairsFrom (call g (issue c)) p cs))
+        ≡ ifZero m (periodsFrom (call g (issue c)) (record { serial = p .serial; receipts = receiptsIn (p .entries) ++ (receiptOfCall c ∷ []) }) cs) (periodsFrom (call g (issue c)) (sectionOf p) cs)
+    go zero e f = f ∙ ap (λ (x : Period). periodsFrom (call g (issue c)) x cs) (section-wider g c p)
     go (suc m) e f = e
 sections-from (change s ∷ cs) g p = go (numberOf g (change s)) (sections-from cs (call g (change s)) p) (sections-from cs (call g (change s)) (emptyPair s))
   where
-    go : (m : ℕ) → sectionsIn (pairsFrom (call g (change s)) p cs) ≡ sectionsFrom (call g (change s)) (sectionOf p) cs
-        → sectionsIn (pairsFrom (call g (change s)) (emptyPair s) cs) ≡ sectionsFrom (call g (change s)) (record { serial = s; receipts = [] }) cs
-        → sectionsIn (ifZero m (p ∷ pairsFrom (call g (change s)) (emptyPair s) cs) (pairsFrom (call g (change s)) p cs))
-        ≡ ifZero m (sectionOf p ∷ sectionsFrom (call g (change s)) (record { serial = s; receipts = [] }) cs) (sectionsFrom (call g (change s)) (sectionOf p) cs)
-    go zero e f = ap (λ (l : List Section). sectionOf p ∷ l) f
+    go : (m : ℕ) → periodsIn (pairsFrom (call g (change s)) p cs) ≡ periodsFrom (call g (change s)) (sectionOf p) cs
+        → periodsIn (pairsFrom (call g (change s)) (emptyPair s) cs) ≡ periodsFrom (call g (change s)) (record { serial = s; receipts = [] }) cs
+        → periodsIn (ifZero m (p ∷ pairsFrom (call g (change s)) (emptyPair s) cs) (pairsFrom (call g (change s)) p cs))
+        ≡ ifZero m (sectionOf p ∷ periodsFrom (call g (change s)) (record { serial = s; receipts = [] }) cs) (periodsFrom (call g (change s)) (sectionOf p) cs)
+    go zero e f = ap (λ (l : List Period). sectionOf p ∷ l) f
     go (suc m) e f = e
 
-pub sections-same : (cs : List Call) (g : Register) (s : Name) → sectionsIn (pairsFrom g (emptyPair s) cs) ≡ sectionsFrom g (record { serial = s; receipts = [] }) cs
+pub sections-same : (cs : List Call) (g : Register) (s : Name) → periodsIn (pairsFrom g (emptyPair s) cs) ≡ periodsFrom g (record { serial = s; receipts = [] }) cs
 unfolding sectionOf receiptsIn
 sections-same cs g s = sections-from cs g (emptyPair s)
 
@@ -394,8 +394,8 @@ run-zeroed k n o ps p w =
 
 -- ---- the counter is the sum
 
-pub entries-placed : (s : Settings) (es : List Entry) (xs : List Placed) → entriesOf (placed s es ++ xs) ≡ es ++ entriesOf xs
-unfolding entriesOf placed
+pub entries-placed : (s : Settings) (es : List Entry) (xs : List Placed) → entriesOf (placedUnder s es ++ xs) ≡ es ++ entriesOf xs
+unfolding entriesOf placedUnder
 entries-placed s [] xs = refl
 entries-placed s (e ∷ es) xs = ap (λ (l : List Entry). e ∷ l) (entries-placed s es xs)
 
@@ -431,7 +431,7 @@ unfolding journalText pairTexts
 head-journal o n s = head-pair o s 0 ∙ sym (journal-empty o n [] s ∙ ap (λ (l : List ℕ). l ++ pairStart s 0) (append-nil (ownerText o)))
 
 pub empty-work : (k : List ℕ) (n : ℕ) (s : Settings) → TypedSettings s → settingsGood s ≡ true → widthGood n ≡ true → Work k n (ownerIn s) (emptyPair (s .serial) ∷ [])
-unfolding allPlaced placed serialsOf isIn
+unfolding allPlaced placedUnder serialsOf isIn
 empty-work k n s ts good w =
     let g = good-owner s ts good in
     record { width = w; good = g .0; some = omega arith; right = placing.none; names = names-empty [] [] (s .serial) (g .1) (g .2) refl (omega arith) placing.none }

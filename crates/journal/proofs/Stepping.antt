@@ -26,19 +26,19 @@ use Rattle.journal.proofs.Answers.{serial-zero}
 -- ---- the count of the open section
 
 module _ (st : State) (j : List ℕ) where
-  pub full-yes : countAt j (countPlaceNow st) 4 ≤ st .section → full st j ≡ true
+  pub full-yes : countAt j (countPlaceNow st) 4 ≤ st .since → full st j ≡ true
   unfolding full
   full-yes h = le-leb _ _ h
 
-  pub full-no : st .section < countAt j (countPlaceNow st) 4 → full st j ≡ false
+  pub full-no : st .since < countAt j (countPlaceNow st) 4 → full st j ≡ false
   unfolding full
   full-no h = lt-leb _ _ h
 
-  pub full-true : full st j ≡ true → countAt j (countPlaceNow st) 4 ≤ st .section
+  pub full-true : full st j ≡ true → countAt j (countPlaceNow st) 4 ≤ st .since
   unfolding full
   full-true e = leb-true _ _ e
 
-  pub full-false : full st j ≡ false → st .section < countAt j (countPlaceNow st) 4
+  pub full-false : full st j ≡ false → st .since < countAt j (countPlaceNow st) 4
   unfolding full
   full-false e = leb-false _ _ e
 
@@ -177,7 +177,7 @@ steady-after k st j z s =
     record {
       serials = s .serials;
       issued = after-below k st (textAt j (st .length)) (zero-fields k st j z) (s .issued);
-      section = omega (arith, s .section);
+      since = omega (arith, s .since);
       place = s .place;
     }
 
@@ -187,7 +187,7 @@ steady-start st j x s =
     record {
       serials = added-good (st .serials) (serialAt j (st .length)) (s .serials) (x .good);
       issued = s .issued;
-      section = omega arith;
+      since = omega arith;
       place = omega (arith, x .fits);
     }
 

@@ -41,8 +41,8 @@ module _ (st : State) (d : Details) (sig buf : List ℕ) (i : ℕ) (c : countPla
   taken z =
       let a = issue-zero st d sig (length buf) z in
       let t = entryText (textOf st d sig) in
-      let n = bytesOf 4 (st .section + 1) in
-      let l = length-bytesOf 4 (st .section + 1) in
+      let n = bytesOf 4 (st .since + 1) in
+      let l = length-bytesOf 4 (st .since + 1) in
       let o = length-over buf (st .length) t (a .fits) in
       let p = a .sound .place in
       let w = a .within in

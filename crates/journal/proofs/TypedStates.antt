@@ -85,6 +85,6 @@ holds-typed {k} {n} {o} {g} ps p kl kb room h =
       chain = e .long;
       chainBytes = e .bytes;
       inJournal = omega (arith, h .room);
-      section = omega (arith, s .section, s .issued);
+      since = omega (arith, s .since, s .issued);
       place = omega (arith, s .place, h .room);
     }

@@ -6,7 +6,7 @@ use lib.ListN.{length}
 use Rattle.journal.specs.Checking.{accepted, takeOver}
 use Rattle.journal.specs.Receipts.{receiptsIn, sum}
 use Rattle.journal.specs.Valid.{Owner, Pair, entriesIn, journalText, Valid}
-use Rattle.journal.specs.Calls.{Register, journalOf, opening, calls, sectionsIn}
+use Rattle.journal.specs.Calls.{Register, journalOf, opening, calls, periodsIn}
 use Rattle.journal.specs.Demands.{AcceptedIsValid, WrittenIsAccepted}
 use Rattle.journal.specs.declared.state.State.{State}
 use Rattle.journal.proofs.Accepting.{takes, work-valid, ownerIn, valid-accepted, accepted-valid}
@@ -39,6 +39,6 @@ written-is-accepted s key shared n buf ts kb z cs tcs =
       taken = held-taken key n o (calls g cs) ps h;
       valid = v;
       receipts = λ w. ap (λ (l : List Pair). receiptsIn (entriesIn l)) (one-reading j key n w v .1) ∙ receipts-same cs g (s .serial);
-      sections = λ w. ap sectionsIn (one-reading j key n w v .1) ∙ sections-same cs g (s .serial);
+      periods = λ w. ap periodsIn (one-reading j key n w v .1) ∙ sections-same cs g (s .serial);
       counter = ap (λ (x : State). x .counter) (h .state) ∙ (counter-sum key n o ps (h .work) ∙ ap sum (receipts-same cs g (s .serial)));
     }

@@ -104,25 +104,25 @@ receiptsOf g (issue c ∷ cs) =
     ifZero (numberOf g (issue c)) (receiptOfCall c ∷ receiptsOf (call g (issue c)) cs) (receiptsOf (call g (issue c)) cs)
 receiptsOf g (change s ∷ cs) = receiptsOf (call g (change s)) cs
 
--- a serial, and the receipts under it
-pub record Section : Type 0 where
+-- a serial, and the receipts issued under it
+pub record Period : Type 0 where
   pub serial : Name
   pub receipts : List Receipt
 
--- the sections that the calls make which are not refused: the open one takes a receipt, or it is closed by a new serial
-unfoldable pub sectionsFrom : Register → Section → List Call → List Section
-sectionsFrom g x [] = x ∷ []
-sectionsFrom g x (issue c ∷ cs) =
-    ifZero (numberOf g (issue c)) (sectionsFrom (call g (issue c)) (record { serial = x .serial; receipts = x .receipts ++ (receiptOfCall c ∷ []) }) cs)
-    (sectionsFrom (call g (issue c)) x cs)
-sectionsFrom g x (change s ∷ cs) =
-    ifZero (numberOf g (change s)) (x ∷ sectionsFrom (call g (change s)) (record { serial = s; receipts = [] }) cs)
-    (sectionsFrom (call g (change s)) x cs)
+-- the periods that the calls make which are not refused: the last one takes a receipt, or a new serial ends it
+unfoldable pub periodsFrom : Register → Period → List Call → List Period
+periodsFrom g x [] = x ∷ []
+periodsFrom g x (issue c ∷ cs) =
+    ifZero (numberOf g (issue c)) (periodsFrom (call g (issue c)) (record { serial = x .serial; receipts = x .receipts ++ (receiptOfCall c ∷ []) }) cs)
+    (periodsFrom (call g (issue c)) x cs)
+periodsFrom g x (change s ∷ cs) =
+    ifZero (numberOf g (change s)) (x ∷ periodsFrom (call g (change s)) (record { serial = s; receipts = [] }) cs)
+    (periodsFrom (call g (change s)) x cs)
 
--- the sections of a journal's pairs
-unfoldable pub sectionsIn : List Pair → List Section
-sectionsIn [] = []
-sectionsIn (p ∷ ps) = record { serial = p .serial; receipts = receiptsIn (p .entries) } ∷ sectionsIn ps
+-- the periods of a journal's pairs
+unfoldable pub periodsIn : List Pair → List Period
+periodsIn [] = []
+periodsIn (p ∷ ps) = record { serial = p .serial; receipts = receiptsIn (p .entries) } ∷ periodsIn ps
 
 -- ---- a journal written again
 

@@ -103,7 +103,7 @@ ChangedSerialIsSpelled =
 -- the serials are those that were used, and the new one; its section is empty, and its count ends the journal
 pub record SerialAdded (before : State) (serial : Name) (after : State) : Type 0 where
   pub serials : used (after .serials) ≡ used (before .serials) ++ (serial ∷ [])
-  pub empty : after .section ≡ 0
+  pub empty : after .since ≡ 0
   pub last : after .place + 4 ≡ after .length
 
 abbrev pub ChangeAddsSerial : Type 0

@@ -19,14 +19,14 @@ use Rattle.receipt.specs.declared.entry.Entry.{Entry}
 use Rattle.receipt.specs.declared.entry.Found.{Found}
 use Rattle.journal.specs.State.{unopened, serialsGood, settingsNow, countPlaceNow}
 use Rattle.journal.specs.Head.{headSettings, headGood, entryText, there, textAt, serialAt, startThere}
-use Rattle.journal.specs.Step.{fresh, soundAlone, sound, numberAbove, firstGood, newCounter, next, renewed, serialNumber}
+use Rattle.journal.specs.Step.{fresh, soundAlone, sound, numberAbove, firstGood, newCounter, next, renewed, renewNumber}
 use Rattle.primitives.specs.Questions.{ask, ifZero}
 use Rattle.journal.specs.declared.state.State.{State}
 use Rattle.journal.specs.declared.state.TakenOver.{TakenOver}
 use Rattle.journal.specs.declared.checking.Checked.{Checked}
 use Rattle.journal.specs.declared.checking.Step.{Step}
 
--- 16: "spelled as above, with the head's CSP, ID and serial, number, date with its time and amounts within limits, a counter field of U1RP, VFJB or N bytes, a chain field of 8 bytes?"
+-- "each entry with its pair's serial". 16: "spelled as above, with the head's CSP, ID and serial, number, date with its time and amounts within limits, a counter field of U1RP, VFJB or N bytes, a chain field of 8 bytes?"
 unfoldable pub found : State → List ℕ → Found
 found st text = readEntry (settingsNow st) (st .width) text
 
@@ -79,7 +79,7 @@ placeChecked schedule st j = checked (entryNumber schedule st j) st (textAt j (s
 
 -- "21 for bytes that start no good serial with a whole receipts count", then 30 and 31
 unfoldable pub startNumber : State → List ℕ → ℕ
-startNumber st j = ask (startThere j (st .length)) 21 (serialNumber st (serialAt j (st .length)) 0)
+startNumber st j = ask (startThere j (st .length)) 21 (renewNumber st (serialAt j (st .length)) 0)
 
 -- the start of a pair: no entry is read, and its serial is the newest
 unfoldable pub startChecked : State → List ℕ → Checked
@@ -91,7 +91,7 @@ endChecked st j = cond (leb (length j) (st .length)) (stopped 0 st) (startChecke
 
 -- the open section has as many entries as its count says
 unfoldable pub full : State → List ℕ → Bool
-full st j = leb (countAt j (countPlaceNow st) 4) (st .section)
+full st j = leb (countAt j (countPlaceNow st) 4) (st .since)
 
 unfoldable pub oneStep : List (List ℕ) → State → List ℕ → Checked
 oneStep schedule st j = cond (full st j) (endChecked st j) (placeChecked schedule st j)
@@ -100,7 +100,7 @@ oneStep schedule st j = cond (full st j) (endChecked st j) (placeChecked schedul
 pub record Steady (st : State) (j : List ℕ) : Type 0 where
   pub serials : serialsGood (st .serials) ≡ true
   pub issued : st .issued ≤ st .last
-  pub section : st .section ≤ st .issued
+  pub since : st .since ≤ st .issued
   pub place : st .place + 4 ≤ length j
 
 -- n steps, up to the first that is refused: its number, and the state before it

@@ -25,7 +25,7 @@ use Rattle.journal.specs.Checking.{refused, accepted, takeOver, full, st
 use Rattle.journal.specs.Receipts.{receiptsIn, sum}
 use Rattle.journal.specs.Valid.{Owner, Pair, Placed, pairTexts, ownerText, journalText, allPlaced, entriesIn, stateAfter, Valid, headOf}
 use Rattle.journal.specs.FirstNo.{NoAt}
-use Rattle.journal.specs.Calls.{Call, TypedCalls, Register, journalOf, opening, calls, numbersOf, receiptsOf, Section, sectionsFrom, sectionsIn, callsOf}
+use Rattle.journal.specs.Calls.{Call, TypedCalls, Register, journalOf, opening, calls, numbersOf, receiptsOf, Period, periodsFrom, periodsIn, callsOf}
 use Rattle.journal.specs.declared.state.State.{State}
 use Rattle.journal.specs.Step.{fresh, sound}
 use Rattle.primitives.specs.Aes.{keySchedule}
@@ -46,15 +46,15 @@ OneReading = (j key : List ℕ) (n : ℕ) (v w : Valid j key n) → (v .owner �
 
 -- ---- demand 3: lists of calls
 
--- what holds after the calls cs from the register g on, whose open section is x
-pub record Written (key : List ℕ) (n : ℕ) (g : Register) (x : Section) (cs : List Call) : Type 0 where
+-- what holds after the calls cs from the register g on, whose last period is x
+pub record Written (key : List ℕ) (n : ℕ) (g : Register) (x : Period) (cs : List Call) : Type 0 where
   -- the journal is accepted, with the register's own state
   pub taken : takeOver (journalOf (calls g cs)) key n ≡ accepted (calls g cs .state)
   -- its receipts are those of the calls that were not refused, in order
   pub valid : Valid (journalOf (calls g cs)) key n
   pub receipts : (v : Valid (journalOf (calls g cs)) key n) → receiptsIn (entriesIn (v .pairs)) ≡ receiptsOf g cs
   -- and each is under the serial that was the newest when it was issued
-  pub sections : (v : Valid (journalOf (calls g cs)) key n) → sectionsIn (v .pairs) ≡ sectionsFrom g x cs
+  pub periods : (v : Valid (journalOf (calls g cs)) key n) → periodsIn (v .pairs) ≡ periodsFrom g x cs
   -- the counter is the sum of their amounts
   pub counter : calls g cs .state .counter ≡ sum (receiptsOf g cs)
 

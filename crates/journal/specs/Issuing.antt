@@ -57,7 +57,7 @@ issuedWithin limit st d sig room =
 
 -- the entry after the journal, and the count of the open section rewritten
 unfoldable pub withEntry : State → List ℕ → List ℕ → List ℕ
-withEntry st text buf = overwrite (overwrite buf (st .length) (entryText text)) (countPlaceNow st) (bytesOf 4 (st .section + 1))
+withEntry st text buf = overwrite (overwrite buf (st .length) (entryText text)) (countPlaceNow st) (bytesOf 4 (st .since + 1))
 
 unfoldable pub issueBufferWithin : ℕ → State → Details → List ℕ → List ℕ → List ℕ
 issueBufferWithin limit st d sig buf = ifZero (issueNumberWithin limit st d sig (length buf)) (withEntry st (textOf st d sig) buf) buf

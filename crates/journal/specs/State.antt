@@ -81,7 +81,7 @@ unopened =
       issued = 0;
       chain = replicate 8 0;
       length = 0;
-      section = 0;
+      since = 0;
       place = 0;
     }
 
@@ -134,5 +134,5 @@ pub record TypedState (st : State) : Type 0 where
   pub chain : length (st .chain) ≡ 8
   pub chainBytes : AllBytes (st .chain)
   pub inJournal : st .length < 18446744073709551616
-  pub section : st .section < 4294967296
+  pub since : st .since < 4294967296
   pub place : st .place < 18446744073709551616

@@ -39,7 +39,7 @@ fresh s n key =
       issued = 0;
       chain = chainValue (nameText (s .id));
       length = headLength s;
-      section = 0;
+      since = 0;
       place = countPlace s;
     }
 
@@ -57,7 +57,7 @@ soundAlone st =
     (cspGood (st .csp) && (idGood (st .id) && serialsGood (st .serials)))
     && (widthGood (st .width)
     && (counterFits (st .width) (st .counter)
-    && ((leb (st .issued) (st .last) && leb (st .section) (st .issued)) && (countWithin st && leb (headLengthNow st) (st .length)))))
+    && ((leb (st .issued) (st .last) && leb (st .since) (st .issued)) && (countWithin st && leb (headLengthNow st) (st .length)))))
 
 -- 6: and "journal length ≤ buffer length"
 unfoldable pub sound : State → ℕ → Bool
@@ -116,15 +116,15 @@ next st d text =
       issued = st .issued + 1;
       chain = chainValue text;
       length = st .length + length (entryText text);
-      section = st .section + 1;
+      since = st .since + 1;
       place = st .place;
     }
 
 -- ---- the start of a pair
 
 -- "A serial already used gets 30, then a ninth serial 31", and then the rest
-unfoldable pub serialNumber : State → Name → ℕ → ℕ
-serialNumber st serial rest = ask (not (isIn serial (used (st .serials)))) 30 (ask (ltb (length (used (st .serials))) 8) 31 rest)
+unfoldable pub renewNumber : State → Name → ℕ → ℕ
+renewNumber st serial rest = ask (not (isIn serial (used (st .serials)))) 30 (ask (ltb (length (used (st .serials))) 8) 31 rest)
 
 -- the state after the start of a pair with this serial: "Counter, numbers and chain run on."
 unfoldable pub renewed : State → Name → State
@@ -140,6 +140,6 @@ renewed st serial =
       issued = st .issued;
       chain = st .chain;
       length = st .length + 8 + serial .len;
-      section = 0;
+      since = 0;
       place = st .length + 4 + serial .len;
     }

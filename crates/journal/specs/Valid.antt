@@ -68,13 +68,13 @@ pub record Placed : Type 0 where
   pub settings : Settings
   pub entry : Entry
 
-unfoldable pub placed : Settings → List Entry → List Placed
-placed s [] = []
-placed s (e ∷ es) = record { settings = s; entry = e } ∷ placed s es
+unfoldable pub placedUnder : Settings → List Entry → List Placed
+placedUnder s [] = []
+placedUnder s (e ∷ es) = record { settings = s; entry = e } ∷ placedUnder s es
 
 unfoldable pub allPlaced : Owner → List Pair → List Placed
 allPlaced o [] = []
-allPlaced o (p ∷ ps) = placed (settingsFor o (p .serial)) (p .entries) ++ allPlaced o ps
+allPlaced o (p ∷ ps) = placedUnder (settingsFor o (p .serial)) (p .entries) ++ allPlaced o ps
 
 -- without the settings
 unfoldable pub entriesOf : List Placed → List Entry
@@ -124,7 +124,7 @@ stateAfter o key n ps =
       issued = length (entriesIn ps);
       chain = chainOf n (chainValue (nameText (o .id))) (allPlaced o ps);
       length = length (journalText o n ps);
-      section = length (openPair ps .entries);
+      since = length (openPair ps .entries);
       place = length (journalText o n ps) - (4 + length (texts (settingsFor o (openPair ps .serial)) n (openPair ps .entries)));
     }
 

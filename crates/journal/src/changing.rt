@@ -2,8 +2,8 @@
 use super::head::put_start;
 use super::state::Changed;
 use super::state::State;
+use super::step::renew_number;
 use super::step::renewed;
-use super::step::serial_number;
 use super::step::sound;
 use receipt::Name;
 ghost use mathlib.Core.Path.{_≡_};
@@ -21,7 +21,7 @@ fn change_number(st: State, serial: Name, room: usize) -> u32
     if !receipt::serial_good(serial) {
         return 3;
     }
-    let number = serial_number(st, serial);
+    let number = renew_number(st, serial);
     if number != 0 {
         return number;
     }

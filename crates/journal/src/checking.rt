@@ -12,8 +12,8 @@ use super::state::unopened;
 use super::step::first_good;
 use super::step::fresh;
 use super::step::next;
+use super::step::renew_number;
 use super::step::renewed;
-use super::step::serial_number;
 use super::step::sound;
 use super::step::sound_alone;
 use receipt::Found;
@@ -94,7 +94,7 @@ pub struct Checked {
     pub state: State,
 }
 
-// The answer of a step that is refused or reads nothing.
+// The answer of a step that reads no entry: refused, at the end, or at the start of a pair.
 fn stopped(number: u32, st: State) -> Checked
     ensures { λ r. ⌜ r ≡ stopped number st ⌝ }
 {
@@ -108,7 +108,7 @@ fn stopped(number: u32, st: State) -> Checked
 
 // Questions 16 to 20, asked of the bytes of one entry.
 fn check_text(schedule: &[[u8; 4]; 60], st: State, text: &[u8]) -> Checked
-    requires { ⌜ (st .issued ≤ st .last) × (st .section ≤ st .issued) × (st .length + 2 + length (now text) < 18446744073709551616) ⌝ }
+    requires { ⌜ (st .issued ≤ st .last) × (st .since ≤ st .issued) × (st .length + 2 + length (now text) < 18446744073709551616) ⌝ }
     ensures { λ r. ⌜ r ≡ textChecked (now (schedule .entry)) st (now (text .entry)) ⌝ }
 {
     let settings = settings_now(st);
@@ -133,7 +133,7 @@ fn check_text(schedule: &[[u8; 4]; 60], st: State, text: &[u8]) -> Checked
 
 // Questions 15 to 20, asked of the entry at the state's place.
 fn check_place(schedule: &[[u8; 4]; 60], st: State, j: &[u8]) -> Checked
-    requires { ⌜ (st .issued ≤ st .last) × (st .section ≤ st .issued) ⌝ }
+    requires { ⌜ (st .issued ≤ st .last) × (st .since ≤ st .issued) ⌝ }
     ensures { λ r. ⌜ r ≡ placeChecked (now (schedule .entry)) st (now (j .entry)) ⌝ }
 {
     let at = st.length;
@@ -152,7 +152,7 @@ fn full(st: State, j: &[u8]) -> bool
     requires { ⌜ st .place + 4 ≤ length (now j) ⌝ }
     ensures { λ r. ⌜ r ≡ full st (now (j .entry)) ⌝ }
 {
-    count_at(j, st.place, 4) <= st.section as usize
+    count_at(j, st.place, 4) <= st.since as usize
 }
 
 // Questions 21, 30 and 31, asked of the start of a pair at the state's place.
@@ -165,7 +165,7 @@ fn check_start(st: State, j: &[u8]) -> Checked
         return stopped(21, st);
     }
     let serial = serial_at(j, at);
-    let number = serial_number(st, serial);
+    let number = renew_number(st, serial);
     if number != 0 {
         return stopped(number, st);
     }
@@ -203,7 +203,7 @@ struct Step {
     state: State,
 }
 
-// Takes n steps, up to the first that is refused. Once a step reads nothing, neither does any step after it.
+// Takes n steps, up to the first that is refused. Once a step leaves the length as it was, so does every step after it.
 fn steps(schedule: &[[u8; 4]; 60], n: usize, start: State, j: &[u8]) -> Step
     requires { ⌜ Steady start (now j) ⌝ }
     ensures { λ r. ⌜ r ≡ steps (now (schedule .entry)) n start (now (j .entry)) ⌝ }

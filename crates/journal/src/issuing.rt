@@ -103,7 +103,7 @@ fn append(st: State, d: Details, signature: &[u8], buf: &mut [u8]) -> Issued
     }
     let start = at + 2;
     let state = next(st, d, &buf[start..end]);
-    put_count(st.place, st.section + 1, buf);
+    put_count(st.place, st.since + 1, buf);
     Issued { number: 0, state }
 }
 

@@ -1,4 +1,4 @@
-// The journal of a register: opened, written receipt by receipt and certificate by certificate, and taken over.
+// The journal of a register: opened, written by Issue and Change, and taken over.
 mod changing;
 mod checking;
 mod head;

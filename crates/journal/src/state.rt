@@ -21,7 +21,7 @@ pub struct State {
     pub chain: [u8; 8],
     pub length: usize,
     // the receipts in the open section, and the place of its count
-    pub section: u32,
+    pub since: u32,
     pub place: usize,
 }
 
@@ -74,7 +74,7 @@ pub fn unopened() -> State
         issued: 0,
         chain: [0u8; 8],
         length: 0,
-        section: 0,
+        since: 0,
         place: 0,
     }
 }

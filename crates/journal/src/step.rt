@@ -24,7 +24,7 @@ ghost use Rattle.primitives.specs.Counter.{counterFits};
 ghost use Rattle.primitives.specs.Aes.{keySchedule};
 ghost use Rattle.receipt.specs.Settings.{cspGood, idGood, settingsGood, nameText};
 ghost use Rattle.receipt.specs.Chain.{chainValue, encryptedCounter};
-ghost use Rattle.journal.specs.Step.{fresh, countWithin, soundAlone, sound, firstGood, newCounter, detailsNumber, fieldsOf, next, serialNumber, renewed};
+ghost use Rattle.journal.specs.Step.{fresh, countWithin, soundAlone, sound, firstGood, newCounter, detailsNumber, fieldsOf, next, renewNumber, renewed};
 ghost use Rattle.journal.specs.State.{used, serialsGood, settingsFirst, headLengthNow};
 
 // ---- the state of a register without receipts
@@ -65,7 +65,7 @@ pub(crate) fn fresh(s: Settings, n: usize, key: [u8; 32]) -> State
         issued: 0,
         chain: chain,
         length: length,
-        section: 0,
+        since: 0,
         place: place,
     }
 }
@@ -97,12 +97,12 @@ fn names_good(st: State) -> bool
 
 // No more receipts in the open section than issued, and no more issued than the last number.
 fn counts_good(st: State) -> bool
-    ensures { λ r. ⌜ r ≡ (leb (st .issued) (st .last) && leb (st .section) (st .issued)) ⌝ }
+    ensures { λ r. ⌜ r ≡ (leb (st .issued) (st .last) && leb (st .since) (st .issued)) ⌝ }
 {
     if st.last < st.issued {
         return false;
     }
-    st.section <= st.issued
+    st.since <= st.issued
 }
 
 // The open section's count ends within the journal.
@@ -239,7 +239,7 @@ pub(crate) fn fields_of(st: State, d: Details) -> PayloadFields
 
 // The state after a receipt with this compact form.
 pub(crate) fn next(st: State, d: Details, text: &[u8]) -> State
-    requires { ⌜ (st .issued + 1 < 4294967296) × (st .section + 1 < 4294967296) × (st .length + 2 + length (now text) < 18446744073709551616) ⌝ }
+    requires { ⌜ (st .issued + 1 < 4294967296) × (st .since + 1 < 4294967296) × (st .length + 2 + length (now text) < 18446744073709551616) ⌝ }
     ensures { λ r. ⌜ r ≡ next st d (now (text .entry)) ⌝ }
 {
     let csp = st.csp;
@@ -259,7 +259,7 @@ pub(crate) fn next(st: State, d: Details, text: &[u8]) -> State
         issued: st.issued + 1,
         chain: chain,
         length: st.length + 2 + text.len(),
-        section: st.section + 1,
+        since: st.since + 1,
         place: st.place,
     }
 }
@@ -267,8 +267,8 @@ pub(crate) fn next(st: State, d: Details, text: &[u8]) -> State
 // ---- the start of a pair
 
 // Questions 30 and 31: a serial that was not used, and not a ninth one.
-pub(crate) fn serial_number(st: State, serial: Name) -> u32
-    ensures { λ r. ⌜ r ≡ serialNumber st serial 0 ⌝ }
+pub(crate) fn renew_number(st: State, serial: Name) -> u32
+    ensures { λ r. ⌜ r ≡ renewNumber st serial 0 ⌝ }
 {
     let slots = st.serials;
     if is_used(serial, slots) {
@@ -302,7 +302,7 @@ pub(crate) fn renewed(st: State, serial: Name) -> State
         issued: st.issued,
         chain: chain,
         length: st.length + 8 + serial.len,
-        section: 0,
+        since: 0,
         place: st.length + 4 + serial.len,
     }
 }

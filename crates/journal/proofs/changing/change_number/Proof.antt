@@ -22,15 +22,15 @@ returns-2 c =
     change-bad (c .before .before .before .before .args .st) (c .before .before .before .before .args .serial) _
     (yes (c .before .before .before .sound .ensures) (c .before .before .if1 .left)) (no (c .before .serial-good .ensures) (c .if2 .taken))
 
-serial-number-requires : tie.Need-serial-number-requires
-serial-number-requires c κs = search needs
+renew-number-requires : tie.Need-renew-number-requires
+renew-number-requires c κs = search needs
 
 returns-3 : tie.Need-returns-3
 returns-3 c =
     let s = c .before .before .before .before .before .before .args in
     change-serial (s .st) (s .serial) _
     (yes (c .before .before .before .before .before .sound .ensures) (c .before .before .before .before .if1 .left))
-    (yes (c .before .before .before .serial-good .ensures) (c .before .before .if2 .left)) (c .before .serial-number .ensures) (c .if3 .taken)
+    (yes (c .before .before .before .serial-good .ensures) (c .before .before .if2 .left)) (c .before .renew-number .ensures) (c .if3 .taken)
 
 add-has-room : tie.Need-add-has-room
 add-has-room c =
@@ -46,7 +46,7 @@ returns-4 c =
     change-full (s .st) (s .serial) (s .room)
     (yes (c .before .before .before .before .before .before .before .before .sound .ensures) (c .before .before .before .before .before .before .before .if1 .left))
     (yes (c .before .before .before .before .before .before .serial-good .ensures) (c .before .before .before .before .before .if2 .left))
-    (c .before .before .before .before .serial-number .ensures) (c .before .before .before .if3 .left)
+    (c .before .before .before .before .renew-number .ensures) (c .before .before .before .if3 .left)
     (no (c .before .has-room .ensures) (c .if4 .taken))
 
 returns-5 : tie.Need-returns-5
@@ -55,7 +55,7 @@ returns-5 c =
     change-none (s .st) (s .serial) (s .room)
     (yes (c .before .before .before .before .before .before .before .before .sound .ensures) (c .before .before .before .before .before .before .before .if1 .left))
     (yes (c .before .before .before .before .before .before .serial-good .ensures) (c .before .before .before .before .before .if2 .left))
-    (c .before .before .before .before .serial-number .ensures) (c .before .before .before .if3 .left)
+    (c .before .before .before .before .renew-number .ensures) (c .before .before .before .if3 .left)
     (yes (c .before .has-room .ensures) (c .if4 .left))
 
 pub change-number-spec : {M : Type 1} → statement M
@@ -66,7 +66,7 @@ change-number-spec =
     returns
     serial-good-requires
     returns-2
-    serial-number-requires
+    renew-number-requires
     returns-3
     add-has-room
     has-room-requires

@@ -28,8 +28,8 @@ returns c =
 serial-at-requires : tie.Need-serial-at-requires
 serial-at-requires c κs = start-section (c .before .before .before .args .j .now) _ (whole c)
 
-serial-number-requires : tie.Need-serial-number-requires
-serial-number-requires c κs = search needs
+renew-number-requires : tie.Need-renew-number-requires
+renew-number-requires c κs = search needs
 
 stopped-requires-2 : tie.Need-stopped-requires-2
 stopped-requires-2 c κs = search needs
@@ -38,12 +38,12 @@ returns-2 : tie.Need-returns-2
 returns-2 c =
     start-stopped (c .before .before .before .before .before .before .before .args .st)
     (c .before .before .before .before .before .before .before .args .j .now) (whole (c .before .before .before .before))
-    (c .before .before .before .serial-at .ensures) (c .before .before .serial-number .ensures) (c .before .if2 .taken) (c .stopped2 .ensures)
+    (c .before .before .before .serial-at .ensures) (c .before .before .renew-number .ensures) (c .before .if2 .taken) (c .stopped2 .ensures)
 
 renewed-requires : tie.Need-renewed-requires
 renewed-requires c κs =
     let start = c .before .before .before .before .before .before in
-    let f = start-fits (start .args .st) (start .args .j .now) (whole (c .before .before .before)) (c .before .before .serial-at .ensures) (c .before .serial-number .ensures) (c .if2 .left) in
+    let f = start-fits (start .args .st) (start .args .j .now) (whole (c .before .before .before)) (c .before .before .serial-at .ensures) (c .before .renew-number .ensures) (c .if2 .left) in
     (start .pre, f .0, omega (arith, f .1, start .good))
 
 stopped-requires-3 : tie.Need-stopped-requires-3
@@ -53,7 +53,7 @@ returns-3 : tie.Need-returns-3
 returns-3 c =
     start-made (c .before .before .before .before .before .before .before .before .args .st)
     (c .before .before .before .before .before .before .before .before .args .j .now) (whole (c .before .before .before .before .before))
-    (c .before .before .before .before .serial-at .ensures) (c .before .before .before .serial-number .ensures) (c .before .before .if2 .left)
+    (c .before .before .before .before .serial-at .ensures) (c .before .before .before .renew-number .ensures) (c .before .before .if2 .left)
     (c .before .renewed .ensures) (c .stopped3 .ensures)
 
 pub check-start-spec : {M : Type 1} → statement M
@@ -64,7 +64,7 @@ check-start-spec =
     stopped-requires
     returns
     serial-at-requires
-    serial-number-requires
+    renew-number-requires
     stopped-requires-2
     returns-2
     renewed-requires

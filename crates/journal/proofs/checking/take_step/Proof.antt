@@ -16,7 +16,7 @@ returns c =
     (step-end _ (c .before .before .before .before .args .st) (c .before .before .before .before .args .j .now) (sym (c .before .before .full .ensures) ∙ c .before .if1 .taken))
 
 check-place-requires : tie.Need-check-place-requires
-check-place-requires c κs = (c .before .before .before .pre .issued, c .before .before .before .pre .section)
+check-place-requires c κs = (c .before .before .before .pre .issued, c .before .before .before .pre .since)
 
 returns-2 : tie.Need-returns-2
 returns-2 c =

@@ -19,7 +19,7 @@ below : (c : tie.Start) → c .args .d .number < 4294967296
 below c = search needs
 
 -- the counts after the receipt
-counts : (c : tie.Start) → (c .args .st .issued + 1 < 4294967296) × (c .args .st .section + 1 < 4294967296)
+counts : (c : tie.Start) → (c .args .st .issued + 1 < 4294967296) × (c .args .st .since + 1 < 4294967296)
 counts c = append-count _ _ _ (c .args .buf .now) (asked c) (below c)
 
 -- what is known where there was room

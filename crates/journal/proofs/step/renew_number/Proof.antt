@@ -1,4 +1,4 @@
--- `step::serial_number` meets its contract.
+-- `step::renew_number` meets its contract.
 use mathlib.Core.Path.{_≡_, sym, _∙_}
 use mathlib.Core.Bool.{false}
 use Rattle.journal.specs.State.{used, isIn}
@@ -6,8 +6,8 @@ use Rattle.journal.proofs.Answers.{serial-yes}
 use Rattle.journal.proofs.ChangeCalls.{serial-used, serial-ninth}
 use borrow.Author.Needs.{needs}
 use native.Mathlib.Omega.{arith}
-use Rattle.journal.proofs.step.serial_number.Statement.{statement}
-use Rattle.journal.proofs.step.serial_number.Tie as tie
+use Rattle.journal.proofs.step.renew_number.Statement.{statement}
+use Rattle.journal.proofs.step.renew_number.Tie as tie
 
 -- the serial is not one of those used
 new : (c : tie.Else1) → isIn (c .before .before .before .args .serial) (used (c .before .before .before .args .st .serials)) ≡ false
@@ -33,6 +33,6 @@ returns-3 c =
     sym
     (serial-yes (c .before .before .before .before .before .args .st) (c .before .before .before .before .before .args .serial) 0 (new (c .before .before)) (omega (arith, c .before .used-count .ensures, c .if2 .left)))
 
-pub serial-number-spec : {M : Type 1} → statement M
-serial-number-spec =
+pub renew-number-spec : {M : Type 1} → statement M
+renew-number-spec =
     tie.close (tie.spec is-used-requires returns used-count-requires returns-2 returns-3)
