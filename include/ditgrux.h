@@ -113,7 +113,7 @@ enum ditgrux_number {
     DITGRUX_BAD_CODE = 24,        /* not a machine-readable code; fields: or one without a register ID */
     DITGRUX_BAD_FIELDS = 26,      /* a code without twelve fields, or whose counter or chain field is not canonical BASE64 */
     DITGRUX_BAD_LINE = 27,        /* not the optical line of a machine-readable code */
-    DITGRUX_SERIAL_USED = 30,     /* change, take over: the register has had this serial; asked after DITGRUX_BAD_SERIAL and DITGRUX_BYTES_LEFT */
+    DITGRUX_SERIAL_USED = 30,     /* change, take over: the register has had this serial; asked after 3 and 21 */
     DITGRUX_SERIALS_FULL = 31,    /* change, take over: a ninth serial */
     DITGRUX_ID_ENDS_IN_DIGIT = 32 /* open_shared: the register ID ends in a digit; asked between DITGRUX_BAD_ID and DITGRUX_BAD_SERIAL */
 };
@@ -203,8 +203,8 @@ enum ditgrux_number {
  * width; not one to eight good serials with zeros after them; a counter that does not fit the width; more receipts than the last
  * number, or more in the last pair than in all; a journal shorter than its head, or than the end of the last pair's count, or (Issue
  * and Change only) longer than its buffer. They cannot see that a bit of the key, the counter or the chain value has changed, nor
- * that a state is old: with a state from before the last receipt or change, Issue and Change write over what came after it, for they read
- * nothing of the journal. Compare the state with what ditgrux_take_over gives when the device starts.
+ * that a state is old: with a state from before the last receipt or change, Issue and Change write over what came after it, for
+ * they read nothing of the journal. Compare the state with what ditgrux_take_over gives when the device starts.
  *
  * After DITGRUX_BAD_STATE the state's bytes are as they were before the call, in every function.
  *
@@ -273,8 +273,8 @@ uint32_t ditgrux_last_number(const uint8_t *state, size_t state_length);
 uint32_t ditgrux_receipts(const uint8_t *state, size_t state_length);
 size_t ditgrux_journal_length(const uint8_t *state, size_t state_length);
 
-/* How many serials the register has had: those up to the first that is empty, at most 8. The newest is number ditgrux_serials - 1.
- * 0 if the state has none or is not 447 bytes long. */
+/* How many serials the register has had: those before the first whose length is 0, at most 8. The newest is number
+ * ditgrux_serials - 1. 0 if the state has none or is not 447 bytes long. */
 uint32_t ditgrux_serials(const uint8_t *state, size_t state_length);
 
 /* Writes one of the register's serials, as text: number 0 is the first, ditgrux_serials - 1 the newest, which the next receipt names.
@@ -421,8 +421,8 @@ uint32_t ditgrux_change(uint8_t *state, size_t state_length, const uint8_t *seri
  * DITGRUX_BAD_HEAD, then for each entry DITGRUX_ENTRY_CUT, DITGRUX_ENTRY_MISSPELLED, DITGRUX_ENTRY_NUMBER, DITGRUX_ENTRY_NO_START,
  * DITGRUX_ENTRY_CHAIN or DITGRUX_ENTRY_COUNTER, and where bytes follow the last entry of a pair DITGRUX_BYTES_LEFT,
  * DITGRUX_SERIAL_USED or DITGRUX_SERIALS_FULL.
- * *index is the number of receipts before the place, in all pairs: that of the refused entry, counted from 0, with DITGRUX_ENTRY_..,
- * the number of receipts so far with the last three; and 0 with every other result.
+ * *index is the number of receipts before the place where the journal is refused, in all pairs: with DITGRUX_ENTRY_.. the index of
+ * that entry, from 0; with the last three, the receipts up to there. It is 0 with every other result.
  * Refused: with DITGRUX_BAD_STATE `state` is unchanged; with any other number it is 447 zeros. The journal is only read. */
 uint32_t ditgrux_take_over(const uint8_t *journal, size_t journal_length, const uint8_t *key, size_t key_length, size_t width,
                            uint8_t *state, size_t state_length, uint32_t *index);

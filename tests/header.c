@@ -770,7 +770,7 @@ static void unsound_states(void)
 {
     const struct ditgrux_details sale = details_of(20, DITGRUX_STANDARD, 1);
     uint8_t out[DITGRUX_LONGEST_INPUT];
-    size_t slot, length, wrote;
+    size_t slot, length, wrote, count_at;
     fresh();
     issues(1);
     changes_to("1a2c");
@@ -794,7 +794,10 @@ static void unsound_states(void)
     }
     is_unsound(411, 4, 1);            /* last number below the number of receipts */
     is_unsound(OPEN_AT, 4, 3);        /* more in the last pair than in all */
-    is_unsound(LENGTH_AT, 8, 28);     /* shorter than the head */
+    count_at = number_at(state + PLACE_AT, 8);
+    put(state + PLACE_AT, 8, 0);
+    is_unsound(LENGTH_AT, 8, 28);     /* shorter than the head, though the count ends within it */
+    put(state + PLACE_AT, 8, count_at);
     is_unsound(LENGTH_AT, 8, number_at(state + PLACE_AT, 8) + 3);
     is_unsound(PLACE_AT, 8, journal_length() - 3);
     is_unsound(PLACE_AT, 8, UINT64_MAX);
@@ -889,6 +892,8 @@ static void power_cut_in_change(void)
     length = journal_length();
     changes_to("1a2c");
     CHECK(taken_over(journal, length, &index) == DITGRUX_DONE && memcmp(other, old, sizeof old) == 0);
+    CHECK(ditgrux_change(other, sizeof other, text_of("1a2c"), 4, journal, sizeof journal) == DITGRUX_DONE);
+    CHECK(memcmp(other, state, sizeof state) == 0); /* the same change again, from the state without it */
     CHECK(gives_state() && memcmp(other, old, sizeof old) != 0);
     length = journal_length();
     issues(2);
