@@ -261,7 +261,7 @@ fn sizes_of_the_header() {
         ("SETTINGS", SETTINGS),
         ("STATE", STATE),
         ("DETAILS", DETAILS),
-        ("SERIALS", SERIALS),
+        ("MOST_SERIALS", SERIALS),
         ("LONGEST_NAME", 32),
         ("LONGEST_HEAD", 19 + 32 + 32),
         ("LONGEST_CHANGE", 8 + 32),
