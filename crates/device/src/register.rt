@@ -184,8 +184,9 @@ pub extern "C" fn ditgrux_serial(
 ) -> u32
     ensures { λ r.
         let text : _ = nameText (serialIn (stateOf (now (state .entry))) which) in
-        let a : _ = serialAnswer text (lib.ListN.length (now (output .entry))) in
-        ⌜ (r ≡ a .number) × (now (output .exit) ≡ placed (now (output .entry)) 0 text) × (now (length .exit) ≡ a .length) ⌝ }
+        ⌜ (r ≡ serialAnswer (nameText (serialIn (stateOf (now (state .entry))) which)) (lib.ListN.length (now (output .entry))) .number)
+        × (now (output .exit) ≡ placed (now (output .entry)) 0 text)
+        × (now (length .exit) ≡ serialAnswer text (lib.ListN.length (now (output .entry))) .length) ⌝ }
 {
     let st = state_of(state);
     let serial = serial_in(st, which);
