@@ -15,6 +15,7 @@
  *         ditgrux_issue_details: appends the receipt to the journal
  *         ditgrux_code: writes the machine-readable code that is printed
  *         ditgrux_line: writes the code as a line of text, for a printer that cannot draw a square code
+ *     ditgrux_issue_list, for receipts that were keyed while the signature device was down: appends them all in one call
  *     ditgrux_change, when the signature device gets a new certificate: the receipts after it name the new serial
  *     ditgrux_take_over, after each start and whenever you like: checks the whole journal and gives the state back
  *     ditgrux_read_details, to print a receipt again: gives its details and its signature back
@@ -25,13 +26,13 @@
  * Return values. A function returns DITGRUX_DONE (0), or the number of the first check that failed (enum ditgrux_number). The
  * checks run in the order in which the function lists them. A refused call changes no byte of a journal, a text or an output. It
  * sets every out parameter: lengths and indexes are 0 unless the function says otherwise. What happens to the state differs, so
- * each function says it.
+ * each function says it. (ditgrux_issue_list can return a number after it has issued a part of its list: see there.)
  *
  * Pointers. These rules are not checked; a call that breaks them is undefined, as with memcpy.
  *   - No pointer is NULL, not even where its length is 0: pass any valid address. (The wrapper ditgrux_issue_details is the one
  *     exception.)
  *   - A pointer points to at least as many bytes as its length says.
- *   - The out pointers `length`, `start` and `index` are not NULL and are aligned like any size_t or uint32_t. A NULL `index`
+ *   - The out pointers `length`, `start`, `index` and `issued` are not NULL and are aligned like any size_t or uint32_t. A NULL `index`
  *     crashes.
  *   - No buffer that a call writes overlaps another buffer or out parameter of that call. So do not pass the settings or the
  *     serial as a part of a state that the same call writes.
@@ -93,7 +94,8 @@ enum ditgrux_number {
     DITGRUX_BAD_WIDTH = 4,        /* width is not 5 to 8; ALSO: the key is not 32 bytes long */
     DITGRUX_HEAD_TOO_LONG = 5,    /* the journal's buffer is too small for the head */
     DITGRUX_BAD_STATE = 6,        /* state is not 447 bytes long, holds bad settings, or contradicts itself or the buffer's size */
-    DITGRUX_NUMBER_NOT_ABOVE = 7, /* receipt number is not above the last one (0 never is); ALSO: the kind is not 0, 1 or 2 */
+    DITGRUX_NUMBER_NOT_ABOVE = 7, /* receipt number is not above the last one (0 never is); ALSO: the kind is not 0, 1 or 2;
+                                   * issue_list: the list is not a whole number of details */
     DITGRUX_BAD_DATE = 8,         /* no date of the years 2000 to 2099, or no time from 0:00:00 to 23:59:59 */
     DITGRUX_BAD_AMOUNT = 9,       /* an amount is not within -99,999,999,999 to 99,999,999,999 cents */
     DITGRUX_NO_START = 10,        /* the first receipt is not a standard one with five zeros */
@@ -391,6 +393,28 @@ uint32_t ditgrux_issue(uint8_t *state, size_t state_length, uint32_t number, uin
                        int64_t special, uint32_t kind, const uint8_t *signature, size_t signature_length, uint8_t *journal,
                        size_t journal_size);
 
+/* Issues the receipts of a list, in order, all with a failed device: for orders that were keyed while the signature device was down.
+ *
+ *     state, state_length         447 bytes, in and out
+ *     list, list_length           the details of the receipts, 72 bytes each, one after the other (ditgrux_pack_details packs them);
+ *                                 list_length is in bytes, so 72 times the number of receipts
+ *     journal, journal_size       the buffer of the journal, and its whole size
+ *     issued                      output: how many were issued
+ *
+ * It does what ditgrux_issue does with each of the details and a signature of length 0, up to the first that is refused. That one and
+ * those after it are not issued. An empty list issues nothing and returns DITGRUX_DONE, whatever the state is.
+ *
+ * *issued is the number of receipts issued, also where a later one is refused: it is then the place of the refused one in the list,
+ * from 0. `state` and `journal` are as the last issued one left them; where none was issued, they are unchanged. So after a refusal
+ * correct the one at *issued and call again with the list from there on.
+ *
+ * Returns DITGRUX_DONE (all were issued), or the number with which ditgrux_issue refuses the first one that it refuses:
+ * DITGRUX_BAD_STATE (then none was issued), DITGRUX_NUMBER_NOT_ABOVE (also if the kind is unknown), DITGRUX_BAD_DATE,
+ * DITGRUX_BAD_AMOUNT, DITGRUX_NO_START, DITGRUX_COUNTER_FULL, or DITGRUX_NO_ROOM (the entry does not fit after the journal).
+ * If list_length is not a multiple of 72, none is issued: it returns DITGRUX_BAD_STATE or else DITGRUX_NUMBER_NOT_ABOVE. */
+uint32_t ditgrux_issue_list(uint8_t *state, size_t state_length, const uint8_t *list, size_t list_length, uint8_t *journal,
+                            size_t journal_size, size_t *issued);
+
 /* Changes the certificate: appends the new serial and an empty section of receipts to the journal, and writes the new state. Counter,
  * receipt numbers and chain run on. From then on receipts are prepared, issued and checked with the new serial; the old one cannot
  * come back.
@@ -582,6 +606,40 @@ static inline struct ditgrux_details ditgrux_details_in(const uint8_t *bytes)
     details.zero = ditgrux_amount_in(bytes + 56);
     details.special = ditgrux_amount_in(bytes + 64);
     return details;
+}
+
+/* Writes a number as four bytes, and an amount as eight, as in the details as bytes. */
+static inline void ditgrux_put_number(uint8_t *bytes, uint32_t number)
+{
+    bytes[0] = (uint8_t)(number >> 24);
+    bytes[1] = (uint8_t)(number >> 16);
+    bytes[2] = (uint8_t)(number >> 8);
+    bytes[3] = (uint8_t)number;
+}
+
+static inline void ditgrux_put_amount(uint8_t *bytes, int64_t amount)
+{
+    ditgrux_put_number(bytes, (uint32_t)((uint64_t)amount >> 32));
+    ditgrux_put_number(bytes + 4, (uint32_t)(uint64_t)amount);
+}
+
+/* Packs details into DITGRUX_DETAILS bytes, for a list that ditgrux_issue_list takes: number i of the list starts at byte
+ * i * DITGRUX_DETAILS. ditgrux_details_in gives them back. */
+static inline void ditgrux_pack_details(const struct ditgrux_details *details, uint8_t *bytes)
+{
+    ditgrux_put_number(bytes, details->number);
+    ditgrux_put_number(bytes + 4, details->year);
+    ditgrux_put_number(bytes + 8, details->month);
+    ditgrux_put_number(bytes + 12, details->day);
+    ditgrux_put_number(bytes + 16, details->hour);
+    ditgrux_put_number(bytes + 20, details->minute);
+    ditgrux_put_number(bytes + 24, details->second);
+    ditgrux_put_number(bytes + 28, details->kind);
+    ditgrux_put_amount(bytes + 32, details->standard);
+    ditgrux_put_amount(bytes + 40, details->reduced_1);
+    ditgrux_put_amount(bytes + 48, details->reduced_2);
+    ditgrux_put_amount(bytes + 56, details->zero);
+    ditgrux_put_amount(bytes + 64, details->special);
 }
 
 /* ditgrux_read with the details by name. Same numbers. `signature` points to DITGRUX_SIGNATURE bytes. Refused: *details is unchanged,
