@@ -7,6 +7,7 @@ pub mod Earlier
 pub mod FirstNo
 pub mod Head
 pub mod Issuing
+pub mod Listing
 pub mod Opening
 pub mod Preparing
 pub mod Receipts

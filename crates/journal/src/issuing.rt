@@ -12,6 +12,7 @@ use receipt::Entry;
 use receipt::Signature;
 ghost use mathlib.Core.Path.{_≡_};
 ghost use mathlib.Core.Bool.{true};
+ghost use mathlib.Core.List.{[]};
 ghost use lib.ListN.{length};
 ghost use Rattle.primitives.specs.Questions.{ask};
 ghost use Rattle.primitives.specs.Place.{placed, placeAfter};
@@ -134,4 +135,13 @@ pub fn issue(st: State, d: Details, signature: &[u8], buf: &mut [u8]) -> Issued
         return Issued { number, state: st };
     }
     append(st, d, signature, buf)
+}
+
+// Issues a receipt with a failed device.
+pub fn issue_failed(st: State, d: Details, buf: &mut [u8]) -> Issued
+    ensures { λ r.
+        ⌜ (r ≡ issued st d [] (length (now (buf .entry)))) × (now (buf .exit) ≡ issueBuffer st d [] (now (buf .entry))) ⌝ }
+{
+    let none = [0u8; 1];
+    issue(st, d, &none[0..0], buf)
 }

@@ -1,8 +1,9 @@
-// The journal of a register: opened, written by Issue and Change, and taken over.
+// The journal of a register: opened, written by Issue, by lists of receipts and by Change, and taken over.
 mod changing;
 mod checking;
 mod head;
 mod issuing;
+mod listing;
 mod opening;
 mod preparing;
 mod state;
@@ -14,10 +15,13 @@ pub use checking::check_entry;
 pub use checking::check_step;
 pub use checking::take_over;
 pub use issuing::issue;
+pub use issuing::issue_failed;
+pub use listing::issue_list;
 pub use opening::open;
 pub use preparing::prepare;
 pub use state::Changed;
 pub use state::Issued;
+pub use state::IssuedList;
 pub use state::Opened;
 pub use state::State;
 pub use state::TakenOver;

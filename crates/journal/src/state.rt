@@ -36,6 +36,13 @@ pub struct Issued {
     pub state: State,
 }
 
+// The count is the number of receipts issued, all of them before the refused one.
+pub struct IssuedList {
+    pub number: u32,
+    pub count: usize,
+    pub state: State,
+}
+
 pub struct Changed {
     pub number: u32,
     pub state: State,
