@@ -13,16 +13,18 @@ use Rattle.receipt.specs.declared.settings.Settings.{Settings}
 use Rattle.journal.specs.State.{noName, used, unopened}
 use Rattle.journal.specs.Opening.{opened, openBuffer}
 use Rattle.journal.specs.Issuing.{issued, issueBuffer}
+use Rattle.journal.specs.Listing.{issuedList, listBuffer}
 use Rattle.journal.specs.Changing.{changed, changeBuffer}
 use Rattle.journal.specs.Calls.{Order}
 use Rattle.journal.specs.Checking.{takeOver}
 use Rattle.journal.specs.declared.state.Opened.{Opened}
 use Rattle.journal.specs.declared.state.State.{State}
 use Rattle.journal.specs.declared.state.Issued.{Issued}
+use Rattle.journal.specs.declared.state.IssuedList.{IssuedList}
 use Rattle.journal.specs.declared.state.Changed.{Changed}
 use Rattle.journal.specs.declared.state.TakenOver.{TakenOver}
 use Rattle.device.specs.Layout.{settingsBytes, arrayOf, settingsOf, widthOf, keyOf, stateOf, kept}
-use Rattle.device.specs.Details.{detailsOf}
+use Rattle.device.specs.Details.{detailsOf, listIn}
 
 -- ---- settings
 
@@ -151,6 +153,25 @@ issuedSlices g c =
       state = kept (g .state) (issueAnswer g c .state);
       journal = issueBuffer (stateOf (g .state)) (orderIn c .details) (c .signature) (g .journal);
     }
+
+-- ---- a list of receipts, all with a failed device
+
+-- what the journal answers for the list that these bytes stand for: the number of the first one that is refused, and how many are issued before it
+unfoldable pub listAnswer : Slices → List ℕ → IssuedList
+listAnswer g list = issuedList (stateOf (g .state)) (listIn list) (g .journal)
+
+-- what ditgrux_issue_list returns
+unfoldable pub listedNumber : Slices → List ℕ → ℕ
+listedNumber g list = listAnswer g list .number
+
+-- how many it says are issued
+unfoldable pub listedCount : Slices → List ℕ → ℕ
+listedCount g list = listAnswer g list .count
+
+-- what it leaves
+unfoldable pub listedSlices : Slices → List ℕ → Slices
+listedSlices g list =
+    record { state = kept (g .state) (listAnswer g list .state); journal = listBuffer (stateOf (g .state)) (listIn list) (g .journal) }
 
 -- ---- change
 

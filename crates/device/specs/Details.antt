@@ -1,10 +1,10 @@
 -- The details of a receipt for C: as thirteen numbers, and as 72 bytes. Numbers are big-endian, amounts are in two's complement.
-use Prim.Native.Nat.{ℕ, _+_, _*_}
+use Prim.Native.Nat.{ℕ, zero, suc, _+_, _*_, _/_, _%_}
 use mathlib.Core.Bool.{cond}
 use mathlib.Core.List.{List, [], _∷_, _++_}
 use lib.Dec.{eqb}
 use lib.IntN.{ℤ, pos}
-use lib.ListN.{take, drop, replicate}
+use lib.ListN.{length, take, drop, replicate}
 use Rattle.primitives.specs.Number.{bytesOf, countAt}
 use Rattle.primitives.specs.Counter.{counterBytes, counterValue}
 use Rattle.receipt.specs.declared.datetime.DateTime.{DateTime}
@@ -83,3 +83,14 @@ unfoldable pub detailsIn : List ℕ → Details
 detailsIn b =
     detailsOf (numberIn b 0) (numberIn b 1) (numberIn b 2) (numberIn b 3) (numberIn b 4) (numberIn b 5) (numberIn b 6) (amountIn b 0) (amountIn b 1)
     (amountIn b 2) (amountIn b 3) (amountIn b 4) (numberIn b 7)
+
+-- ---- the list that bytes stand for
+
+-- so many details, 72 bytes each
+unfoldable pub detailsFrom : ℕ → List ℕ → List Details
+detailsFrom zero b = []
+detailsFrom (suc k) b = detailsIn (take 72 b) ∷ detailsFrom k (drop 72 b)
+
+-- if the bytes are not a whole number of details, one receipt without a number, which question 7 refuses
+unfoldable pub listIn : List ℕ → List Details
+listIn b = cond (eqb (length b % 72) 0) (detailsFrom (length b / 72) b) (noDetails ∷ [])

@@ -1,19 +1,22 @@
 // The details of a receipt for C: from thirteen numbers, and as 72 bytes.
+use super::layout::counter_at;
+use super::layout::word_at;
 use receipt::DateTime;
 use receipt::Details;
 use receipt::Kind;
 ghost use mathlib.Core.Path.{_≡_};
+ghost use mathlib.Core.List.{[], _∷_};
 ghost use Prim.Native.Nat.{_≤_};
 ghost use lib.ListN.{length};
 ghost use Rattle.primitives.specs.Place.{overwrite};
-ghost use Rattle.device.specs.Details.{noDetails, detailsWith, ofKind, dateOf, detailsOf, kindNumber, numbersBytes, amountsBytes, detailsBytes};
+ghost use Rattle.device.specs.Details.{noDetails, detailsWith, ofKind, dateOf, detailsOf, kindNumber, numbersBytes, amountsBytes, detailsBytes, numberIn, amountIn, detailsIn};
 
 // The details of a receipt are 72 bytes long.
 pub(crate) const DETAILS: usize = 72;
 
 // ---- from thirteen numbers
 
-fn no_details() -> Details
+pub(crate) fn no_details() -> Details
     ensures { λ r. ⌜ r ≡ noDetails ⌝ }
 {
     Details {
@@ -153,4 +156,45 @@ pub(crate) fn put_details(d: Details, out: &mut [u8])
     ];
     put_numbers(numbers, out);
     put_amounts(amounts, out);
+}
+
+// ---- from bytes
+
+// Year, month, day, hour, minute and second: the second to the seventh number.
+fn date_in(b: &[u8]) -> DateTime
+    requires { ⌜ 72 ≤ length (now b) ⌝ }
+    ensures { λ r. let d : _ = now (b .entry) in ⌜ r ≡ dateOf (numberIn d 1) (numberIn d 2) (numberIn d 3) (numberIn d 4) (numberIn d 5) (numberIn d 6) ⌝ }
+{
+    let year = word_at(b, 4);
+    let month = word_at(b, 8);
+    let day = word_at(b, 12);
+    let hour = word_at(b, 16);
+    let minute = word_at(b, 20);
+    let second = word_at(b, 24);
+    date_of(year, month, day, hour, minute, second)
+}
+
+// The five amounts after the numbers.
+fn amounts_in(b: &[u8]) -> [i64; 5]
+    requires { ⌜ 72 ≤ length (now b) ⌝ }
+    ensures { λ r. let d : _ = now (b .entry) in ⌜ r ≡ amountIn d 0 ∷ amountIn d 1 ∷ amountIn d 2 ∷ amountIn d 3 ∷ amountIn d 4 ∷ [] ⌝ }
+{
+    let standard = counter_at(b, 32);
+    let reduced_1 = counter_at(b, 40);
+    let reduced_2 = counter_at(b, 48);
+    let zero = counter_at(b, 56);
+    let special = counter_at(b, 64);
+    [standard, reduced_1, reduced_2, zero, special]
+}
+
+// The details that 72 bytes stand for; all zero if their kind is not 0, 1 or 2.
+pub(crate) fn details_in(b: &[u8]) -> Details
+    requires { ⌜ 72 ≤ length (now b) ⌝ }
+    ensures { λ r. ⌜ r ≡ detailsIn (now (b .entry)) ⌝ }
+{
+    let number = word_at(b, 0);
+    let date = date_in(b);
+    let kind = word_at(b, 28);
+    let amounts = amounts_in(b);
+    of_kind(number, date, amounts, kind)
 }

@@ -58,7 +58,7 @@ pub(crate) fn array32_at(b: &[u8], at: usize) -> [u8; 32]
 }
 
 // The number of four bytes.
-fn word_at(b: &[u8], at: usize) -> u32
+pub(crate) fn word_at(b: &[u8], at: usize) -> u32
     requires { ⌜ at + 4 ≤ length (now b) ⌝ }
     ensures { λ r. ⌜ r ≡ countAt (now (b .entry)) at 4 ⌝ }
 {
@@ -79,8 +79,8 @@ fn long_at(b: &[u8], at: usize) -> usize
     }
 }
 
-// The counter of eight bytes.
-fn counter_at(b: &[u8], at: usize) -> i64
+// The counter, or an amount, of eight bytes.
+pub(crate) fn counter_at(b: &[u8], at: usize) -> i64
     requires { ⌜ at + 8 ≤ length (now b) ⌝ }
     ensures { λ r. ⌜ r ≡ counterValue 8 (take 8 (drop at (now (b .entry)))) ⌝ }
 {

@@ -1,11 +1,13 @@
 // The receipt journal of a cash register for callers in other languages: a state is 447 bytes that the caller keeps.
 mod details;
 mod layout;
+mod listing;
 mod read_back;
 mod register;
 mod text;
 
 pub use layout::ditgrux_version;
+pub use listing::ditgrux_issue_list;
 pub use read_back::ditgrux_read;
 pub use register::ditgrux_change;
 pub use register::ditgrux_counter;
