@@ -1,5 +1,5 @@
 -- Journals and calls from before the limit of an amount was raised.
-use Prim.Native.Nat.{ℕ, _≤_}
+use Prim.Native.Nat.{ℕ, zero, suc, _≤_}
 use mathlib.Core.Path.{_≡_, refl, sym, ap, _∙_}
 use mathlib.Core.Bool.{Bool, true, false}
 use mathlib.Core.List.{List, [], _∷_, _++_}
@@ -19,10 +19,11 @@ use Rattle.journal.specs.Step.{sound, numberAbove, firstGood, newCounter
 use Rattle.journal.specs.Issuing.{signatureSized, textOf, entryFits, withEntry, issueNumber, issueNumberWithin, issued, issuedWithin, issueBuffer, issueBufferWithin}
 use Rattle.journal.specs.Checking.{accepted, takeOver}
 use Rattle.journal.specs.Valid.{Placed, allPlaced, ValidWithin, Valid}
-use Rattle.journal.specs.Calls.{Order, Call, issue, change, TypedCalls, none, more, Register, journalOf, calls, call, callWithin, callsWithin}
+use Rattle.journal.specs.Calls.{Order, failedOrder, Call, issue, issueList, change, TypedList, nothing, also, lists, TypedCalls, none, more, Register, journalOf, calls, call, callWithin, callsWithin}
 use Rattle.journal.specs.Earlier.{StaysAccepted, OldJournalsStayAccepted, OldCallsStay, OnlyTheLimitMoved}
 use Rattle.journal.specs.declared.state.State.{State}
 use Rattle.journal.proofs.JournalStates.{state-of-journal}
+use Rattle.journal.proofs.Lists.{single, singleNumber, list-none, list-yes, list-no}
 use Rattle.journal.proofs.Registers.{refused-within}
 use Rattle.journal.proofs.WrittenIsAccepted.{written-is-accepted}
 
@@ -133,6 +134,30 @@ module _ (limit : ℕ) (lower : limit ≤ amountLimit) where
   unfolding callWithin
   change-same g s = refl
 
+  -- a list under the limit is a list under that of the calls: it ends before the first that got 9
+  record KeptList (g : Register) (ds : List Details) : Type 0 where
+    those : List Details
+    typed : TypedList those
+    kept : callWithin limit g (issueList ds) ≡ call g (issueList those)
+
+  keep-list : (ds : List Details) (g : Register) → TypedList ds → KeptList g ds
+  unfolding failedOrder
+  keep-list [] g nothing = record { those = []; typed = nothing; kept = list-none limit g ∙ sym (list-none amountLimit g) }
+  keep-list (d ∷ ds) g (also t ts) = go (singleNumber limit g d) refl (keep-list ds (callWithin limit g (single d)) ts)
+    where
+      go : (m : ℕ) → singleNumber limit g d ≡ m → KeptList (callWithin limit g (single d)) ds → KeptList g (d ∷ ds)
+      go zero e k =
+          let n : issueNumberWithin limit (g .state) d [] (length (g .buf)) ≡ 9 → ⊥ = λ q. omega (arith, e, q) in
+          let z : singleNumber amountLimit g d ≡ 0 = number-stays (g .state) d [] (length (g .buf)) n ∙ e in
+          record {
+            those = d ∷ k .those;
+            typed = also t (k .typed);
+            kept =
+                list-yes limit g d ds e ∙ k .kept ∙ ap (λ (r : Register). call r (issueList (k .those))) (call-stays g (failedOrder d) n)
+                ∙ sym (list-yes amountLimit g d (k .those) z);
+          }
+      go (suc m) e k = record { those = []; typed = nothing; kept = list-no limit g d ds (λ q. omega (arith, e, q)) ∙ sym (list-none amountLimit g) }
+
   -- calls under the limit are these calls under that of the calls: those that got 9 are left out
   record Kept (g : Register) (cs : List Call) : Type 0 where
     those : List Call
@@ -151,6 +176,14 @@ module _ (limit : ℕ) (lower : limit ≤ amountLimit) where
       go false e k =
           let q = call-stays g c (eqb-false (number g c) 9 e) in
           record { those = issue c ∷ k .those; typed = more t (k .typed); kept = k .kept ∙ ap (λ (r : Register). calls r (k .those)) q }
+  keep (issueList ds ∷ cs) g (more (lists t) ts) =
+      let l = keep-list ds g t in
+      let k = keep cs (callWithin limit g (issueList ds)) ts in
+      record {
+        those = issueList (l .those) ∷ k .those;
+        typed = more (lists (l .typed)) (k .typed);
+        kept = k .kept ∙ ap (λ (r : Register). calls r (k .those)) (l .kept);
+      }
   keep (change s ∷ cs) g (more t ts) =
       let k = keep cs (callWithin limit g (change s)) ts in
       record { those = change s ∷ k .those; typed = more t (k .typed); kept = k .kept ∙ ap (λ (r : Register). calls r (k .those)) (change-same g s) }

@@ -15,6 +15,7 @@ pub mod FirstNo
 pub mod Heads
 pub mod IssueCalls
 pub mod JournalStates
+pub mod Lists
 pub mod OneReading
 pub mod OpenCalls
 pub mod Pairs

@@ -1,8 +1,9 @@
 -- What a refused call leaves.
 use Prim.Native.Nat.{ℕ, zero, suc}
+use native.Mathlib.Omega.{arith}
 use mathlib.Core.Bool.{Bool}
-use mathlib.Core.Path.{_≡_, refl}
-use mathlib.Core.List.{List}
+use mathlib.Core.Path.{_≡_, refl, sym, ap, _∙_}
+use mathlib.Core.List.{List, [], _∷_}
 use lib.ListN.{length}
 use Rattle.receipt.specs.declared.settings.Name.{Name}
 use Rattle.receipt.specs.declared.settings.Settings.{Settings}
@@ -12,12 +13,14 @@ use Rattle.journal.specs.Step.{fresh}
 use Rattle.primitives.specs.Questions.{ifZero}
 use Rattle.journal.specs.Opening.{openNumber, opened, openBuffer}
 use Rattle.journal.specs.Issuing.{issueNumber, issued, issuedWithin, issueBuffer, issueBufferWithin}
+use Rattle.journal.specs.Listing.{issuedList, listBuffer, issuedListWithin, listBufferWithin, countedFrom}
 use Rattle.journal.specs.Changing.{changeNumber, changed, changeBuffer}
 use Rattle.journal.specs.Preparing.{prepareNumber, prepareAnswer, prepareBuffer}
 use Rattle.journal.specs.Checking.{headNumber, refused, accepted, takeOver, lastAnswer, steps}
 use Rattle.journal.specs.Head.{headSettings}
 use Rattle.journal.specs.Demands.{RefusedChangesNothing}
 use Rattle.journal.specs.declared.state.State.{State}
+use Rattle.journal.specs.declared.state.IssuedList.{IssuedList}
 use Rattle.journal.specs.declared.state.TakenOver.{TakenOver}
 use Rattle.primitives.proofs.Rows.{ifZero-no}
 use Rattle.journal.specs.declared.checking.Step.{Step}
@@ -32,6 +35,21 @@ issue-refused : (st : State) (d : Details) (sig buf : List ℕ) → (issued st d
     → (issued st d sig (length buf) .state ≡ st) × (issueBuffer st d sig buf ≡ buf)
 unfolding issuedWithin issueBufferWithin
 issue-refused st d sig buf h = (ifZero-no (issueNumber st d sig (length buf)) _ _ h, ifZero-no (issueNumber st d sig (length buf)) _ _ h)
+
+-- none is issued: the list is empty, or its first receipt is refused
+list-refused : (st : State) (ds : List Details) (buf : List ℕ) → issuedList st ds buf .count ≡ 0 → (issuedList st ds buf .state ≡ st) × (listBuffer st ds buf ≡ buf)
+unfolding issuedListWithin listBufferWithin ifZero
+list-refused st [] buf z = (refl, refl)
+list-refused st (d ∷ ds) buf z = go (issueNumber st d [] (length buf)) z
+  where
+    r : IssuedList
+    r = issuedList (issued st d [] (length buf) .state) ds (issueBuffer st d [] buf)
+
+    go : (m : ℕ) → ifZero m (countedFrom 1 r) (record { number = m; count = 0; state = st }) .count ≡ 0
+        → (ifZero m (countedFrom 1 r) (record { number = m; count = 0; state = st }) .state ≡ st)
+        × (ifZero m (listBuffer (issued st d [] (length buf) .state) ds (issueBuffer st d [] buf)) buf ≡ buf)
+    go zero q = absurd (omega (arith, q))
+    go (suc m) q = (refl, refl)
 
 change-refused : (st : State) (serial : Name) (buf : List ℕ) → (changed st serial (length buf) .number ≡ 0 → ⊥)
     → (changed st serial (length buf) .state ≡ st) × (changeBuffer st serial buf ≡ buf)
@@ -69,4 +87,4 @@ take-refused j key n =
     pick (headNumber j n) 0 (lastAnswer s) (answer-refused s)
 
 pub refused-changes-nothing : RefusedChangesNothing
-refused-changes-nothing = record { opens = open-refused; issues = issue-refused; changes = change-refused; prepares = prepare-refused; takes = take-refused }
+refused-changes-nothing = record { opens = open-refused; issues = issue-refused; lists = list-refused; changes = change-refused; prepares = prepare-refused; takes = take-refused }

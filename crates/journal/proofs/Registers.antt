@@ -21,6 +21,7 @@ use Rattle.receipt.specs.Settings.{nameText, settingsGood, TypedSettings}
 use Rattle.receipt.specs.Compact.{compact}
 use Rattle.receipt.specs.declared.settings.Name.{Name}
 use Rattle.receipt.specs.declared.settings.Settings.{Settings}
+use Rattle.receipt.specs.declared.details.Details.{Details}
 use Rattle.receipt.specs.declared.entry.Entry.{Entry}
 use Rattle.journal.specs.Head.{head, entryText, pairStart}
 use Rattle.journal.specs.State.{unopened, added, isIn, TypedName}
@@ -30,11 +31,12 @@ use Rattle.journal.specs.Issuing.{entryOf, textOf, issueNumberWithin, is
 use Rattle.journal.specs.Changing.{changeNumber, changed, changeBuffer}
 use Rattle.journal.specs.Receipts.{Receipt, receiptOf, receiptsIn, sum}
 use Rattle.journal.specs.Valid.{Owner, Pair, settingsFor, texts, pairTexts, ownerText, journalText, Placed, placedUnder, allPlaced, entriesOf, entriesIn, serialsOf, GoodOwner}
-use Rattle.journal.specs.Calls.{Order, TypedOrder, Call, issue, change, TypedCall, issues, changes, TypedCalls, none, more, Register, opening, numberOf, call, callWithin, calls, callsWithin, receiptOfCall, receiptsOf, Period, periodsFrom, periodsIn}
+use Rattle.journal.specs.Calls.{Order, TypedOrder, failedOrder, Call, issue, issueList, change, TypedList, nothing, also, TypedCall, issues, lists, changes, TypedCalls, none, more, Register, opening, numberOf, call, callWithin, calls, callsWithin, receiptOfCall, receiptsOfList, receiptsOf, Period, periodsFrom, periodsIn}
 use Rattle.journal.specs.Demands.{beforeCount}
 use Rattle.journal.specs.declared.state.State.{State}
 use Rattle.journal.proofs.OpenCalls.{open-zero}
 use Rattle.journal.proofs.Sections.{length-start}
+use Rattle.journal.proofs.Lists.{single, singleNumber, single-number, list-none, list-yes, list-no, receipts-nothing, receipts-yes, receipts-no}
 use Rattle.journal.proofs.Heads.{length-head}
 use Rattle.journal.proofs.Check.{RightAt, textIn, step, step-length}
 use Rattle.journal.proofs.Answers.{Eight, chain-eight, Answered, issue-zero, right-call, change-zero}
@@ -96,10 +98,14 @@ refused-change g s h =
     let e₂ : ifZero m (overwrite (g .buf) (g .state .length) (pairStart s 0)) (g .buf) ≡ g .buf = ifZero-no m (overwrite (g .buf) (g .state .length) (pairStart s 0)) (g .buf) h in
     λ i. record { state = e₁ i; buf = e₂ i }
 
-pub refused-same : (g : Register) (c : Call) → (numberOf g c ≡ 0 → ⊥) → call g c ≡ g
+-- a refused Issue or Change; a list of which a part is issued has a number, too
+pub issue-same : (g : Register) (c : Order) → (numberOf g (issue c) ≡ 0 → ⊥) → call g (issue c) ≡ g
 unfolding numberOf
-refused-same g (issue c) h = refused-within amountLimit g c h
-refused-same g (change s) h = refused-change g s h
+issue-same g c h = refused-within amountLimit g c h
+
+pub change-same : (g : Register) (s : Name) → (numberOf g (change s) ≡ 0 → ⊥) → call g (change s) ≡ g
+unfolding numberOf
+change-same g s h = refused-change g s h
 
 -- the entry of an Issue
 unfoldable pub entryIn : Register → Order → Entry
@@ -270,12 +276,45 @@ module _ (k : List ℕ) (n : ℕ) (o : Owner) (g : Register) (ps : List Pair) (p
           ap length cb ∙ wl,
         )
 
+-- ---- a list of receipts
+
+-- the open pair after a list: it takes an entry for each receipt, up to the first that is refused
+unfoldable pub widened : Register → Pair → List Details → Pair
+widened g p [] = p
+widened g p (d ∷ ds) = ifZero (singleNumber amountLimit g d) (widened (call g (single d)) (wider p (entryIn g (failedOrder d))) ds) p
+
+pub holds-list : (k : List ℕ) (n : ℕ) (o : Owner) → AllBytes k → (ds : List Details) (g : Register) (ps : List Pair) (p : Pair) → TypedList ds → Holds k n o g (ps ++ (p ∷ []))
+    → Holds k n o (call g (issueList ds)) (ps ++ (widened g p ds ∷ [])) × (length (call g (issueList ds) .buf) ≡ length (g .buf))
+unfolding widened ifZero
+holds-list k n o kb [] g ps p nothing h =
+    let e = sym (list-none amountLimit g) in
+    (subst (λ (x : Register). Holds k n o x (ps ++ (p ∷ []))) e h, ap (λ (x : Register). length (x .buf)) (sym e))
+holds-list k n o kb (d ∷ ds) g ps p (also t ts) h = go (singleNumber amountLimit g d) refl (holds-list k n o kb ds (call g (single d)) ps (wider p (entryIn g (failedOrder d))) ts)
+  where
+    go : (m : ℕ) → singleNumber amountLimit g d ≡ m
+        → (Holds k n o (call g (single d)) (ps ++ (wider p (entryIn g (failedOrder d)) ∷ []))
+        → Holds k n o (call (call g (single d)) (issueList ds)) (ps ++ (widened (call g (single d)) (wider p (entryIn g (failedOrder d))) ds ∷ []))
+        × (length (call (call g (single d)) (issueList ds) .buf) ≡ length (call g (single d) .buf)))
+        → Holds k n o (call g (issueList (d ∷ ds))) (ps ++ (ifZero (singleNumber amountLimit g d) (widened (call g (single d)) (wider p (entryIn g (failedOrder d))) ds) p ∷ []))
+        × (length (call g (issueList (d ∷ ds)) .buf) ≡ length (g .buf))
+    go zero e f =
+        let z = single-number g d ∙ e in
+        let q = f (issue-holds k n o g ps p h (failedOrder d) z (issue-right k n o g ps p h (failedOrder d) z kb t)) in
+        let y = sym (list-yes amountLimit g d ds e) in (
+          rw e (subst (λ (x : Register). Holds k n o x (ps ++ (widened (call g (single d)) (wider p (entryIn g (failedOrder d))) ds ∷ []))) y (q .0)),
+          ap (λ (x : Register). length (x .buf)) (sym y) ∙ (q .1 ∙ issue-length k n o g ps p h (failedOrder d) z),
+        )
+    go (suc m) e f =
+        let y = sym (list-no amountLimit g d ds (λ q. omega (arith, e, q))) in
+        (rw e (subst (λ (x : Register). Holds k n o x (ps ++ (p ∷ []))) y h), ap (λ (x : Register). length (x .buf)) (sym y))
+
 -- ---- a list of calls
 
--- the pairs that the calls make which are not refused: the open one takes an entry, or it is closed by a new serial
+-- the pairs that the calls make which are not refused: the open one takes entries, or it is closed by a new serial
 unfoldable pub pairsFrom : Register → Pair → List Call → List Pair
 pairsFrom g p [] = p ∷ []
 pairsFrom g p (issue c ∷ cs) = ifZero (numberOf g (issue c)) (pairsFrom (call g (issue c)) (wider p (entryIn g c)) cs) (pairsFrom (call g (issue c)) p cs)
+pairsFrom g p (issueList ds ∷ cs) = pairsFrom (call g (issueList ds)) (widened g p ds) cs
 pairsFrom g p (change s ∷ cs) = ifZero (numberOf g (change s)) (p ∷ pairsFrom (call g (change s)) (emptyPair s) cs) (pairsFrom (call g (change s)) p cs)
 
 change-is : (g : Register) (s : Name) → numberOf g (change s) ≡ 0 → changeNumber (g .state) s (length (g .buf)) ≡ 0
@@ -294,7 +333,9 @@ holds-calls k n o kb (issue c ∷ cs) g ps p (more (issues tc) tcs) h =
         → Holds k n o (calls (call g (issue c)) cs)
         (ps ++ ifZero (numberOf g (issue c)) (pairsFrom (call g (issue c)) (wider p (entryIn g c)) cs) (pairsFrom (call g (issue c)) p cs))
     go zero e f₁ f₂ = rw e (f₂ (issue-holds k n o g ps p h c e (issue-right k n o g ps p h c e kb tc)))
-    go (suc m) e f₁ f₂ = rw e (f₁ (subst (λ (x : Register). Holds k n o x (ps ++ (p ∷ []))) (sym (refused-same g (issue c) (λ q. omega (arith, e, q)))) h))
+    go (suc m) e f₁ f₂ = rw e (f₁ (subst (λ (x : Register). Holds k n o x (ps ++ (p ∷ []))) (sym (issue-same g c (λ q. omega (arith, e, q)))) h))
+holds-calls k n o kb (issueList ds ∷ cs) g ps p (more (lists ts) tcs) h =
+    holds-calls k n o kb cs (call g (issueList ds)) ps (widened g p ds) tcs (holds-list k n o kb ds g ps p ts h .0)
 holds-calls k n o kb (change s ∷ cs) g ps p (more (changes ts) tcs) h =
     go (numberOf g (change s)) refl (holds-calls k n o kb cs (call g (change s)) ps p tcs) (holds-calls k n o kb cs (call g (change s)) (ps ++ (p ∷ [])) (emptyPair s) tcs)
   where
@@ -304,7 +345,7 @@ holds-calls k n o kb (change s ∷ cs) g ps p (more (changes ts) tcs) h =
         (ps ++ ifZero (numberOf g (change s)) (p ∷ pairsFrom (call g (change s)) (emptyPair s) cs) (pairsFrom (call g (change s)) p cs))
     go zero e f₁ f₂ =
         rw e (subst (Holds k n o (calls (call g (change s)) cs)) (append-assoc ps (p ∷ []) (pairsFrom (call g (change s)) (emptyPair s) cs)) (f₂ (change-holds k n o g ps p h s (change-is g s e) ts .0)))
-    go (suc m) e f₁ f₂ = rw e (f₁ (subst (λ (x : Register). Holds k n o x (ps ++ (p ∷ []))) (sym (refused-same g (change s) (λ q. omega (arith, e, q)))) h))
+    go (suc m) e f₁ f₂ = rw e (f₁ (subst (λ (x : Register). Holds k n o x (ps ++ (p ∷ []))) (sym (change-same g s (λ q. omega (arith, e, q)))) h))
 
 -- ---- their receipts
 
@@ -326,6 +367,47 @@ unfolding sectionOf receiptsIn
 section-wider g c p =
     λ i. record { serial = p .serial; receipts = (receipts-append (p .entries) (entryIn g c ∷ []) ∙ ap (λ (r : Receipt). receiptsIn (p .entries) ++ (r ∷ [])) (receipt-same g c)) i }
 
+-- the entries of a list are its receipts
+entries-widened : (ds : List Details) (g : Register) (p : Pair) → receiptsIn (widened g p ds .entries) ≡ receiptsIn (p .entries) ++ receiptsOfList g ds
+unfolding widened ifZero receiptsIn
+entries-widened [] g p = sym (ap (λ (l : List Receipt). receiptsIn (p .entries) ++ l) (receipts-nothing g) ∙ append-nil (receiptsIn (p .entries)))
+entries-widened (d ∷ ds) g p = go (singleNumber amountLimit g d) refl (entries-widened ds (call g (single d)) (wider p (entryIn g (failedOrder d))))
+  where
+    one : receiptsIn (p .entries ++ (entryIn g (failedOrder d) ∷ [])) ≡ receiptsIn (p .entries) ++ (receiptOfCall (failedOrder d) ∷ [])
+    one =
+        receipts-append (p .entries) (entryIn g (failedOrder d) ∷ [])
+        ∙ ap (λ (r : Receipt). receiptsIn (p .entries) ++ (r ∷ [])) (receipt-same g (failedOrder d))
+
+    go : (m : ℕ) → singleNumber amountLimit g d ≡ m
+        → receiptsIn (widened (call g (single d)) (wider p (entryIn g (failedOrder d))) ds .entries)
+        ≡ receiptsIn (p .entries ++ (entryIn g (failedOrder d) ∷ [])) ++ receiptsOfList (call g (single d)) ds
+        → receiptsIn (ifZero (singleNumber amountLimit g d) (widened (call g (single d)) (wider p (entryIn g (failedOrder d))) ds) p .entries)
+        ≡ receiptsIn (p .entries) ++ receiptsOfList g (d ∷ ds)
+    go zero e f =
+        ap (λ (k : ℕ). receiptsIn (ifZero k (widened (call g (single d)) (wider p (entryIn g (failedOrder d))) ds) p .entries)) e
+        ∙ f
+        ∙ ap (λ (l : List Receipt). l ++ receiptsOfList (call g (single d)) ds) one
+        ∙ append-assoc (receiptsIn (p .entries)) (receiptOfCall (failedOrder d) ∷ []) (receiptsOfList (call g (single d)) ds)
+        ∙ ap (λ (l : List Receipt). receiptsIn (p .entries) ++ l) (sym (receipts-yes g d ds e))
+    go (suc m) e f =
+        ap (λ (k : ℕ). receiptsIn (ifZero k (widened (call g (single d)) (wider p (entryIn g (failedOrder d))) ds) p .entries)) e
+        ∙ sym (ap (λ (l : List Receipt). receiptsIn (p .entries) ++ l) (receipts-no g d ds (λ q. omega (arith, e, q))) ∙ append-nil (receiptsIn (p .entries)))
+
+serial-widened : (ds : List Details) (g : Register) (p : Pair) → widened g p ds .serial ≡ p .serial
+unfolding widened ifZero
+serial-widened [] g p = refl
+serial-widened (d ∷ ds) g p = go (singleNumber amountLimit g d) (serial-widened ds (call g (single d)) (wider p (entryIn g (failedOrder d))))
+  where
+    go : (m : ℕ) → widened (call g (single d)) (wider p (entryIn g (failedOrder d))) ds .serial ≡ p .serial
+        → ifZero m (widened (call g (single d)) (wider p (entryIn g (failedOrder d))) ds) p .serial ≡ p .serial
+    go zero f = f
+    go (suc m) f = refl
+
+section-widened : (ds : List Details) (g : Register) (p : Pair)
+    → sectionOf (widened g p ds) ≡ record { serial = p .serial; receipts = receiptsIn (p .entries) ++ receiptsOfList g ds }
+unfolding sectionOf
+section-widened ds g p = λ i. record { serial = serial-widened ds g p i; receipts = entries-widened ds g p i }
+
 sections-from : (cs : List Call) (g : Register) (p : Pair) → periodsIn (pairsFrom g p cs) ≡ periodsFrom g (sectionOf p) cs
 unfolding periodsIn periodsFrom pairsFrom ifZero sectionOf receiptsIn
 sections-from [] g p = refl
@@ -337,6 +419,8 @@ sections-from (issue c ∷ cs) g p = go (numberOf g (issue c)) (sections-from cs
         ≡ ifZero m (periodsFrom (call g (issue c)) (record { serial = p .serial; receipts = receiptsIn (p .entries) ++ (receiptOfCall c ∷ []) }) cs) (periodsFrom (call g (issue c)) (sectionOf p) cs)
     go zero e f = f ∙ ap (λ (x : Period). periodsFrom (call g (issue c)) x cs) (section-wider g c p)
     go (suc m) e f = e
+sections-from (issueList ds ∷ cs) g p =
+    sections-from cs (call g (issueList ds)) (widened g p ds) ∙ ap (λ (x : Period). periodsFrom (call g (issueList ds)) x cs) (section-widened ds g p)
 sections-from (change s ∷ cs) g p = go (numberOf g (change s)) (sections-from cs (call g (change s)) p) (sections-from cs (call g (change s)) (emptyPair s))
   where
     go : (m : ℕ) → periodsIn (pairsFrom (call g (change s)) p cs) ≡ periodsFrom (call g (change s)) (sectionOf p) cs
@@ -365,6 +449,10 @@ receipts-from (issue c ∷ cs) g p = go (numberOf g (issue c)) (receipts-from cs
     go zero e f =
         f ∙ (ap (λ (l : List Receipt). l ++ receiptsOf (call g (issue c)) cs) one ∙ append-assoc (receiptsIn (p .entries)) (receiptOfCall c ∷ []) (receiptsOf (call g (issue c)) cs))
     go (suc m) e f = e
+receipts-from (issueList ds ∷ cs) g p =
+    receipts-from cs (call g (issueList ds)) (widened g p ds)
+    ∙ ap (λ (l : List Receipt). l ++ receiptsOf (call g (issueList ds)) cs) (entries-widened ds g p)
+    ∙ append-assoc (receiptsIn (p .entries)) (receiptsOfList g ds) (receiptsOf (call g (issueList ds)) cs)
 receipts-from (change s ∷ cs) g p = go (numberOf g (change s)) (receipts-from cs (call g (change s)) p) (receipts-from cs (call g (change s)) (emptyPair s))
   where
     go : (m : ℕ) → receiptsIn (entriesIn (pairsFrom (call g (change s)) p cs)) ≡ receiptsIn (p .entries) ++ receiptsOf (call g (change s)) cs

@@ -1,9 +1,9 @@
--- Lists of calls that mix Issue and Change: "Each Issue gets the state that the call before it returned and the buffer as that call left it", and so does
--- each Change.
+-- Lists of calls that mix Issue, lists of receipts and Change: "Each Issue gets the state that the call before it returned and the buffer as that call left
+-- it", and so does each list and each Change.
 use Prim.Native.Nat.{ℕ, _<_}
 use mathlib.Core.Path.{_≡_}
 use mathlib.Core.Bool.{Bool, cond}
-use mathlib.Core.List.{List, [], _∷_, _++_}
+use mathlib.Core.List.{List, [], _∷_, _++_, map}
 use lib.ListN.{length, take}
 use Rattle.primitives.specs.Bytes.{AllBytes}
 use Rattle.receipt.specs.Amount.{amountLimit}
@@ -14,6 +14,7 @@ use Rattle.receipt.specs.declared.entry.Entry.{Entry}
 use Rattle.primitives.specs.Questions.{ifZero}
 use Rattle.journal.specs.Opening.{opened, openBuffer}
 use Rattle.journal.specs.Issuing.{issueNumber, issuedWithin, issueBufferWithin, givenSignature}
+use Rattle.journal.specs.Listing.{issuedList, issuedListWithin, listBufferWithin}
 use Rattle.journal.specs.Changing.{changeNumber, changed, changeBuffer}
 use Rattle.journal.specs.Receipts.{Receipt, receiptsIn}
 use Rattle.journal.specs.State.{TypedName}
@@ -27,9 +28,14 @@ pub record Order : Type 0 where
   pub details : Details
   pub signature : List ℕ
 
--- a call of Issue, or of Change with a serial
+-- what Issue is given for a receipt of a list: "all issued with a failed device"
+unfoldable pub failedOrder : Details → Order
+failedOrder d = record { details = d; signature = [] }
+
+-- a call of Issue, of a list of receipts, or of Change with a serial
 pub data Call : Type 0 where
   issue : Order → Call
+  issueList : List Details → Call
   change : Name → Call
 
 -- what the code's types say of them
@@ -38,8 +44,13 @@ pub record TypedOrder (c : Order) : Type 0 where
   pub amounts : length (c .details .amounts) ≡ 5
   pub bytes : AllBytes (c .signature)
 
+pub data TypedList : List Details → Type 0 where
+  nothing : TypedList []
+  also : {d : Details} {ds : List Details} → TypedOrder (failedOrder d) → TypedList ds → TypedList (d ∷ ds)
+
 pub data TypedCall : Call → Type 0 where
   issues : {c : Order} → TypedOrder c → TypedCall (issue c)
+  lists : {ds : List Details} → TypedList ds → TypedCall (issueList ds)
   changes : {s : Name} → TypedName s → TypedCall (change s)
 
 pub data TypedCalls : List Call → Type 0 where
@@ -64,6 +75,7 @@ opening s key shared n buf = record { state = opened s key shared n (length buf)
 -- the number of a call: 0 if it was not refused
 unfoldable pub numberOf : Register → Call → ℕ
 numberOf g (issue c) = issueNumber (g .state) (c .details) (c .signature) (length (g .buf))
+numberOf g (issueList ds) = issuedList (g .state) ds (g .buf) .number
 numberOf g (change s) = changeNumber (g .state) s (length (g .buf))
 
 -- the register after a call, and after calls, with the limit of an amount as a parameter
@@ -73,6 +85,8 @@ callWithin limit g (issue c) =
       state = issuedWithin limit (g .state) (c .details) (c .signature) (length (g .buf)) .state;
       buf = issueBufferWithin limit (g .state) (c .details) (c .signature) (g .buf);
     }
+callWithin limit g (issueList ds) =
+    record { state = issuedListWithin limit (g .state) ds (g .buf) .state; buf = listBufferWithin limit (g .state) ds (g .buf) }
 callWithin limit g (change s) = record { state = changed (g .state) s (length (g .buf)) .state; buf = changeBuffer (g .state) s (g .buf) }
 
 unfoldable pub callsWithin : ℕ → Register → List Call → Register
@@ -97,11 +111,16 @@ numbersOf g (c ∷ cs) = numberOf g c ∷ numbersOf (call g c) cs
 unfoldable pub receiptOfCall : Order → Receipt
 receiptOfCall c = record { details = c .details; signature = givenSignature (c .signature) }
 
+-- the receipts of a list that are issued: as many as the call says, the first ones
+unfoldable pub receiptsOfList : Register → List Details → List Receipt
+receiptsOfList g ds = map (λ (d : Details). receiptOfCall (failedOrder d)) (take (issuedList (g .state) ds (g .buf) .count) ds)
+
 -- the receipts of the calls that were not refused, in order
 unfoldable pub receiptsOf : Register → List Call → List Receipt
 receiptsOf g [] = []
 receiptsOf g (issue c ∷ cs) =
     ifZero (numberOf g (issue c)) (receiptOfCall c ∷ receiptsOf (call g (issue c)) cs) (receiptsOf (call g (issue c)) cs)
+receiptsOf g (issueList ds ∷ cs) = receiptsOfList g ds ++ receiptsOf (call g (issueList ds)) cs
 receiptsOf g (change s ∷ cs) = receiptsOf (call g (change s)) cs
 
 -- a serial, and the receipts issued under it
@@ -109,12 +128,14 @@ pub record Period : Type 0 where
   pub serial : Name
   pub receipts : List Receipt
 
--- the periods that the calls make which are not refused: the last one takes a receipt, or a new serial ends it
+-- the periods that the calls make which are not refused: the last one takes receipts, or a new serial ends it
 unfoldable pub periodsFrom : Register → Period → List Call → List Period
 periodsFrom g x [] = x ∷ []
 periodsFrom g x (issue c ∷ cs) =
     ifZero (numberOf g (issue c)) (periodsFrom (call g (issue c)) (record { serial = x .serial; receipts = x .receipts ++ (receiptOfCall c ∷ []) }) cs)
     (periodsFrom (call g (issue c)) x cs)
+periodsFrom g x (issueList ds ∷ cs) =
+    periodsFrom (call g (issueList ds)) (record { serial = x .serial; receipts = x .receipts ++ receiptsOfList g ds }) cs
 periodsFrom g x (change s ∷ cs) =
     ifZero (numberOf g (change s)) (x ∷ periodsFrom (call g (change s)) (record { serial = s; receipts = [] }) cs)
     (periodsFrom (call g (change s)) x cs)

@@ -19,6 +19,7 @@ use Rattle.journal.specs.State.{unopened, countPlaceNow}
 use Rattle.receipt.specs.Settings.{nameText, TypedSettings}
 use Rattle.journal.specs.Opening.{openNumber, opened, openBuffer}
 use Rattle.journal.specs.Issuing.{textOf, issueNumber, issued, issueBuffer}
+use Rattle.journal.specs.Listing.{issuedList, listBuffer}
 use Rattle.journal.specs.Changing.{changed, changeBuffer}
 use Rattle.journal.specs.Preparing.{preparedText, prepareNumber, prepareAnswer, prepareBuffer}
 use Rattle.journal.specs.Checking.{refused, accepted, takeOver, full, stepChecked, entryChecked, readBySteps}
@@ -144,6 +145,9 @@ pub record RefusedChangesNothing : Type 0 where
       → (opened s key shared n (length buf) .state ≡ unopened) × (openBuffer s shared n buf ≡ buf)
   pub issues : (st : State) (d : Details) (sig buf : List ℕ) → (issued st d sig (length buf) .number ≡ 0 → ⊥)
       → (issued st d sig (length buf) .state ≡ st) × (issueBuffer st d sig buf ≡ buf)
+  -- "or as given if none was; only the latter, with a number, is a refused call": a list of which none is issued
+  pub lists : (st : State) (ds : List Details) (buf : List ℕ) → issuedList st ds buf .count ≡ 0
+      → (issuedList st ds buf .state ≡ st) × (listBuffer st ds buf ≡ buf)
   pub changes : (st : State) (serial : Name) (buf : List ℕ) → (changed st serial (length buf) .number ≡ 0 → ⊥)
       → (changed st serial (length buf) .state ≡ st) × (changeBuffer st serial buf ≡ buf)
   pub prepares : (st : State) (d : Details) (out : List ℕ) → (prepareAnswer st d (length out) .number ≡ 0 → ⊥)

@@ -8,6 +8,7 @@ pub mod FirstNo
 pub mod Head
 pub mod Issuing
 pub mod Listing
+pub mod Lists
 pub mod Opening
 pub mod Preparing
 pub mod Receipts

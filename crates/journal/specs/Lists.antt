@@ -1,0 +1,48 @@
+-- A list of receipts that are issued with a failed device: what it does, said by single calls of Issue.
+use Prim.Native.Nat.{ℕ}
+use mathlib.Core.Path.{_≡_}
+use mathlib.Core.List.{List, [], _∷_, _++_, map}
+use lib.ListN.{length, replicate}
+use Rattle.receipt.specs.declared.details.Details.{Details}
+use Rattle.journal.specs.Listing.{issuedList, listBuffer}
+use Rattle.journal.specs.Calls.{Call, issue, failedOrder, Register, numberOf, calls, numbersOf}
+use Rattle.journal.specs.declared.state.State.{State}
+
+-- the single calls: one Issue for each receipt, with a failed device
+abbrev pub singleCalls : List Details → List Call
+singleCalls ds = map (λ (d : Details). issue (failedOrder d)) ds
+
+-- none of the single calls is refused
+abbrev pub NoneRefused : Register → List Details → Type 0
+NoneRefused g ds = numbersOf g (singleCalls ds) ≡ replicate (length ds) 0
+
+-- the single call for d is refused, after those before it, none of which is
+pub record FirstRefused (g : Register) (before : List Details) (d : Details) : Type 0 where
+  pub none : NoneRefused g before
+  pub refused : numberOf (calls g (singleCalls before)) (issue (failedOrder d)) ≡ 0 → ⊥
+
+-- for every list it is one or the other
+pub data Ends (g : Register) (ds : List Details) : Type 0 where
+  whole : NoneRefused g ds → Ends g ds
+  early : (before : List Details) (d : Details) (later : List Details) → ds ≡ before ++ (d ∷ later) → FirstRefused g before d → Ends g ds
+
+-- the call answers with this number and this count, and leaves what the single calls for `done` leave: their state and their buffer
+pub record Lists (g : Register) (ds done : List Details) (number : ℕ) : Type 0 where
+  pub answer : issuedList (g .state) ds (g .buf) ≡ record { number = number; count = length done; state = calls g (singleCalls done) .state }
+  pub buffer : listBuffer (g .state) ds (g .buf) ≡ calls g (singleCalls done) .buf
+
+-- "It equals the single calls in that order up to the first that is refused. It returns the state, how many were issued, and the refusing number or 0.
+-- State and buffer are those that the last issued one left, or as given if none was"
+pub record ListEqualsSingleCalls : Type 0 where
+  -- where none of the single calls is refused, it does them all, with number 0
+  pub all : (g : Register) (ds : List Details) → NoneRefused g ds → Lists g ds ds 0
+  -- where one is refused, it does those before the first such one, with its number
+  pub until : (g : Register) (before : List Details) (d : Details) (later : List Details) → FirstRefused g before d
+      → Lists g (before ++ (d ∷ later)) before (numberOf (calls g (singleCalls before)) (issue (failedOrder d)))
+  -- there is no third case
+  pub either : (g : Register) (ds : List Details) → Ends g ds
+
+-- an empty list changes nothing and gets 0, whatever the state is
+abbrev pub EmptyListChangesNothing : Type 0
+EmptyListChangesNothing =
+    (st : State) (buf : List ℕ) → (issuedList st [] buf ≡ record { number = 0; count = 0; state = st }) × (listBuffer st [] buf ≡ buf)
