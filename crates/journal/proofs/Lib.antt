@@ -1,5 +1,6 @@
 pub mod AcceptedIsWritten
 pub mod Accepting
+pub mod Again
 pub mod Agreement
 pub mod Answers
 pub mod Appended
@@ -15,6 +16,7 @@ pub mod FirstNo
 pub mod Heads
 pub mod IssueCalls
 pub mod JournalStates
+pub mod ListTurns
 pub mod Lists
 pub mod OneReading
 pub mod OpenCalls

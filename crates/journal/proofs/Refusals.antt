@@ -31,7 +31,7 @@ open-refused : (s : Settings) (key : List ℕ) (shared : Bool) (n : ℕ) (buf : 
 unfolding opened openBuffer
 open-refused s key shared n buf h = (ifZero-no (openNumber s shared n (length buf)) _ _ h, ifZero-no (openNumber s shared n (length buf)) _ _ h)
 
-issue-refused : (st : State) (d : Details) (sig buf : List ℕ) → (issued st d sig (length buf) .number ≡ 0 → ⊥)
+pub issue-refused : (st : State) (d : Details) (sig buf : List ℕ) → (issued st d sig (length buf) .number ≡ 0 → ⊥)
     → (issued st d sig (length buf) .state ≡ st) × (issueBuffer st d sig buf ≡ buf)
 unfolding issuedWithin issueBufferWithin
 issue-refused st d sig buf h = (ifZero-no (issueNumber st d sig (length buf)) _ _ h, ifZero-no (issueNumber st d sig (length buf)) _ _ h)
