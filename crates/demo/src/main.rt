@@ -1,4 +1,6 @@
-// A register's day on the screen: it is opened, receipts are issued, the certificate is changed, the journal is taken over, and a broken one is refused.
+// A register's day on the screen: it is opened, receipts are issued, one by one and as a list, the certificate is changed, the journal is taken over, and a
+// broken one is refused.
+use journal::IssuedList;
 use journal::State;
 use primitives::Alphabet;
 use receipt::DateTime;
@@ -114,6 +116,27 @@ fn change(title: &[u8], st: State, serial: &[u8], buf: &mut [u8]) -> State {
     next
 }
 
+// Issues three receipts in one call, all with a failed device.
+fn issue_three(st: State, a: Details, b: Details, c: Details, buf: &mut [u8]) -> IssuedList {
+    let list = [a, b, c];
+    journal::issue_list(st, &list, buf)
+}
+
+// What came of a list.
+fn show_list(title: &[u8], r: IssuedList) -> State {
+    let st = r.state;
+    printing::text(title);
+    printing::text(b"  issued ");
+    printing::number(r.count as u64);
+    if r.number != 0 {
+        printing::text(b", then refused ");
+        printing::number(r.number as u64);
+    }
+    printing::text(b"\n");
+    show_state(st);
+    st
+}
+
 // What a take-over of the first n bytes answers.
 fn take_over(title: &[u8], buf: &[u8], n: usize, key: [u8; 32]) {
     printing::text(title);
@@ -207,6 +230,29 @@ fn night(st: State, buf: &mut [u8]) -> State {
     change(b"the old certificate again\n", b, b"1a2b3c", buf)
 }
 
+// A table's orders were keyed while the signature device was down: they are issued together, up to the first that is refused.
+fn closing_time(st: State, buf: &mut [u8]) -> State {
+    let all = issue_three(
+        st,
+        details(7, 50, [0, 890, 0, 0, 0], Kind::Standard),
+        details(8, 51, [0, 420, 0, 0, 0], Kind::Standard),
+        details(9, 52, [0, -420, 0, 0, 0], Kind::Cancellation),
+        buf,
+    );
+    let a = show_list(
+        b"three orders of a table, keyed while the signature device was down\n",
+        all,
+    );
+    let part = issue_three(
+        a,
+        details(10, 55, [0, 360, 0, 0, 0], Kind::Standard),
+        details(10, 56, [0, 240, 0, 0, 0], Kind::Standard),
+        details(11, 57, [0, 180, 0, 0, 0], Kind::Standard),
+        buf,
+    );
+    show_list(b"three more, two of them with one number\n", part)
+}
+
 // One letter changed into another one of BASE64-URL.
 fn flip(buf: &mut [u8], at: usize) {
     if at < buf.len() {
@@ -228,7 +274,8 @@ fn main() {
     let first = morning(opened, &mut buf);
     let second = noon(first, &mut buf);
     let third = evening(second, &mut buf);
-    let st = night(third, &mut buf);
+    let fourth = night(third, &mut buf);
+    let st = closing_time(fourth, &mut buf);
     take_over(b"the journal is taken over\n", &buf, st.length, key);
     flip(&mut buf, 190);
     take_over(
