@@ -16,7 +16,10 @@ use Rattle.primitives.specs.declared.buffer.Number.the-variants.{Is, Missing}
 use Rattle.primitives.proofs.Numbers.{number-there, number-found}
 use Rattle.primitives.proofs.Over.{length-over, read-over, placed-room}
 use Rattle.receipt.specs.declared.settings.Name.{Name}
+use Rattle.receipt.specs.declared.datetime.DateTime.{DateTime}
+use Rattle.receipt.specs.declared.details.Details.{Details}
 use Rattle.device.specs.Layout.{nameAt, namesAt, stateAt}
+use Rattle.device.specs.Details.{dateOf, ofKind, detailsOf, numberIn, amountIn, detailsIn}
 use Rattle.primitives.proofs.Counts.{count-is}
 
 -- ---- arrays
@@ -96,3 +99,27 @@ state-found b e₁ e₂ e₃ e₄ e₅ e₆ e₇ e₈ e₉ e₁₀ e₁₁ e₁�
       since = e₁₁ i;
       place = e₁₂ i;
     }
+
+-- ---- the details of a receipt
+
+module _ (b : List ℕ) where
+  pub date-found : {year month day hour minute second : ℕ} {r : DateTime} → year ≡ countAt b 4 4 → month ≡ countAt b 8 4 → day ≡ countAt b 12 4 → hour ≡ countAt b 16 4
+      → minute ≡ countAt b 20 4 → second ≡ countAt b 24 4 → r ≡ dateOf year month day hour minute second
+      → r ≡ dateOf (numberIn b 1) (numberIn b 2) (numberIn b 3) (numberIn b 4) (numberIn b 5) (numberIn b 6)
+  unfolding numberIn
+  date-found e₁ e₂ e₃ e₄ e₅ e₆ q = q ∙ (λ i. dateOf (e₁ i) (e₂ i) (e₃ i) (e₄ i) (e₅ i) (e₆ i))
+
+  pub amounts-found : {z₀ z₁ z₂ z₃ z₄ : ℤ} → SFits w64 z₀ → SFits w64 z₁ → SFits w64 z₂ → SFits w64 z₃ → SFits w64 z₄
+      → z₀ ≡ counterValue 8 (take 8 (drop 32 b)) → z₁ ≡ counterValue 8 (take 8 (drop 40 b)) → z₂ ≡ counterValue 8 (take 8 (drop 48 b))
+      → z₃ ≡ counterValue 8 (take 8 (drop 56 b)) → z₄ ≡ counterValue 8 (take 8 (drop 64 b))
+      → toZ w64 (ofZ w64 z₀) ∷ toZ w64 (ofZ w64 z₁) ∷ toZ w64 (ofZ w64 z₂) ∷ toZ w64 (ofZ w64 z₃) ∷ toZ w64 (ofZ w64 z₄) ∷ []
+      ≡ amountIn b 0 ∷ amountIn b 1 ∷ amountIn b 2 ∷ amountIn b 3 ∷ amountIn b 4 ∷ []
+  unfolding amountIn
+  amounts-found {z₀} {z₁} {z₂} {z₃} {z₄} f₀ f₁ f₂ f₃ f₄ e₀ e₁ e₂ e₃ e₄ =
+      λ i. (toZ-ofZ w64 z₀ f₀ ∙ e₀) i ∷ (toZ-ofZ w64 z₁ f₁ ∙ e₁) i ∷ (toZ-ofZ w64 z₂ f₂ ∙ e₂) i ∷ (toZ-ofZ w64 z₃ f₃ ∙ e₃) i ∷ (toZ-ofZ w64 z₄ f₄ ∙ e₄) i ∷ []
+
+  pub details-found : {number kind : ℕ} {date : DateTime} {amounts : List ℤ} {r : Details} → number ≡ countAt b 0 4
+      → date ≡ dateOf (numberIn b 1) (numberIn b 2) (numberIn b 3) (numberIn b 4) (numberIn b 5) (numberIn b 6) → kind ≡ countAt b 28 4
+      → amounts ≡ amountIn b 0 ∷ amountIn b 1 ∷ amountIn b 2 ∷ amountIn b 3 ∷ amountIn b 4 ∷ [] → r ≡ ofKind number date amounts kind → r ≡ detailsIn b
+  unfolding detailsIn detailsOf numberIn
+  details-found n d k a q = q ∙ (λ i. ofKind (n i) (d i) (a i) (k i))

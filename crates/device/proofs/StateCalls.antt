@@ -21,6 +21,7 @@ use Rattle.device.specs.Details.{noDetails}
 use Rattle.device.specs.Calls.{Slices, serialIn, settingsIn, settingsInBuffer, openedNumber, openedSlices, IssueCall, orderIn, issueAnswer, issuedNumber, issuedSlices, changeAnswer, changedNumber, changedSlices}
 use Rattle.device.specs.Laws.{RefusedIssueKeepsSlices, RefusedChangeKeepsSlices, OtherLengthsGetSix, SettingsOfSerial}
 use Rattle.device.proofs.Below.{issued-number, changed-number}
+use Rattle.device.proofs.Lists.{list-left, list-six}
 use Rattle.device.proofs.Sizes.{state-none, kept-not, take-six}
 use Rattle.device.proofs.Spelling.{settings-are-read, kept-as-it-was}
 use Rattle.device.proofs.Zeros.{unopened-gets-six}
@@ -82,6 +83,7 @@ other-lengths-get-six =
     record {
       opens = λ settings shared g e. open-six g e settings shared;
       issues = λ g c e. (issue-six g e c, issue-left g c (λ z. omega (arith, z, issue-six g e c)) (kept-old g e));
+      lists = λ g list e. let p = list-six g list e in (list-left g list (p .0) (kept-old g e), p .0, p .1);
       changes = λ g serial e. (change-six g e serial, change-left g serial (λ z. omega (arith, z, change-six g e serial)) (kept-old g e));
       prepares = λ state d room e. ap (λ (x : State). prepareNumber x d room) (state-none state e) ∙ unopened-gets-six d [] noName room .1;
       takes = λ j key n state e. (take-six j key n (length state) e, kept-not state unopened e);

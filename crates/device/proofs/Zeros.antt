@@ -1,6 +1,8 @@
 -- Values that are all zero, and how the questions answer them.
-use mathlib.Core.Path.{_≡_, refl}
+use Prim.Native.Nat.{ℕ}
+use mathlib.Core.Path.{_≡_, refl, ap}
 use mathlib.Core.Bool.{false}
+use mathlib.Core.List.{List}
 use native.Mathlib.Omega.{arith}
 use lib.ListN.{replicate}
 use borrow.Author.Tests.{le-ltb}
@@ -13,8 +15,9 @@ use Rattle.journal.specs.Changing.{changeNumber}
 use Rattle.primitives.specs.Questions.{ask}
 use Rattle.journal.specs.Opening.{openNumber}
 use Rattle.journal.specs.Step.{soundAlone, sound, numberAbove, detailsNumberWithin}
-use Rattle.journal.specs.Issuing.{issueNumberWithin}
+use Rattle.journal.specs.Issuing.{issueNumber, issueNumberWithin}
 use Rattle.journal.specs.Preparing.{prepareNumber}
+use Rattle.journal.specs.declared.state.State.{State}
 use Rattle.device.specs.Layout.{namesBytes, registerBytes, figuresBytes, stateBytes}
 use Rattle.device.specs.Details.{noDetails}
 use Rattle.device.specs.Laws.{UnopenedIsZero, NoSettingsGetOne, UnopenedGetsSix, UnknownKindGetsSeven}
@@ -42,3 +45,8 @@ unopened-gets-six d sig serial room = (rw unopened-unsound, rw unopened-unsound,
 pub unknown-kind-gets-seven : UnknownKindGetsSeven
 unfolding detailsNumberWithin numberAbove noDetails ask
 unknown-kind-gets-seven st rest = rw (le-ltb (st .last) 0 (omega arith))
+
+-- a receipt without a number: 7, or 6 if the state is not sound
+pub no-details-number : (st : State) (sig : List ℕ) (room : ℕ) → issueNumber st noDetails sig room ≡ ask (sound st room) 6 7
+unfolding issueNumberWithin
+no-details-number st sig room = ap (ask (sound st room) 6) (unknown-kind-gets-seven st _)

@@ -1,8 +1,8 @@
 -- What holds of settings, states and details as bytes. Proved in proofs/.
-use Prim.Native.Nat.{ℕ, _<_}
+use Prim.Native.Nat.{ℕ, _%_, _<_}
 use mathlib.Core.Path.{_≡_}
 use mathlib.Core.Bool.{Bool, true, false}
-use mathlib.Core.List.{List}
+use mathlib.Core.List.{List, []}
 use lib.IntN.{pos}
 use lib.ListN.{length, replicate, getD}
 use Rattle.primitives.specs.Bytes.{AllBytes}
@@ -15,13 +15,13 @@ use Rattle.journal.specs.State.{unopened, TypedRegister, TypedState}
 use Rattle.journal.specs.Opening.{openNumber}
 use Rattle.journal.specs.SharedKey.{SharedDigit}
 use Rattle.journal.specs.Preparing.{prepareNumber}
-use Rattle.journal.specs.Step.{detailsNumber}
+use Rattle.journal.specs.Step.{sound, detailsNumber}
 use Rattle.journal.specs.Issuing.{issueNumber}
 use Rattle.journal.specs.Changing.{changeNumber}
 use Rattle.journal.specs.declared.state.State.{State}
 use Rattle.device.specs.Layout.{settingsBytes, stateBytes, noSettings, settingsOf, widthOf, keyOf, stateOf, kept}
-use Rattle.device.specs.Details.{noDetails, detailsBytes, detailsIn}
-use Rattle.device.specs.Calls.{settingsFrom, widthWith, settingsAnswer, settingsBuffer, Slices, openedNumber, openedSlices, IssueCall, issuedNumber, issuedSlices, changedNumber, changedSlices, takeOverAnswer, settingsIn, settingsInBuffer}
+use Rattle.device.specs.Details.{noDetails, pieces, detailsBytes, detailsIn, listIn}
+use Rattle.device.specs.Calls.{settingsFrom, widthWith, settingsAnswer, settingsBuffer, Slices, openedNumber, openedSlices, IssueCall, issuedNumber, issuedSlices, listedNumber, listedCount, listedSlices, changedNumber, changedSlices, takeOverAnswer, settingsIn, settingsInBuffer}
 
 -- ---- reading and writing undo each other
 
@@ -101,13 +101,35 @@ abbrev pub RefusedChangeKeepsSlices : Type 0
 RefusedChangeKeepsSlices =
     (g : Slices) → AllBytes (g .state) → (serial : List ℕ) → (changedNumber g serial ≡ 0 → ⊥) → changedSlices g serial ≡ g
 
+-- ---- ditgrux_issue_list
+
+-- if it says that none is issued, it leaves the bytes of the state and the journal as they were, also where the state is not 447 bytes long
+abbrev pub RefusedListKeepsSlices : Type 0
+RefusedListKeepsSlices = (g : Slices) → AllBytes (g .state) → (list : List ℕ) → listedCount g list ≡ 0 → listedSlices g list ≡ g
+
+-- an empty list: nothing is refused, none is issued, and nothing changes
+abbrev pub EmptyListChangesNothingInC : Type 0
+EmptyListChangesNothingInC =
+    (g : Slices) → AllBytes (g .state) → (listedNumber g [] ≡ 0) × (listedCount g [] ≡ 0) × (listedSlices g [] ≡ g)
+
+-- a list that is not a whole number of details: none is issued, and the number is that of a receipt without a number, 7, or 6 if the state is not sound
+abbrev pub CutListIssuesNone : Type 0
+CutListIssuesNone =
+    (g : Slices) (list : List ℕ) → AllBytes (g .state) → (length list % 72 ≡ 0 → ⊥)
+    → (listedCount g list ≡ 0) × (listedSlices g list ≡ g)
+    × (listedNumber g list ≡ issueNumber (stateOf (g .state)) noDetails [] (length (g .journal)))
+    × (sound (stateOf (g .state)) (length (g .journal)) ≡ true → listedNumber g list ≡ 7)
+    × (sound (stateOf (g .state)) (length (g .journal)) ≡ false → listedNumber g list ≡ 6)
+
 -- ---- a state that is not 447 bytes long, such as the 155 bytes of version 1
 
--- it is left as it was: Open, Issue, Change, Prepare and Take over get 6 with it
+-- it is left as it was: Open, Issue, a list that is not empty, Change, Prepare and Take over get 6 with it
 pub record OtherLengthsGetSix : Type 0 where
   pub opens : (settings : List ℕ) (shared : Bool) (g : Slices) → (length (g .state) ≡ 447 → ⊥)
       → (openedNumber settings shared g ≡ 6) × (openedSlices settings shared g ≡ g)
   pub issues : (g : Slices) (c : IssueCall) → (length (g .state) ≡ 447 → ⊥) → (issuedNumber g c ≡ 6) × (issuedSlices g c ≡ g)
+  pub lists : (g : Slices) (list : List ℕ) → (length (g .state) ≡ 447 → ⊥)
+      → (listedSlices g list ≡ g) × (listedCount g list ≡ 0) × ((list ≡ [] → ⊥) → listedNumber g list ≡ 6)
   pub changes : (g : Slices) (serial : List ℕ) → (length (g .state) ≡ 447 → ⊥) → (changedNumber g serial ≡ 6) × (changedSlices g serial ≡ g)
   pub prepares : (state : List ℕ) (d : Details) (room : ℕ) → (length state ≡ 447 → ⊥) → prepareNumber (stateOf state) d room ≡ 6
   pub takes : (j key : List ℕ) (n : ℕ) (state : List ℕ) → (length state ≡ 447 → ⊥)
@@ -138,3 +160,7 @@ pub record TypedDetails (d : Details) : Type 0 where
 -- details are read back from their 72 bytes, so different details have different bytes
 abbrev pub DetailsAreRead : Type 0
 DetailsAreRead = (d : Details) → TypedDetails d → (length (detailsBytes d) ≡ 72) × (detailsIn (detailsBytes d) ≡ d)
+
+-- a list of details, one after the other, is read back from its bytes
+abbrev pub ListIsRead : Type 0
+ListIsRead = (ds : List Details) → ((i : ℕ) → i < length ds → TypedDetails (getD ds i noDetails)) → listIn (pieces detailsBytes ds) ≡ ds
