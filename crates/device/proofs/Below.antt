@@ -3,7 +3,7 @@
 use Prim.Native.Nat.{ℕ, _^_, _<_}
 use mathlib.Core.Path.{_≡_, refl, sym, ap, _∙_, subst}
 use mathlib.Core.Bool.{Bool, true, cond}
-use mathlib.Core.List.{List, [], _∷_, _++_}
+use mathlib.Core.List.{List, [], _∷_, _++_, map}
 use native.Mathlib.Omega.{arith}
 use borrow.Author.Tests.{leb-true, lt-ltb}
 use lib.Dec.{leb}
@@ -11,6 +11,7 @@ use lib.ListN.{length, take}
 use lib.Signed.{mag}
 use Rattle.primitives.specs.Counter.{counterFits}
 use Rattle.primitives.specs.Questions.{ifZero}
+use Rattle.primitives.proofs.ByteLists.{bytes-nil}
 use Rattle.primitives.proofs.Rows.{both, ifZero-yes, ifZero-no}
 use Rattle.primitives.proofs.Twos.{width-true, half-small, fits-below, fits-64, counted}
 use Rattle.receipt.specs.DateTime.{daysIn, dayGood, timeGood, dateGood}
@@ -27,9 +28,10 @@ use Rattle.journal.specs.Step.{newCounter, next}
 use Rattle.journal.specs.Issuing.{textOf, issueNumber, issued, issuedWithin, issueBuffer}
 use Rattle.journal.specs.Listing.{countedFrom, issuedListWithin, listBufferWithin, issuedList, listBuffer}
 use Rattle.journal.specs.Checking.{accepted}
+use Rattle.journal.specs.Listing.{issuedList, listBuffer}
 use Rattle.journal.specs.Changing.{changeNumber, changed, changeBuffer}
 use Rattle.journal.specs.Valid.{Owner, Pair, settingsFor, placedUnder, allPlaced, headOf}
-use Rattle.journal.specs.Calls.{Order, Call, issue, change, Register, journalOf, opening, numberOf, numbersOf, receiptOfCall, receiptsOf, Period, periodsFrom, call, callWithin, calls, callsWithin, orderOf, issuesOf, laterCalls, callsOf}
+use Rattle.journal.specs.Calls.{Order, failedOrder, TypedOrder, Call, issue, issueList, change, Register, journalOf, opening, numberOf, numbersOf, receiptOfCall, receiptsOfList, receiptsOf, Period, periodsFrom, call, callWithin, calls, callsWithin, orderOf, issuesOf, laterCalls, callsOf}
 use Rattle.journal.specs.declared.state.State.{State}
 use Rattle.journal.proofs.Check.{new-fits, new-is}
 use Rattle.journal.proofs.Answers.{chain-eight, issue-zero}
@@ -135,6 +137,34 @@ module _ (g : Register) (c : Order) where
       (periodsFrom (call g (issue c)) x cs)
   unfolding periodsFrom
   issue-sections x cs = refl
+
+module _ (g : Register) (ds : List Details) where
+  pub list-number : numberOf g (issueList ds) ≡ issuedList (g .state) ds (g .buf) .number
+  unfolding numberOf
+  list-number = refl
+
+  pub list-call : call g (issueList ds) ≡ record { state = issuedList (g .state) ds (g .buf) .state; buf = listBuffer (g .state) ds (g .buf) }
+  unfolding callWithin
+  list-call = refl
+
+  pub list-issued : receiptsOfList g ds ≡ map (λ (d : Details). receiptOfCall (failedOrder d)) (take (issuedList (g .state) ds (g .buf) .count) ds)
+  unfolding receiptsOfList
+  list-issued = refl
+
+  pub list-receipts : (cs : List Call) → receiptsOf g (issueList ds ∷ cs) ≡ receiptsOfList g ds ++ receiptsOf (call g (issueList ds)) cs
+  unfolding receiptsOf
+  list-receipts cs = refl
+
+  pub list-sections : (x : Period) (cs : List Call)
+      → periodsFrom g x (issueList ds ∷ cs)
+      ≡ periodsFrom (call g (issueList ds)) (record { serial = x .serial; receipts = x .receipts ++ receiptsOfList g ds }) cs
+  unfolding periodsFrom
+  list-sections x cs = refl
+
+-- what the types say of a receipt of a list
+pub failed-typed : (d : Details) → d .number < 4294967296 → length (d .amounts) ≡ 5 → TypedOrder (failedOrder d)
+unfolding failedOrder
+failed-typed d h l = record { number = h; amounts = l; bytes = bytes-nil }
 
 module _ (g : Register) (s : Name) where
   pub change-number : numberOf g (change s) ≡ changed (g .state) s (length (g .buf)) .number

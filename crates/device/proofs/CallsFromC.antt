@@ -1,5 +1,5 @@
 -- The slices of a C program hold what the journal's register holds, call by call.
-use Prim.Native.Nat.{ℕ, zero, suc, _<_}
+use Prim.Native.Nat.{ℕ, zero, suc, _+_, _*_, _/_, _%_, _≤_, _<_}
 use mathlib.Core.Path.{_≡_, refl, sym, ap, _∙_, subst}
 use mathlib.Core.Bool.{Bool, true, false, cond}
 use mathlib.Core.List.{List, [], _∷_, _++_, map}
@@ -7,11 +7,12 @@ use native.Mathlib.Omega.{arith}
 use borrow.Author.Tests.{eq-eqb, eqb-true, eqb-false}
 use lib.Dec.{eqb}
 use lib.IntN.{ℤ}
-use lib.ListN.{length}
+use lib.ListN.{length, take, drop, length-drop}
+use lib.Seq.{length-take-le}
 use Rattle.primitives.specs.Bytes.{AllBytes}
 use Rattle.primitives.specs.Questions.{ifZero}
 use Rattle.primitives.proofs.ByteLists.{bytes-take, bytes-drop}
-use Rattle.primitives.proofs.Counts.{part-length}
+use Rattle.primitives.proofs.Counts.{part-length, count-lt}
 use Rattle.receipt.specs.Settings.{nameOf, TypedSettings}
 use Rattle.receipt.specs.declared.settings.Settings.{Settings}
 use Rattle.receipt.specs.declared.datetime.DateTime.{DateTime}
@@ -21,22 +22,24 @@ use Rattle.receipt.proofs.Entries.{len-of, length-array, bytes-array}
 use Rattle.journal.specs.State.{TypedName, TypedState}
 use Rattle.journal.specs.Opening.{openNumber, openBuffer}
 use Rattle.journal.specs.Issuing.{issued, issueBuffer}
+use Rattle.journal.specs.Listing.{issuedList, listBuffer}
 use Rattle.journal.specs.Changing.{changed, changeBuffer}
+use Rattle.journal.specs.Receipts.{Receipt}
 use Rattle.journal.specs.Valid.{Owner, Pair}
-use Rattle.journal.specs.Calls.{TypedOrder, Call, issue, change, TypedCall, issues, changes, TypedCalls, none, more, Register, opening, numberOf, numbersOf, receiptOfCall, receiptsOf, Period, periodsFrom, call, calls}
+use Rattle.journal.specs.Calls.{TypedOrder, failedOrder, Call, issue, issueList, change, TypedList, nothing, also, TypedCall, issues, lists, changes, TypedCalls, none, more, Register, opening, numberOf, numbersOf, receiptOfCall, receiptsOfList, receiptsOf, Period, periodsFrom, call, calls}
 use Rattle.journal.specs.declared.state.State.{State}
 use Rattle.journal.specs.declared.state.Opened.{Opened}
 use Rattle.journal.proofs.OpenCalls.{open-zero}
 use Rattle.journal.proofs.Accepting.{ownerIn}
 use Rattle.journal.proofs.Pairs.{wider, emptyPair}
-use Rattle.journal.proofs.Registers.{refused-same, entryIn, Holds, issue-length, issue-holds, issue-right, change-holds, opening-holds, opening-length}
+use Rattle.journal.proofs.Registers.{issue-same, change-same, widened, holds-list, entryIn, Holds, issue-length, issue-holds, issue-right, change-holds, opening-holds, opening-length}
 use Rattle.journal.proofs.TypedStates.{holds-typed}
 use Rattle.device.specs.Layout.{stateBytes, nameAt, settingsAt, keyAt, noSettings, settingsOf, widthOf, keyOf, stateOf, kept}
-use Rattle.device.specs.Details.{noDetails, dateOf, detailsWith, ofKind, detailsOf}
-use Rattle.device.specs.Calls.{Slices, openedNumber, openedSlices, IssueCall, orderIn, issueAnswer, issuedNumber, issuedSlices, changeAnswer, changedNumber, changedSlices}
+use Rattle.device.specs.Details.{noDetails, dateOf, detailsWith, ofKind, detailsOf, numberIn, amountIn, detailsIn, detailsFrom, listIn}
+use Rattle.device.specs.Calls.{Slices, openedNumber, openedSlices, IssueCall, orderIn, issueAnswer, issuedNumber, issuedSlices, listAnswer, listedNumber, listedCount, listedSlices, changeAnswer, changedNumber, changedSlices}
 use Rattle.device.specs.Demand as demand
-use Rattle.device.specs.Demand.{TypedIssueCall, CallFromC, issuing, changing, TypedCallFromC, TypedCallsFromC, callIn, numberFromC, slicesAfter, slicesAfterAll, numbersFromC, receiptsFromC, periodsFromC, registerIn}
-use Rattle.device.proofs.Below.{opened-number, opening-is, calls-none, calls-more, numbers-none, numbers-more, receipts-none, sections-none, issue-number, issue-call, issue-receipts, issue-sections, change-number, change-call, change-receipts, change-sections, changed-number}
+use Rattle.device.specs.Demand.{TypedIssueCall, CallFromC, issuing, listing, changing, TypedCallFromC, TypedCallsFromC, callIn, numberFromC, slicesAfter, slicesAfterAll, numbersFromC, receiptsOfListFromC, receiptsFromC, periodsFromC, registerIn}
+use Rattle.device.proofs.Below.{opened-number, opening-is, calls-none, calls-more, numbers-none, numbers-more, receipts-none, sections-none, issue-number, issue-call, issue-receipts, issue-sections, list-number, list-call, list-issued, list-receipts, list-sections, failed-typed, change-number, change-call, change-receipts, change-sections, changed-number}
 use Rattle.device.proofs.Sizes.{kept-all, open-six, open-answer}
 use Rattle.device.proofs.Slots.{typed-lengths}
 use Rattle.device.proofs.Writers.{length-state}
@@ -67,12 +70,41 @@ order-typed c t =
     let p = kind-small (c .number) date amounts (c .kind) (t .number) refl in
     record { number = p .0; amounts = p .1; bytes = t .signature }
 
+-- the details of a list
+module _ (b : List ℕ) (a : AllBytes b) (l : 72 ≤ length b) where
+  in-small : Small (detailsIn b)
+  unfolding detailsIn detailsOf numberIn
+  in-small =
+      kind-small (numberIn b 0) (dateOf (numberIn b 1) (numberIn b 2) (numberIn b 3) (numberIn b 4) (numberIn b 5) (numberIn b 6))
+      (amountIn b 0 ∷ amountIn b 1 ∷ amountIn b 2 ∷ amountIn b 3 ∷ amountIn b 4 ∷ []) (numberIn b 7) (count-lt b a 0 4 (omega (arith, l))) refl
+
+from-typed : (k : ℕ) (b : List ℕ) → AllBytes b → 72 * k ≤ length b → TypedList (detailsFrom k b)
+unfolding detailsFrom
+from-typed zero b a l = nothing
+from-typed (suc k) b a l =
+    let m : length (take 72 b) ≡ 72 = length-take-le 72 b (omega (arith, l)) in
+    let p = in-small (take 72 b) (bytes-take 72 a) (omega (arith, m)) in
+    also (failed-typed _ (p .0) (p .1)) (from-typed k (drop 72 b) (bytes-drop 72 a) (omega (arith, l, length-drop 72 b)))
+
+none-typed : TypedList (noDetails ∷ [])
+unfolding noDetails
+none-typed = also {d = noDetails} (failed-typed noDetails (omega arith) refl) nothing
+
+list-typed : (b : List ℕ) → AllBytes b → TypedList (listIn b)
+unfolding listIn
+list-typed b a = go (eqb (length b % 72) 0)
+  where
+    go : (t : Bool) → TypedList (cond t (detailsFrom (length b / 72) b) (noDetails ∷ []))
+    go true = from-typed (length b / 72) b a (omega arith)
+    go false = none-typed
+
 name-typed : (serial : List ℕ) → AllBytes serial → length serial < 18446744073709551616 → TypedName (nameOf serial)
 name-typed serial b l = record { long = length-array serial; bytes = bytes-array b; small = omega (arith, len-of serial) }
 
 call-typed : (c : CallFromC) → TypedCallFromC c → TypedCall (callIn c)
 unfolding callIn
 call-typed (issuing c) (demand.issues t) = issues (order-typed c t)
+call-typed (listing list) (demand.lists b) = lists (list-typed list b)
 call-typed (changing serial) (demand.changes b l) = changes (name-typed serial b l)
 
 pub calls-typed : (cs : List CallFromC) → TypedCallsFromC cs → TypedCalls (map callIn cs)
@@ -139,21 +171,32 @@ module _ (g : Register) (t : TypedState (g .state)) where
   is-kept x = kept-all (stateBytes (g .state)) x (length-state (g .state) (typed-lengths t))
 
   after-same : (c : CallFromC) → slicesAfter (slicesOf g) c ≡ slicesOf (call g (callIn c))
-  unfolding slicesAfter slicesOf callIn issuedSlices issueAnswer changedSlices changeAnswer orderIn st
+  unfolding slicesAfter slicesOf callIn issuedSlices issueAnswer listedSlices listAnswer changedSlices changeAnswer orderIn st
   after-same (issuing c) =
       let o = orderIn c in
       let n = length (g .buf) in
       let k = is-kept (issued st (o .details) (c .signature) n .state) ∙ ap (λ (x : State). stateBytes (issued x (o .details) (c .signature) n .state)) is-read in
       (λ i. record { state = k i; journal = issueBuffer (is-read i) (o .details) (c .signature) (g .buf) }) ∙ ap slicesOf (sym (issue-call g (orderIn c)))
+  after-same (listing list) =
+      let ds = listIn list in
+      let k = is-kept (issuedList st ds (g .buf) .state) ∙ ap (λ (x : State). stateBytes (issuedList x ds (g .buf) .state)) is-read in
+      (λ i. record { state = k i; journal = listBuffer (is-read i) ds (g .buf) }) ∙ ap slicesOf (sym (list-call g ds))
   after-same (changing serial) =
       let n = length (g .buf) in
       let k = is-kept (changed st (nameOf serial) n .state) ∙ ap (λ (x : State). stateBytes (changed x (nameOf serial) n .state)) is-read in
       (λ i. record { state = k i; journal = changeBuffer (is-read i) (nameOf serial) (g .buf) }) ∙ ap slicesOf (sym (change-call g (nameOf serial)))
 
   number-same : (c : CallFromC) → numberFromC (slicesOf g) c ≡ numberOf g (callIn c)
-  unfolding numberFromC slicesOf callIn issuedNumber issueAnswer changedNumber changeAnswer orderIn st
+  unfolding numberFromC slicesOf callIn issuedNumber issueAnswer listedNumber listAnswer changedNumber changeAnswer orderIn st
   number-same (issuing c) = ap (λ (x : State). issued x (orderIn c .details) (c .signature) (length (g .buf)) .number) is-read ∙ sym (issue-number g (orderIn c))
+  number-same (listing list) = ap (λ (x : State). issuedList x (listIn list) (g .buf) .number) is-read ∙ sym (list-number g (listIn list))
   number-same (changing serial) = ap (λ (x : State). changed x (nameOf serial) (length (g .buf)) .number) is-read ∙ sym (change-number g (nameOf serial))
+
+  issued-same : (list : List ℕ) → receiptsOfListFromC (slicesOf g) list ≡ receiptsOfList g (listIn list)
+  unfolding receiptsOfListFromC listedCount listAnswer slicesOf st
+  issued-same list =
+      ap (λ (x : State). map (λ (d : Details). receiptOfCall (failedOrder d)) (take (issuedList x (listIn list) (g .buf) .count) (listIn list))) is-read
+      ∙ sym (list-issued g (listIn list))
 
 -- a list of calls leaves and returns the same, and its receipts and sections are the same
 pub record Same (g : Register) (cs : List CallFromC) : Type 0 where
@@ -171,6 +214,9 @@ module _ (g : Register) (t : TypedState (g .state)) (cs : List CallFromC) where
       let z = number-same g t (issuing c) in
       let rs = ap (λ (x : Slices). receiptsFromC x cs) (after-same g t (issuing c)) ∙ p .receipts in
       (λ i. ifZero (z i) (receiptOfCall (orderIn c) ∷ rs i) (rs i)) ∙ sym (issue-receipts g (orderIn c) (map callIn cs))
+  more-receipts (listing list) p =
+      let rs = ap (λ (x : Slices). receiptsFromC x cs) (after-same g t (listing list)) ∙ p .receipts in
+      (λ i. issued-same g t list i ++ rs i) ∙ sym (list-receipts g (listIn list) (map callIn cs))
   more-receipts (changing serial) p =
       ap (λ (x : Slices). receiptsFromC x cs) (after-same g t (changing serial)) ∙ p .receipts ∙ sym (change-receipts g (nameOf serial) (map callIn cs))
 
@@ -183,6 +229,12 @@ module _ (g : Register) (t : TypedState (g .state)) (cs : List CallFromC) where
       let xs = ap (λ (s : Slices). periodsFromC s y cs) e ∙ p .periods y in
       let ys = ap (λ (s : Slices). periodsFromC s x cs) e ∙ p .periods x in
       (λ i. ifZero (z i) (xs i) (ys i)) ∙ sym (issue-sections g (orderIn c) x (map callIn cs))
+  more-sections (listing list) p x =
+      let y : Period = record { serial = x .serial; receipts = x .receipts ++ receiptsOfList g (listIn list) } in
+      ap (λ (l : List Receipt). periodsFromC (listedSlices (slicesOf g) list) (record { serial = x .serial; receipts = x .receipts ++ l }) cs) (issued-same g t list)
+      ∙ ap (λ (s : Slices). periodsFromC s y cs) (after-same g t (listing list))
+      ∙ p .periods y
+      ∙ sym (list-sections g (listIn list) x (map callIn cs))
   more-sections (changing serial) p x =
       let z = number-same g t (changing serial) in
       let e = after-same g t (changing serial) in
@@ -229,24 +281,28 @@ record Held (k : List ℕ) (n : ℕ) (o : Owner) (g : Register) : Type 0 where
 module _ (k : List ℕ) (n : ℕ) (o : Owner) (kl : length k ≡ 32) (kb : AllBytes k) where
   -- one call leaves such a register
   held-call : (g : Register) (c : Call) → TypedCall c → Held k n o g → Held k n o (call g c)
-  held-call g c t h = go (numberOf g c) refl
+  held-call g (issue c) (issues tc) h = go (numberOf g (issue c)) refl
     where
-      accepted : (c : Call) → TypedCall c → numberOf g c ≡ 0 → Held k n o (call g c)
-      accepted (issue c) (issues tc) z =
-          let r = issue-right k n o g (h .before) (h .pair) (h .holds) c z kb tc in
+      go : (m : ℕ) → numberOf g (issue c) ≡ m → Held k n o (call g (issue c))
+      go zero e =
+          let r = issue-right k n o g (h .before) (h .pair) (h .holds) c e kb tc in
           record {
             before = h .before;
             pair = wider (h .pair) (entryIn g c);
-            holds = issue-holds k n o g (h .before) (h .pair) (h .holds) c z r;
-            small = omega (arith, h .small, issue-length k n o g (h .before) (h .pair) (h .holds) c z);
+            holds = issue-holds k n o g (h .before) (h .pair) (h .holds) c e r;
+            small = omega (arith, h .small, issue-length k n o g (h .before) (h .pair) (h .holds) c e);
           }
-      accepted (change s) (changes ts) z =
-          let p = change-holds k n o g (h .before) (h .pair) (h .holds) s (sym (change-number g s ∙ changed-number (g .state) s (length (g .buf))) ∙ z) ts in
+      go (suc m) e = subst (Held k n o) (sym (issue-same g c (λ q. omega (arith, e, q)))) h
+  held-call g (issueList ds) (lists ts) h =
+      let p = holds-list k n o kb ds g (h .before) (h .pair) ts (h .holds) in
+      record { before = h .before; pair = widened g (h .pair) ds; holds = p .0; small = omega (arith, h .small, p .1) }
+  held-call g (change s) (changes ts) h = go (numberOf g (change s)) refl
+    where
+      go : (m : ℕ) → numberOf g (change s) ≡ m → Held k n o (call g (change s))
+      go zero e =
+          let p = change-holds k n o g (h .before) (h .pair) (h .holds) s (sym (change-number g s ∙ changed-number (g .state) s (length (g .buf))) ∙ e) ts in
           record { before = h .before ++ (h .pair ∷ []); pair = emptyPair s; holds = p .0; small = omega (arith, h .small, p .1) }
-
-      go : (m : ℕ) → numberOf g c ≡ m → Held k n o (call g c)
-      go zero e = accepted c t e
-      go (suc m) e = subst (Held k n o) (sym (refused-same g c (λ q. omega (arith, e, q)))) h
+      go (suc m) e = subst (Held k n o) (sym (change-same g s (λ q. omega (arith, e, q)))) h
 
   all-same : (cs : List CallFromC) (g : Register) → TypedCallsFromC cs → Held k n o g → Same g cs
   all-same [] g demand.none h = none-same g (holds-typed (h .before) (h .pair) kl kb (h .small) (h .holds))

@@ -1,5 +1,5 @@
--- Demand 3 in bytes: what a C program holds after ditgrux_open or ditgrux_open_shared and a list of ditgrux_issue and ditgrux_change, and what
--- ditgrux_take_over answers.
+-- Demand 3 in bytes: what a C program holds after ditgrux_open or ditgrux_open_shared and a list of ditgrux_issue, ditgrux_issue_list and ditgrux_change, and
+-- what ditgrux_take_over answers.
 use Prim.Native.Nat.{ℕ, _<_}
 use mathlib.Core.Path.{_≡_}
 use mathlib.Core.Bool.{Bool, true, false}
@@ -15,12 +15,12 @@ use Rattle.receipt.specs.declared.details.Details.{Details}
 use Rattle.receipt.specs.declared.entry.Entry.{Entry}
 use Rattle.journal.specs.Receipts.{Receipt, receiptsIn, sum}
 use Rattle.journal.specs.Valid.{Pair, entriesIn, Valid, headOf}
-use Rattle.journal.specs.Calls.{Call, issue, change, Register, opening, numbersOf, receiptOfCall, Period, periodsIn, orderOf}
+use Rattle.journal.specs.Calls.{failedOrder, Call, issue, issueList, change, Register, opening, numbersOf, receiptOfCall, Period, periodsIn, orderOf}
 use Rattle.device.specs.Layout.{settingsOf, widthOf, keyOf, stateOf, kept}
-use Rattle.device.specs.Details.{kindNumber}
-use Rattle.device.specs.Calls.{settingsFrom, widthWith, settingsAnswer, settingsBuffer, Slices, openedNumber, openedSlices, IssueCall, callWith, orderIn, issuedNumber, issuedSlices, changedNumber, changedSlices, takeOverAnswer}
+use Rattle.device.specs.Details.{kindNumber, listIn}
+use Rattle.device.specs.Calls.{settingsFrom, widthWith, settingsAnswer, settingsBuffer, Slices, openedNumber, openedSlices, IssueCall, callWith, orderIn, issuedNumber, issuedSlices, listedNumber, listedCount, listedSlices, changedNumber, changedSlices, takeOverAnswer}
 
--- ---- lists of calls of ditgrux_issue and ditgrux_change
+-- ---- lists of calls of ditgrux_issue, ditgrux_issue_list and ditgrux_change
 
 -- what C's types say of a call: numbers of 32 bits, amounts of 64 with their signs, and bytes
 pub record TypedIssueCall (c : IssueCall) : Type 0 where
@@ -39,13 +39,15 @@ pub record TypedIssueCall (c : IssueCall) : Type 0 where
   pub kind : c .kind < 4294967296
   pub signature : AllBytes (c .signature)
 
--- a call of ditgrux_issue, or of ditgrux_change with the bytes of a serial
+-- a call of ditgrux_issue, of ditgrux_issue_list with the bytes of a list, or of ditgrux_change with the bytes of a serial
 pub data CallFromC : Type 0 where
   issuing : IssueCall → CallFromC
+  listing : List ℕ → CallFromC
   changing : List ℕ → CallFromC
 
 pub data TypedCallFromC : CallFromC → Type 0 where
   issues : {c : IssueCall} → TypedIssueCall c → TypedCallFromC (issuing c)
+  lists : {list : List ℕ} → AllBytes list → TypedCallFromC (listing list)
   changes : {serial : List ℕ} → AllBytes serial → length serial < 18446744073709551616 → TypedCallFromC (changing serial)
 
 pub data TypedCallsFromC : List CallFromC → Type 0 where
@@ -55,19 +57,22 @@ pub data TypedCallsFromC : List CallFromC → Type 0 where
 -- the call of the journal that it makes
 unfoldable pub callIn : CallFromC → Call
 callIn (issuing c) = issue (orderIn c)
+callIn (listing list) = issueList (listIn list)
 callIn (changing serial) = change (nameOf serial)
 
 -- what it returns
 unfoldable pub numberFromC : Slices → CallFromC → ℕ
 numberFromC g (issuing c) = issuedNumber g c
+numberFromC g (listing list) = listedNumber g list
 numberFromC g (changing serial) = changedNumber g serial
 
 -- what it leaves
 unfoldable pub slicesAfter : Slices → CallFromC → Slices
 slicesAfter g (issuing c) = issuedSlices g c
+slicesAfter g (listing list) = listedSlices g list
 slicesAfter g (changing serial) = changedSlices g serial
 
--- "Each Issue gets the state that the call before it returned and the buffer as that call left it", and so does each Change
+-- "Each Issue gets the state that the call before it returned and the buffer as that call left it", and so does each list and each Change
 unfoldable pub slicesAfterAll : Slices → List CallFromC → Slices
 slicesAfterAll g [] = g
 slicesAfterAll g (c ∷ cs) = slicesAfterAll (slicesAfter g c) cs
@@ -77,20 +82,27 @@ unfoldable pub numbersFromC : Slices → List CallFromC → List ℕ
 numbersFromC g [] = []
 numbersFromC g (c ∷ cs) = numberFromC g c ∷ numbersFromC (slicesAfter g c) cs
 
--- the receipts of the calls of ditgrux_issue that return 0, in order
+-- the receipts that a call of ditgrux_issue_list issues: as many as it says, the first ones
+unfoldable pub receiptsOfListFromC : Slices → List ℕ → List Receipt
+receiptsOfListFromC g list = map (λ (d : Details). receiptOfCall (failedOrder d)) (take (listedCount g list) (listIn list))
+
+-- the receipts of the calls of ditgrux_issue that return 0 and of those of ditgrux_issue_list, in order
 unfoldable pub receiptsFromC : Slices → List CallFromC → List Receipt
 receiptsFromC g [] = []
 receiptsFromC g (issuing c ∷ cs) =
     ifZero (issuedNumber g c) (receiptOfCall (orderIn c) ∷ receiptsFromC (issuedSlices g c) cs) (receiptsFromC (issuedSlices g c) cs)
+receiptsFromC g (listing list ∷ cs) = receiptsOfListFromC g list ++ receiptsFromC (listedSlices g list) cs
 receiptsFromC g (changing serial ∷ cs) = receiptsFromC (changedSlices g serial) cs
 
--- the periods that the calls make which return 0
+-- the periods that they make, and the calls of ditgrux_change that return 0
 unfoldable pub periodsFromC : Slices → Period → List CallFromC → List Period
 periodsFromC g x [] = x ∷ []
 periodsFromC g x (issuing c ∷ cs) =
     ifZero (issuedNumber g c)
     (periodsFromC (issuedSlices g c) (record { serial = x .serial; receipts = x .receipts ++ (receiptOfCall (orderIn c) ∷ []) }) cs)
     (periodsFromC (issuedSlices g c) x cs)
+periodsFromC g x (listing list ∷ cs) =
+    periodsFromC (listedSlices g list) (record { serial = x .serial; receipts = x .receipts ++ receiptsOfListFromC g list }) cs
 periodsFromC g x (changing serial ∷ cs) =
     ifZero (changedNumber g serial) (x ∷ periodsFromC (changedSlices g serial) (record { serial = nameOf serial; receipts = [] }) cs)
     (periodsFromC (changedSlices g serial) x cs)
@@ -114,7 +126,7 @@ AcceptedIsValidInC =
 abbrev pub registerIn : List ℕ → Bool → List ℕ → Register
 registerIn settings shared buffer = opening (settingsOf settings) (keyOf settings) shared (widthOf settings) buffer
 
--- what holds of the slices that the calls left, and of the receipts rs and the periods xs of those that returned 0, since ditgrux_open or
+-- what holds of the slices that the calls left, and of the receipts rs that they issued and the periods xs that they made, since ditgrux_open or
 -- ditgrux_open_shared got these settings
 pub record WrittenInC (settings : List ℕ) (left : Slices) (rs : List Receipt) (xs : List Period) : Type 0 where
   -- ditgrux_take_over accepts the journal under the key and the width of the settings, with the register's own state
