@@ -28,7 +28,6 @@ use Rattle.journal.specs.Step.{newCounter, next}
 use Rattle.journal.specs.Issuing.{textOf, issueNumber, issued, issuedWithin, issueBuffer}
 use Rattle.journal.specs.Listing.{countedFrom, issuedListWithin, listBufferWithin, issuedList, listBuffer}
 use Rattle.journal.specs.Checking.{accepted}
-use Rattle.journal.specs.Listing.{issuedList, listBuffer}
 use Rattle.journal.specs.Changing.{changeNumber, changed, changeBuffer}
 use Rattle.journal.specs.Valid.{Owner, Pair, settingsFor, placedUnder, allPlaced, headOf}
 use Rattle.journal.specs.Calls.{Order, failedOrder, TypedOrder, Call, issue, issueList, change, Register, journalOf, opening, numberOf, numbersOf, receiptOfCall, receiptsOfList, receiptsOf, Period, periodsFrom, call, callWithin, calls, callsWithin, orderOf, issuesOf, laterCalls, callsOf}
