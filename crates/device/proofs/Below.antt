@@ -12,7 +12,7 @@ use lib.Signed.{mag}
 use Rattle.primitives.specs.Counter.{counterFits}
 use Rattle.primitives.specs.Questions.{ifZero}
 use Rattle.primitives.proofs.ByteLists.{bytes-nil}
-use Rattle.primitives.proofs.Rows.{both, ifZero-yes, ifZero-no}
+use Rattle.primitives.proofs.Rows.{both, ifZero-yes}
 use Rattle.primitives.proofs.Twos.{width-true, half-small, fits-below, fits-64, counted}
 use Rattle.receipt.specs.DateTime.{daysIn, dayGood, timeGood, dateGood}
 use Rattle.receipt.specs.declared.settings.Name.{Name}
@@ -26,7 +26,7 @@ use Rattle.journal.specs.Opening.{openNumber, opened, openBuffer}
 use Rattle.journal.specs.State.{TypedState}
 use Rattle.journal.specs.Step.{newCounter, next}
 use Rattle.journal.specs.Issuing.{textOf, issueNumber, issued, issuedWithin, issueBuffer}
-use Rattle.journal.specs.Listing.{countedFrom, issuedListWithin, listBufferWithin, issuedList, listBuffer}
+use Rattle.journal.specs.Listing.{issuedList, listBuffer}
 use Rattle.journal.specs.Checking.{accepted}
 use Rattle.journal.specs.Changing.{changeNumber, changed, changeBuffer}
 use Rattle.journal.specs.Valid.{Owner, Pair, settingsFor, placedUnder, allPlaced, headOf}
@@ -219,43 +219,6 @@ issued-typed st d sig room t number small z =
       since = omega (arith, a .sound .since, a .sound .issued, a .details .above);
       place = t .place;
     })
-
--- ---- journal: a list of receipts
-
-module _ (st : State) (buf : List ℕ) where
-  pub list-none : issuedList st [] buf ≡ record { number = 0; count = 0; state = st }
-  unfolding issuedListWithin
-  list-none = refl
-
-  pub buffer-none : listBuffer st [] buf ≡ buf
-  unfolding listBufferWithin
-  buffer-none = refl
-
--- the first one is issued, and the rest follows with the state and the buffer that it leaves
-module _ (st : State) (d : Details) (ds : List Details) (buf : List ℕ) (z : issued st d [] (length buf) .number ≡ 0) where
-  number-zero : issueNumber st d [] (length buf) ≡ 0
-  number-zero = sym (issued-number st d [] (length buf)) ∙ z
-
-  pub list-more : issuedList st (d ∷ ds) buf ≡ countedFrom 1 (issuedList (issued st d [] (length buf) .state) ds (issueBuffer st d [] buf))
-  unfolding issuedListWithin
-  list-more = ifZero-yes _ _ number-zero
-
-  pub buffer-more : listBuffer st (d ∷ ds) buf ≡ listBuffer (issued st d [] (length buf) .state) ds (issueBuffer st d [] buf)
-  unfolding listBufferWithin
-  buffer-more = ifZero-yes _ _ number-zero
-
--- the first one is refused
-module _ (st : State) (d : Details) (ds : List Details) (buf : List ℕ) (h : issued st d [] (length buf) .number ≡ 0 → ⊥) where
-  number-stop : issueNumber st d [] (length buf) ≡ 0 → ⊥
-  number-stop z = h (issued-number st d [] (length buf) ∙ z)
-
-  pub list-stop : issuedList st (d ∷ ds) buf ≡ record { number = issued st d [] (length buf) .number; count = 0; state = st }
-  unfolding issuedListWithin issuedWithin
-  list-stop = ifZero-no (issueNumber st d [] (length buf)) _ _ number-stop
-
-  pub buffer-stop : listBuffer st (d ∷ ds) buf ≡ buf
-  unfolding listBufferWithin
-  buffer-stop = ifZero-no (issueNumber st d [] (length buf)) _ _ number-stop
 
 -- ---- journal: the calls of entries and pairs
 

@@ -10,20 +10,23 @@ use lib.ListN.{length, take, drop, getD, length-append, length-drop}
 use lib.Seq.{take-at, drop-at, drop-drop, length-take-le}
 use Rattle.primitives.specs.Questions.{ask}
 use Rattle.primitives.proofs.Rows.{ask-zero, ask-yes, ask-no}
+use Rattle.receipt.specs.Amount.{amountLimit}
 use Rattle.receipt.specs.declared.details.Details.{Details}
 use Rattle.journal.specs.State.{noName, unopened}
 use Rattle.journal.specs.Step.{sound}
-use Rattle.journal.specs.Issuing.{issued, issueBuffer}
-use Rattle.journal.specs.Listing.{countedFrom, issuedList, listBuffer}
+use Rattle.journal.specs.Issuing.{issueNumber, issued, issueBuffer}
+use Rattle.journal.specs.Listing.{issuedList, listBuffer}
 use Rattle.journal.specs.declared.state.State.{State}
 use Rattle.journal.specs.declared.state.Issued.{Issued}
 use Rattle.journal.specs.declared.state.IssuedList.{IssuedList}
 use Rattle.journal.proofs.Refusals.{refused-changes-nothing}
+use Rattle.journal.proofs.Lists.{empty-list-changes-nothing}
+use Rattle.journal.proofs.ListSteps.{buffer-none, answer-no, buffer-no, listed, listed-start, listed-end, listed-more, buffer-more, listed-stops, buffer-stops}
 use Rattle.device.specs.Layout.{stateOf, kept}
 use Rattle.device.specs.Details.{noDetails, pieces, detailsBytes, detailsIn, detailsFrom, listIn}
 use Rattle.device.specs.Calls.{Slices, listAnswer, listedNumber, listedCount, listedSlices}
 use Rattle.device.specs.Laws.{TypedDetails, ListIsRead, RefusedListKeepsSlices, EmptyListChangesNothingInC, CutListIssuesNone}
-use Rattle.device.proofs.Below.{issued-number, list-none, buffer-none, list-more, buffer-more, list-stop, buffer-stop}
+use Rattle.device.proofs.Below.{issued-number}
 use Rattle.device.proofs.DetailLaws.{details-are-read}
 use Rattle.device.proofs.Sizes.{state-none}
 use Rattle.device.proofs.Spelling.{kept-as-it-was}
@@ -45,17 +48,8 @@ pub record Listing (list b₀ : List ℕ) (s₀ : State) (b : List ℕ) (s : Sta
   pub within : at ≤ length list
   pub whole : length list % 72 ≡ 0
   pub long : length b ≡ length b₀
-  pub answer : countedFrom i (issuedList s (left list at) b) ≡ issuedList s₀ (detailsFrom (length list / 72) list) b₀
+  pub answer : listed i s (left list at) b ≡ issuedList s₀ (detailsFrom (length list / 72) list) b₀
   pub buffer : listBuffer s (left list at) b ≡ listBuffer s₀ (detailsFrom (length list / 72) list) b₀
-
-count-none : (r : IssuedList) → countedFrom 0 r ≡ r
-count-none r = let e : 0 + r .count ≡ r .count = omega arith in ap (λ (k : ℕ). answerWith (r .number) k (r .state)) e
-
-count-more : (i : ℕ) (r : IssuedList) → countedFrom (i + 1) r ≡ countedFrom i (countedFrom 1 r)
-count-more i r = let e : i + 1 + r .count ≡ i + (1 + r .count) = omega arith in ap (λ (k : ℕ). answerWith (r .number) k (r .state)) e
-
-count-here : (number i : ℕ) (s : State) → countedFrom i (answerWith number 0 s) ≡ answerWith number i s
-count-here number i s = let e : i + 0 ≡ i = omega arith in ap (λ (k : ℕ). answerWith number k s) e
 
 pub listing-start : (list b : List ℕ) (s : State) → length list % 72 ≡ 0 → Listing list b s b s 0 0
 listing-start list b s w =
@@ -66,7 +60,7 @@ listing-start list b s w =
       within = omega arith;
       whole = w;
       long = refl;
-      answer = count-none (issuedList s (left list 0) b) ∙ ap (λ (ds : List Details). issuedList s ds b) e;
+      answer = listed-start s (left list 0) b ∙ ap (λ (ds : List Details). issuedList s ds b) e;
       buffer = ap (λ (ds : List Details). listBuffer s ds b) e;
     }
 
@@ -79,8 +73,8 @@ module _ {list b₀ : List ℕ} {s₀ : State} {b : List ℕ} {s : State} {at i 
   listing-end h =
       let n : (length list - at) / 72 ≡ 0 = omega arith in
       let e : left list at ≡ [] = ap (λ (k : ℕ). detailsFrom k (drop at list)) n in (
-        sym (ap (λ (ds : List Details). countedFrom i (issuedList s ds b)) e ∙ ap (countedFrom i) (list-none s b) ∙ count-here 0 i s) ∙ l .answer,
-        sym (ap (λ (ds : List Details). listBuffer s ds b) e ∙ buffer-none s b) ∙ l .buffer,
+        listed-end i s b ∙ sym (ap (λ (ds : List Details). listed i s ds b) e) ∙ l .answer,
+        sym (ap (λ (ds : List Details). listBuffer s ds b) e ∙ buffer-none _ s b) ∙ l .buffer,
       )
 
   module _ (h : at < length list) where
@@ -110,51 +104,39 @@ module _ {list b₀ : List ℕ} {s₀ : State} {b : List ℕ} {s : State} {at i 
       pub listing-stops : (a .number ≡ 0 → ⊥)
           → (record { number = a .number; count = i; state = s } ≡ issuedList s₀ (detailsFrom (length list / 72) list) b₀)
           × (b₁ ≡ listBuffer s₀ (detailsFrom (length list / 72) list) b₀)
-      listing-stops refused =
-          let r : issued s d [] (length b) .number ≡ 0 → ⊥ = λ z. refused (ap (λ (x : Issued). x .number) (p .0) ∙ z) in (
-            ap (λ (x : Issued). answerWith (x .number) i s) (p .0)
-                ∙ sym (ap (λ (ds : List Details). countedFrom i (issuedList s ds b)) left-is ∙ ap (countedFrom i) (list-stop s d (left list (at + 72)) b r) ∙ count-here (issued s d [] (length b) .number) i s) ∙ l .answer,
-            p .1 ∙ refused-changes-nothing .issues s d [] b r .1
-                ∙ sym (ap (λ (ds : List Details). listBuffer s ds b) left-is ∙ buffer-stop s d (left list (at + 72)) b r) ∙ l .buffer,
-          )
+      listing-stops refused = (
+        listed-stops s d (left list (at + 72)) b b₁ a (p .0) (p .1) refused i ∙ sym (ap (λ (ds : List Details). listed i s ds b) left-is) ∙ l .answer,
+        buffer-stops s d (left list (at + 72)) b b₁ a (p .0) (p .1) refused ∙ sym (ap (λ (ds : List Details). listBuffer s ds b) left-is) ∙ l .buffer,
+      )
 
       pub listing-more : a .number ≡ 0 → length b₁ ≡ length b → Listing list b₀ s₀ b₁ (a .state) (at + 72) (i + 1)
       listing-more z m =
           let ds = left list (at + 72) in
-          let y : issued s d [] (length b) .number ≡ 0 = sym (ap (λ (x : Issued). x .number) (p .0)) ∙ z in
-          let e : issuedList (a .state) ds b₁ ≡ issuedList (issued s d [] (length b) .state) ds (issueBuffer s d [] b) = λ k. issuedList (p .0 k .state) ds (p .1 k) in
-          let f : listBuffer (a .state) ds b₁ ≡ listBuffer (issued s d [] (length b) .state) ds (issueBuffer s d [] b) = λ k. listBuffer (p .0 k .state) ds (p .1 k) in
           record {
             place = omega (arith, l .place);
             within = piece-there;
             whole = l .whole;
             long = m ∙ l .long;
-            answer =
-                count-more i (issuedList (a .state) ds b₁)
-                ∙ ap (λ (x : IssuedList). countedFrom i (countedFrom 1 x)) e
-                ∙ ap (countedFrom i) (sym (list-more s d ds b y))
-                ∙ sym (ap (λ (xs : List Details). countedFrom i (issuedList s xs b)) left-is)
-                ∙ l .answer;
-            buffer = f ∙ sym (buffer-more s d ds b y) ∙ sym (ap (λ (xs : List Details). listBuffer s xs b) left-is) ∙ l .buffer;
+            answer = listed-more s d ds b b₁ a (p .0) (p .1) z i ∙ sym (ap (λ (xs : List Details). listed i s xs b) left-is) ∙ l .answer;
+            buffer = buffer-more s d ds b b₁ a (p .0) (p .1) z ∙ sym (ap (λ (xs : List Details). listBuffer s xs b) left-is) ∙ l .buffer;
           }
 
 -- ---- a list that is cut within details
 
 module _ (st : State) where
   -- a receipt without a number gets 7, or 6 if the state is not sound
-  cut-number : (room : ℕ) → issued st noDetails [] room .number ≡ ask (sound st room) 6 7
-  cut-number room = issued-number st noDetails [] room ∙ no-details-number st [] room
-
-  cut-refused : (room : ℕ) → issued st noDetails [] room .number ≡ 0 → ⊥
-  cut-refused room z = omega (arith, ask-zero (sound st room) 5 7 (sym (cut-number room) ∙ z) .1)
+  cut-refused : (room : ℕ) → issueNumber st noDetails [] room ≡ 0 → ⊥
+  cut-refused room z = omega (arith, ask-zero (sound st room) 5 7 (sym (no-details-number st [] room) ∙ z) .1)
 
   pub none-issued : (buf : List ℕ) {d : Details} {a : Issued} {b : List ℕ} → d ≡ noDetails → (a ≡ issued st d [] (length buf)) × (b ≡ issueBuffer st d [] buf)
       → (record { number = a .number; count = 0; state = st } ≡ issuedList st (noDetails ∷ []) buf) × (b ≡ buf)
   none-issued buf {a = a} e p =
-      let q : a ≡ issued st noDetails [] (length buf) = p .0 ∙ ap (λ (x : Details). issued st x [] (length buf)) e in
+      let q : a .number ≡ issueNumber st noDetails [] (length buf) =
+          ap (λ (x : Issued). x .number) (p .0) ∙ ap (λ (x : Details). issued st x [] (length buf) .number) e ∙ issued-number st noDetails [] (length buf) in
       let r = cut-refused (length buf) in (
-        ap (λ (x : Issued). answerWith (x .number) 0 st) q ∙ sym (list-stop st noDetails [] buf r),
-        p .1 ∙ ap (λ (x : Details). issueBuffer st x [] buf) e ∙ refused-changes-nothing .issues st noDetails [] buf r .1,
+        ap (λ (m : ℕ). answerWith m 0 st) q ∙ sym (answer-no _ st noDetails [] buf r),
+        p .1 ∙ ap (λ (x : Details). issueBuffer st x [] buf) e
+            ∙ refused-changes-nothing .issues st noDetails [] buf (λ z. r (sym (issued-number st noDetails [] (length buf)) ∙ z)) .1,
       )
 
 -- ---- the list that bytes stand for
@@ -174,7 +156,7 @@ module _ (list : List ℕ) where
     cut-issued h p =
         let e = list-cut h in (
           p .0 ∙ sym (ap (λ (ds : List Details). issuedList st ds buf) e),
-          p .1 ∙ sym (ap (λ (ds : List Details). listBuffer st ds buf) e ∙ buffer-stop st noDetails [] buf (cut-refused st (length buf))),
+          p .1 ∙ sym (ap (λ (ds : List Details). listBuffer st ds buf) e ∙ buffer-no _ st noDetails [] buf (cut-refused st (length buf))),
         )
 
     pub whole-issued : length list % 72 ≡ 0
@@ -200,22 +182,11 @@ list-is g list {a = a} es p q =
 
 -- ---- a call that issues none
 
-module _ (st : State) (buf : List ℕ) where
-  count-keeps : (ds : List Details) → issuedList st ds buf .count ≡ 0 → (issuedList st ds buf .state ≡ st) × (listBuffer st ds buf ≡ buf)
-  count-keeps [] z = (ap (λ (x : IssuedList). x .state) (list-none st buf), buffer-none st buf)
-  count-keeps (d ∷ ds) z = go (issued st d [] (length buf) .number) refl
-    where
-      go : (n : ℕ) → issued st d [] (length buf) .number ≡ n → (issuedList st (d ∷ ds) buf .state ≡ st) × (listBuffer st (d ∷ ds) buf ≡ buf)
-      go zero e = absurd (omega (arith, ap (λ (x : IssuedList). x .count) (list-more st d ds buf e)))
-      go (suc n) e =
-          let h : issued st d [] (length buf) .number ≡ 0 → ⊥ = λ y. omega arith in
-          (ap (λ (x : IssuedList). x .state) (list-stop st d ds buf h), buffer-stop st d ds buf h)
-
 module _ (g : Slices) (list : List ℕ) where
   pub list-left : listedCount g list ≡ 0 → kept (g .state) (stateOf (g .state)) ≡ g .state → listedSlices g list ≡ g
   unfolding listedCount listedSlices listAnswer
   list-left z e =
-      let r = count-keeps (stateOf (g .state)) (g .journal) (listIn list) z in
+      let r = refused-changes-nothing .lists (stateOf (g .state)) (listIn list) (g .journal) z in
       let q = ap (kept (g .state)) (r .0) ∙ e in
       λ i. record { state = q i; journal = r .1 i }
 
@@ -230,7 +201,7 @@ list-empty = list-whole [] refl
 
 empty-answer : (g : Slices) → listAnswer g [] ≡ answerWith 0 0 (stateOf (g .state))
 unfolding listAnswer
-empty-answer g = ap (λ (ds : List Details). issuedList (stateOf (g .state)) ds (g .journal)) list-empty ∙ list-none (stateOf (g .state)) (g .journal)
+empty-answer g = ap (λ (ds : List Details). issuedList (stateOf (g .state)) ds (g .journal)) list-empty ∙ empty-list-changes-nothing (stateOf (g .state)) (g .journal) .0
 
 pub empty-list-changes-nothing-in-c : EmptyListChangesNothingInC
 unfolding listedNumber listedCount
@@ -242,17 +213,17 @@ empty-list-changes-nothing-in-c g a =
 -- ---- the call with a list that is cut within details
 
 module _ (g : Slices) (list : List ℕ) (h : length list % 72 ≡ 0 → ⊥) where
-  cut-answer : listAnswer g list ≡ answerWith (issued (stateOf (g .state)) noDetails [] (length (g .journal)) .number) 0 (stateOf (g .state))
+  cut-answer : listAnswer g list ≡ answerWith (issueNumber (stateOf (g .state)) noDetails [] (length (g .journal))) 0 (stateOf (g .state))
   unfolding listAnswer
   cut-answer =
       let st = stateOf (g .state) in
-      ap (λ (ds : List Details). issuedList st ds (g .journal)) (list-cut list h) ∙ list-stop st noDetails [] (g .journal) (cut-refused st (length (g .journal)))
+      ap (λ (ds : List Details). issuedList st ds (g .journal)) (list-cut list h) ∙ answer-no _ st noDetails [] (g .journal) (cut-refused st (length (g .journal)))
 
   cut-count : listedCount g list ≡ 0
   unfolding listedCount
   cut-count = ap (λ (x : IssuedList). x .count) cut-answer
 
-  cut-listed : listedNumber g list ≡ issued (stateOf (g .state)) noDetails [] (length (g .journal)) .number
+  cut-listed : listedNumber g list ≡ issueNumber (stateOf (g .state)) noDetails [] (length (g .journal))
   unfolding listedNumber
   cut-listed = ap (λ (x : IssuedList). x .number) cut-answer
 
@@ -260,18 +231,18 @@ pub cut-list-issues-none : CutListIssuesNone
 cut-list-issues-none g list a h =
     let st = stateOf (g .state) in
     let n = cut-listed g list h in
-    let q = n ∙ cut-number st (length (g .journal)) in
+    let q = n ∙ no-details-number st [] (length (g .journal)) in
     let z = cut-count g list h in
-    (z, refused-list-keeps-slices g a list z, n ∙ issued-number st noDetails [] (length (g .journal)), λ s. q ∙ ask-yes 6 7 s, λ s. q ∙ ask-no 6 7 s)
+    (z, refused-list-keeps-slices g a list z, n, λ s. q ∙ ask-yes 6 7 s, λ s. q ∙ ask-no 6 7 s)
 
 -- ---- a state that is not 447 bytes long
 
 unopened-lists : (ds : List Details) (buf : List ℕ)
     → (issuedList unopened ds buf .count ≡ 0) × ((ds ≡ [] → ⊥) → issuedList unopened ds buf .number ≡ 6)
-unopened-lists [] buf = (ap (λ (x : IssuedList). x .count) (list-none unopened buf), λ some. absurd (some refl))
+unopened-lists [] buf = (ap (λ (x : IssuedList). x .count) (empty-list-changes-nothing unopened buf .0), λ some. absurd (some refl))
 unopened-lists (d ∷ ds) buf =
-    let n : issued unopened d [] (length buf) .number ≡ 6 = issued-number unopened d [] (length buf) ∙ unopened-gets-six d [] noName (length buf) .0 in
-    let e = list-stop unopened d ds buf (λ z. omega arith) in
+    let n : issueNumber unopened d [] (length buf) ≡ 6 = unopened-gets-six d [] noName (length buf) .0 in
+    let e = answer-no amountLimit unopened d ds buf (λ z. omega arith) in
     (ap (λ (x : IssuedList). x .count) e, λ some. ap (λ (x : IssuedList). x .number) e ∙ n)
 
 length-from : (k : ℕ) (b : List ℕ) → length (detailsFrom k b) ≡ k

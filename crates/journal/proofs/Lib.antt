@@ -16,6 +16,7 @@ pub mod FirstNo
 pub mod Heads
 pub mod IssueCalls
 pub mod JournalStates
+pub mod ListSteps
 pub mod ListTurns
 pub mod Lists
 pub mod OneReading

@@ -4,17 +4,14 @@ use mathlib.Core.Path.{_≡_, refl, sym, ap, _∙_, subst}
 use mathlib.Core.List.{List, [], _∷_, _++_, map}
 use native.Mathlib.Omega.{arith}
 use lib.ListN.{length, take, replicate}
-use Rattle.primitives.specs.Questions.{ifZero}
-use Rattle.primitives.proofs.Rows.{ifZero-yes, ifZero-no}
 use Rattle.receipt.specs.Amount.{amountLimit}
 use Rattle.receipt.specs.declared.details.Details.{Details}
-use Rattle.journal.specs.Issuing.{issueNumberWithin, issuedWithin, issueBufferWithin}
+use Rattle.journal.specs.Issuing.{issueNumberWithin}
 use Rattle.journal.specs.Listing.{countedFrom, issuedListWithin, issuedList, listBufferWithin, listBuffer}
-use Rattle.journal.specs.Receipts.{Receipt}
-use Rattle.journal.specs.Calls.{Call, issue, issueList, failedOrder, TypedList, nothing, also, Register, numberOf, callWithin, call, calls, callsWithin, numbersOf, receiptOfCall, receiptsOfList}
+use Rattle.journal.specs.Calls.{Call, issue, issueList, failedOrder, Register, numberOf, callWithin, call, calls, callsWithin, numbersOf, receiptOfCall, receiptsOfList}
 use Rattle.journal.specs.Lists.{singleCalls, NoneRefused, FirstRefused, Ends, whole, early, Lists, ListEqualsSingleCalls, EmptyListChangesNothing}
-use Rattle.journal.specs.declared.state.State.{State}
 use Rattle.journal.specs.declared.state.IssuedList.{IssuedList}
+use Rattle.journal.proofs.ListSteps.{answer-none, buffer-none, answer-yes, buffer-yes, answer-no, buffer-no}
 
 -- ---- one receipt of a list: it is issued, or it ends the list
 
@@ -35,34 +32,13 @@ unfolding callWithin issuedListWithin listBufferWithin
 list-none limit g = refl
 
 module _ (limit : ℕ) (g : Register) (d : Details) (ds : List Details) where
-  -- the register after it
-  g₁ : Register
-  g₁ = callWithin limit g (single d)
-
-  answer-yes : singleNumber limit g d ≡ 0 → issuedListWithin limit (g .state) (d ∷ ds) (g .buf) ≡ countedFrom 1 (issuedListWithin limit (g₁ .state) ds (g₁ .buf))
-  unfolding issuedListWithin callWithin failedOrder g₁
-  answer-yes z = ifZero-yes _ _ z
-
-  buffer-yes : singleNumber limit g d ≡ 0 → listBufferWithin limit (g .state) (d ∷ ds) (g .buf) ≡ listBufferWithin limit (g₁ .state) ds (g₁ .buf)
-  unfolding listBufferWithin callWithin failedOrder g₁
-  buffer-yes z = ifZero-yes _ _ z
-
-  answer-no : (singleNumber limit g d ≡ 0 → ⊥)
-      → issuedListWithin limit (g .state) (d ∷ ds) (g .buf) ≡ record { number = singleNumber limit g d; count = 0; state = g .state }
-  unfolding issuedListWithin
-  answer-no h = ifZero-no _ _ _ h
-
-  buffer-no : (singleNumber limit g d ≡ 0 → ⊥) → listBufferWithin limit (g .state) (d ∷ ds) (g .buf) ≡ g .buf
-  unfolding listBufferWithin
-  buffer-no h = ifZero-no _ _ _ h
-
   pub list-yes : singleNumber limit g d ≡ 0 → callWithin limit g (issueList (d ∷ ds)) ≡ callWithin limit (callWithin limit g (single d)) (issueList ds)
-  unfolding callWithin g₁
-  list-yes z = λ i. record { state = answer-yes z i .state; buf = buffer-yes z i }
+  unfolding callWithin failedOrder
+  list-yes z = λ i. record { state = answer-yes limit (g .state) d ds (g .buf) z i .state; buf = buffer-yes limit (g .state) d ds (g .buf) z i }
 
   pub list-no : (singleNumber limit g d ≡ 0 → ⊥) → callWithin limit g (issueList (d ∷ ds)) ≡ g
   unfolding callWithin
-  list-no h = λ i. record { state = answer-no h i .state; buf = buffer-no h i }
+  list-no h = λ i. record { state = answer-no limit (g .state) d ds (g .buf) h i .state; buf = buffer-no limit (g .state) d ds (g .buf) h i }
 
 one-plus : (k : ℕ) → 1 + k ≡ suc k
 one-plus k = omega arith
@@ -74,24 +50,20 @@ unfolding receiptsOfList issuedListWithin
 receipts-nothing g = refl
 
 module _ (g : Register) (d : Details) (ds : List Details) where
-  receipt-of : Details → Receipt
-  receipt-of x = receiptOfCall (failedOrder x)
-
   pub receipts-yes : singleNumber amountLimit g d ≡ 0 → receiptsOfList g (d ∷ ds) ≡ receiptOfCall (failedOrder d) ∷ receiptsOfList (call g (single d)) ds
-  unfolding receiptsOfList g₁
+  unfolding receiptsOfList callWithin failedOrder
   receipts-yes z =
-      ap (λ (r : IssuedList). map (λ (x : Details). receiptOfCall (failedOrder x)) (take (r .count) (d ∷ ds))) (answer-yes amountLimit g d ds z)
+      ap (λ (r : IssuedList). map (λ (x : Details). receiptOfCall (failedOrder x)) (take (r .count) (d ∷ ds))) (answer-yes amountLimit (g .state) d ds (g .buf) z)
       ∙ ap (λ (m : ℕ). map (λ (x : Details). receiptOfCall (failedOrder x)) (take m (d ∷ ds))) (one-plus (issuedList (call g (single d) .state) ds (call g (single d) .buf) .count))
 
   pub receipts-no : (singleNumber amountLimit g d ≡ 0 → ⊥) → receiptsOfList g (d ∷ ds) ≡ []
   unfolding receiptsOfList
-  receipts-no h = ap (λ (r : IssuedList). map (λ (x : Details). receiptOfCall (failedOrder x)) (take (r .count) (d ∷ ds))) (answer-no amountLimit g d ds h)
+  receipts-no h = ap (λ (r : IssuedList). map (λ (x : Details). receiptOfCall (failedOrder x)) (take (r .count) (d ∷ ds))) (answer-no amountLimit (g .state) d ds (g .buf) h)
 
 -- ---- the statements
 
 pub empty-list-changes-nothing : EmptyListChangesNothing
-unfolding issuedListWithin listBufferWithin
-empty-list-changes-nothing st buf = (refl, refl)
+empty-list-changes-nothing st buf = (answer-none amountLimit st buf, buffer-none amountLimit st buf)
 
 -- the first number and the others, where all are 0
 first-zero : (m : ℕ) (ms : List ℕ) (n : ℕ) → m ∷ ms ≡ replicate (suc n) 0 → (m ≡ 0) × (ms ≡ replicate n 0)
@@ -121,14 +93,14 @@ calls-nothing g = refl
 
 -- one receipt more that is issued
 also-listed : (g : Register) (d : Details) (ds done : List Details) (m : ℕ) → singleNumber amountLimit g d ≡ 0 → Lists (call g (single d)) ds done m → Lists g (d ∷ ds) (d ∷ done) m
-unfolding g₁
+unfolding callWithin failedOrder
 also-listed g d ds done m z h =
     record {
       answer =
-          answer-yes amountLimit g d ds z
+          answer-yes amountLimit (g .state) d ds (g .buf) z
           ∙ ap (countedFrom 1) (h .answer)
           ∙ (λ i. record { number = m; count = one-plus (length done) i; state = sym (calls-first g d done) i .state });
-      buffer = buffer-yes amountLimit g d ds z ∙ h .buffer ∙ ap (λ (r : Register). r .buf) (sym (calls-first g d done));
+      buffer = buffer-yes amountLimit (g .state) d ds (g .buf) z ∙ h .buffer ∙ ap (λ (r : Register). r .buf) (sym (calls-first g d done));
     }
 
 all-listed : (ds : List Details) (g : Register) → NoneRefused g ds → Lists g ds ds 0
@@ -147,8 +119,8 @@ first-listed [] g d later h =
     let r = subst (λ (x : Register). numberOf x (single d) ≡ 0 → ⊥) (calls-nothing g) (h .refused) in
     let s : singleNumber amountLimit g d ≡ 0 → ⊥ = λ z. r (single-number g d ∙ z) in
     record {
-      answer = answer-no amountLimit g d later s ∙ (λ i. record { number = (sym (single-number g d) ∙ ap (λ (x : Register). numberOf x (single d)) c) i; count = 0; state = c i .state });
-      buffer = buffer-no amountLimit g d later s ∙ ap (λ (x : Register). x .buf) c;
+      answer = answer-no amountLimit (g .state) d later (g .buf) s ∙ (λ i. record { number = (sym (single-number g d) ∙ ap (λ (x : Register). numberOf x (single d)) c) i; count = 0; state = c i .state });
+      buffer = buffer-no amountLimit (g .state) d later (g .buf) s ∙ ap (λ (x : Register). x .buf) c;
     }
 first-listed (b ∷ before) g d later h =
     let p = numbers-first g b before (h .none) in

@@ -1,9 +1,10 @@
 -- A list of receipts that are issued with a failed device: what it does, said by single calls of Issue.
-use Prim.Native.Nat.{ℕ}
+use Prim.Native.Nat.{ℕ, _+_, _≤_, _<_}
 use mathlib.Core.Path.{_≡_}
 use mathlib.Core.List.{List, [], _∷_, _++_, map}
-use lib.ListN.{length, replicate}
+use lib.ListN.{length, replicate, getD}
 use Rattle.receipt.specs.declared.details.Details.{Details}
+use Rattle.journal.specs.State.{countPlaceNow}
 use Rattle.journal.specs.Listing.{issuedList, listBuffer}
 use Rattle.journal.specs.Calls.{Call, issue, failedOrder, Register, numberOf, calls, numbersOf}
 use Rattle.journal.specs.declared.state.State.{State}
@@ -46,3 +47,9 @@ pub record ListEqualsSingleCalls : Type 0 where
 abbrev pub EmptyListChangesNothing : Type 0
 EmptyListChangesNothing =
     (st : State) (buf : List ℕ) → (issuedList st [] buf ≡ record { number = 0; count = 0; state = st }) × (listBuffer st [] buf ≡ buf)
+
+-- it writes the new entries, rewrites the count of the open section, and touches no other byte
+abbrev pub ListTouchesNoOther : Type 0
+ListTouchesNoOther =
+    (st : State) (ds : List Details) (buf : List ℕ) (i : ℕ) → (countPlaceNow st ≤ i → i < countPlaceNow st + 4 → ⊥)
+    → (st .length ≤ i → i < issuedList st ds buf .state .length → ⊥) → getD (listBuffer st ds buf) i 0 ≡ getD buf i 0
