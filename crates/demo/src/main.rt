@@ -8,6 +8,9 @@ use receipt::Details;
 use receipt::Kind;
 use receipt::LONGEST_CODE;
 use receipt::Settings;
+ghost use mathlib.Core.Path.{_≡_};
+ghost use mathlib.Core.List.{[], _∷_};
+ghost use Rattle.journal.specs.Listing.{issuedList, listBuffer};
 
 // A receipt of the day.
 fn details(number: u32, minute: u32, amounts: [i64; 5], kind: Kind) -> Details {
@@ -117,7 +120,10 @@ fn change(title: &[u8], st: State, serial: &[u8], buf: &mut [u8]) -> State {
 }
 
 // Issues three receipts in one call, all with a failed device.
-fn issue_three(st: State, a: Details, b: Details, c: Details, buf: &mut [u8]) -> IssuedList {
+fn issue_three(st: State, a: Details, b: Details, c: Details, buf: &mut [u8]) -> IssuedList
+    ensures { λ r.
+        ⌜ (r ≡ issuedList st (a ∷ b ∷ c ∷ []) (now (buf .entry))) × (now (buf .exit) ≡ listBuffer st (a ∷ b ∷ c ∷ []) (now (buf .entry))) ⌝ }
+{
     let list = [a, b, c];
     journal::issue_list(st, &list, buf)
 }
@@ -135,6 +141,19 @@ fn show_list(title: &[u8], r: IssuedList) -> State {
     printing::text(b"\n");
     show_state(st);
     st
+}
+
+// Issues three receipts in one call and shows what came of it.
+fn issue_together(
+    title: &[u8],
+    st: State,
+    a: Details,
+    b: Details,
+    c: Details,
+    buf: &mut [u8],
+) -> State {
+    let r = issue_three(st, a, b, c, buf);
+    show_list(title, r)
 }
 
 // What a take-over of the first n bytes answers.
@@ -232,25 +251,22 @@ fn night(st: State, buf: &mut [u8]) -> State {
 
 // A table's orders were keyed while the signature device was down: they are issued together, up to the first that is refused.
 fn closing_time(st: State, buf: &mut [u8]) -> State {
-    let all = issue_three(
+    let a = issue_together(
+        b"three orders of a table, keyed while the signature device was down\n",
         st,
         details(7, 50, [0, 890, 0, 0, 0], Kind::Standard),
         details(8, 51, [0, 420, 0, 0, 0], Kind::Standard),
         details(9, 52, [0, -420, 0, 0, 0], Kind::Cancellation),
         buf,
     );
-    let a = show_list(
-        b"three orders of a table, keyed while the signature device was down\n",
-        all,
-    );
-    let part = issue_three(
+    issue_together(
+        b"three more, two of them with one number\n",
         a,
         details(10, 55, [0, 360, 0, 0, 0], Kind::Standard),
         details(10, 56, [0, 240, 0, 0, 0], Kind::Standard),
         details(11, 57, [0, 180, 0, 0, 0], Kind::Standard),
         buf,
-    );
-    show_list(b"three more, two of them with one number\n", part)
+    )
 }
 
 // One letter changed into another one of BASE64-URL.
