@@ -90,7 +90,7 @@ none-typed : TypedList (noDetails ∷ [])
 unfolding noDetails
 none-typed = also {d = noDetails} (failed-typed noDetails (omega arith) refl) nothing
 
-list-typed : (b : List ℕ) → AllBytes b → TypedList (listIn b)
+pub list-typed : (b : List ℕ) → AllBytes b → TypedList (listIn b)
 unfolding listIn
 list-typed b a = go (eqb (length b % 72) 0)
   where
@@ -170,7 +170,7 @@ module _ (g : Register) (t : TypedState (g .state)) where
   is-kept : (x : State) → kept (stateBytes (g .state)) x ≡ stateBytes x
   is-kept x = kept-all (stateBytes (g .state)) x (length-state (g .state) (typed-lengths t))
 
-  after-same : (c : CallFromC) → slicesAfter (slicesOf g) c ≡ slicesOf (call g (callIn c))
+  pub after-same : (c : CallFromC) → slicesAfter (slicesOf g) c ≡ slicesOf (call g (callIn c))
   unfolding slicesAfter slicesOf callIn issuedSlices issueAnswer listedSlices listAnswer changedSlices changeAnswer orderIn st
   after-same (issuing c) =
       let o = orderIn c in
@@ -186,17 +186,20 @@ module _ (g : Register) (t : TypedState (g .state)) where
       let k = is-kept (changed st (nameOf serial) n .state) ∙ ap (λ (x : State). stateBytes (changed x (nameOf serial) n .state)) is-read in
       (λ i. record { state = k i; journal = changeBuffer (is-read i) (nameOf serial) (g .buf) }) ∙ ap slicesOf (sym (change-call g (nameOf serial)))
 
-  number-same : (c : CallFromC) → numberFromC (slicesOf g) c ≡ numberOf g (callIn c)
+  pub number-same : (c : CallFromC) → numberFromC (slicesOf g) c ≡ numberOf g (callIn c)
   unfolding numberFromC slicesOf callIn issuedNumber issueAnswer listedNumber listAnswer changedNumber changeAnswer orderIn st
   number-same (issuing c) = ap (λ (x : State). issued x (orderIn c .details) (c .signature) (length (g .buf)) .number) is-read ∙ sym (issue-number g (orderIn c))
   number-same (listing list) = ap (λ (x : State). issuedList x (listIn list) (g .buf) .number) is-read ∙ sym (list-number g (listIn list))
   number-same (changing serial) = ap (λ (x : State). changed x (nameOf serial) (length (g .buf)) .number) is-read ∙ sym (change-number g (nameOf serial))
 
+  pub count-same : (list : List ℕ) → listedCount (slicesOf g) list ≡ issuedList (g .state) (listIn list) (g .buf) .count
+  unfolding listedCount listAnswer slicesOf st
+  count-same list = ap (λ (x : State). issuedList x (listIn list) (g .buf) .count) is-read
+
   issued-same : (list : List ℕ) → receiptsOfListFromC (slicesOf g) list ≡ receiptsOfList g (listIn list)
-  unfolding receiptsOfListFromC listedCount listAnswer slicesOf st
+  unfolding receiptsOfListFromC
   issued-same list =
-      ap (λ (x : State). map (λ (d : Details). receiptOfCall (failedOrder d)) (take (issuedList x (listIn list) (g .buf) .count) (listIn list))) is-read
-      ∙ sym (list-issued g (listIn list))
+      ap (λ (k : ℕ). map (λ (d : Details). receiptOfCall (failedOrder d)) (take k (listIn list))) (count-same list) ∙ sym (list-issued g (listIn list))
 
 -- a list of calls leaves and returns the same, and its receipts and sections are the same
 pub record Same (g : Register) (cs : List CallFromC) : Type 0 where
@@ -243,7 +246,7 @@ module _ (g : Register) (t : TypedState (g .state)) (cs : List CallFromC) where
       let ys = ap (λ (s : Slices). periodsFromC s x cs) e ∙ p .periods x in
       (λ i. ifZero (z i) (x ∷ xs i) (ys i)) ∙ sym (change-sections g (nameOf serial) x (map callIn cs))
 
-  more-same : (c : CallFromC) → Same (call g (callIn c)) cs → Same g (c ∷ cs)
+  pub more-same : (c : CallFromC) → Same (call g (callIn c)) cs → Same g (c ∷ cs)
   unfolding slicesAfterAll numbersFromC
   more-same c p =
       let e = after-same g t c in
@@ -258,7 +261,7 @@ module _ (g : Register) (t : TypedState (g .state)) (cs : List CallFromC) where
         typed = subst (λ (x : Register). TypedState (x .state)) m (p .typed);
       }
 
-none-same : (g : Register) → TypedState (g .state) → Same g []
+pub none-same : (g : Register) → TypedState (g .state) → Same g []
 unfolding slicesAfterAll numbersFromC receiptsFromC periodsFromC
 none-same g t =
     let e = sym (calls-none g) in

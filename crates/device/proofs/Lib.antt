@@ -3,6 +3,7 @@ pub mod Below
 pub mod CallAnswers
 pub mod CallsFromC
 pub mod DetailLaws
+pub mod ListCalls
 pub mod Lists
 pub mod Opens
 pub mod Pieces

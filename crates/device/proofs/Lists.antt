@@ -132,7 +132,7 @@ module _ (st : State) where
       → (record { number = a .number; count = 0; state = st } ≡ issuedList st (noDetails ∷ []) buf) × (b ≡ buf)
   none-issued buf {a = a} e p =
       let q : a .number ≡ issueNumber st noDetails [] (length buf) =
-          ap (λ (x : Issued). x .number) (p .0) ∙ ap (λ (x : Details). issued st x [] (length buf) .number) e ∙ issued-number st noDetails [] (length buf) in
+      ap (λ (x : Issued). x .number) (p .0) ∙ ap (λ (x : Details). issued st x [] (length buf) .number) e ∙ issued-number st noDetails [] (length buf) in
       let r = cut-refused (length buf) in (
         ap (λ (m : ℕ). answerWith m 0 st) q ∙ sym (answer-no _ st noDetails [] buf r),
         p .1 ∙ ap (λ (x : Details). issueBuffer st x [] buf) e

@@ -39,10 +39,10 @@ pub record ListsInC (g : Slices) (list : List ℕ) (done : List Details) (number
 
 -- what holds of a program's state and journal and of the bytes of a list
 pub record Lent (g : Slices) (list : List ℕ) : Type 0 where
-  pub state : length (g .state) ≡ 447
-  pub bytes : AllBytes (g .state)
+  pub whole : length (g .state) ≡ 447
+  pub state : AllBytes (g .state)
   pub room : length (g .journal) < 18446744073709551616
-  pub list : AllBytes list
+  pub bytes : AllBytes list
 
 -- "It equals the single calls in that order up to the first that is refused", for every state of 447 bytes, sound or not
 pub record ListEqualsSingleCallsInC : Type 0 where
