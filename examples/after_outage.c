@@ -68,8 +68,8 @@ int main(void)
     uint8_t settings[DITGRUX_SETTINGS], again[DITGRUX_STATE];
     size_t issued, first;
     uint32_t refused, index;
-    if (ditgrux_settings((const uint8_t *)"AT0", 3, (const uint8_t *)"TILL-1", 6, (const uint8_t *)"1a2b", 4, WIDTH, key, sizeof key, settings,
-                         sizeof settings))
+    if (ditgrux_settings((const uint8_t *)"AT0", 3, (const uint8_t *)"TILL-1", 6, (const uint8_t *)"1a2b", 4, WIDTH, key, sizeof key,
+                         settings, sizeof settings))
         return 1;
     if (ditgrux_open(settings, sizeof settings, journal, journal_size, state, sizeof state) || signed_zero(1, 0))
         return 1;

@@ -699,10 +699,10 @@ static void serials(void)
     CHECK(ditgrux_settings_in(state, sizeof state, 0, under, sizeof under) == DITGRUX_DONE && is_all(0, under, sizeof under));
 }
 
-/* A list of so many bytes, with this state: it issues none. The caller looks at state and journal. */
-static uint32_t none_issued(uint8_t *bytes, size_t length, size_t list_length, size_t room)
+/* A list of so many bytes, the first receipt of this kind, with this state: it issues none. The caller looks at state and journal. */
+static uint32_t none_issued(uint8_t *bytes, size_t length, uint32_t kind, size_t list_length, size_t room)
 {
-    const struct ditgrux_details sale = details_of(30, DITGRUX_STANDARD, 1), late = details_of(31, DITGRUX_STANDARD, 1);
+    const struct ditgrux_details sale = details_of(30, kind, 1), late = details_of(31, DITGRUX_STANDARD, 1);
     uint8_t list[2 * DITGRUX_DETAILS];
     size_t issued = SIZE_MAX;
     uint32_t number;
@@ -713,13 +713,14 @@ static uint32_t none_issued(uint8_t *bytes, size_t length, size_t list_length, s
     return number;
 }
 
-/* With a bad state: 6 for a list, be it cut or whole, and nothing to do for an empty one. */
+/* With a bad state: 6 for a list, be it whole or cut and its kind known or not, and nothing to do for an empty one. */
 static void lists_of_bad_state(uint8_t *bytes, size_t length, size_t room)
 {
     size_t list_length;
     for (list_length = 1; list_length <= 2 * DITGRUX_DETAILS; list_length++)
-        CHECK(none_issued(bytes, length, list_length, room) == DITGRUX_BAD_STATE);
-    CHECK(none_issued(bytes, length, 0, room) == DITGRUX_DONE);
+        CHECK(none_issued(bytes, length, DITGRUX_STANDARD, list_length, room) == DITGRUX_BAD_STATE);
+    CHECK(none_issued(bytes, length, 3, 2 * DITGRUX_DETAILS, room) == DITGRUX_BAD_STATE);
+    CHECK(none_issued(bytes, length, 3, 0, room) == DITGRUX_DONE);
 }
 
 /* A state of this length: every call refuses it and keeps its bytes, and the readers find nothing in it. An empty list is not refused. */
@@ -1047,7 +1048,7 @@ static void refused_at(size_t place, const struct ditgrux_details *wrong, uint32
 /* The list with one detail of the order at the place changed. */
 #define WRONG(field, value, number) (wrong = orders[place], wrong.field = (value), refused_at(place, &wrong, number))
 
-static const int64_t most = 99999999999, full_counter = 549755813887; /* 2^39 - 1, in five bytes */
+static const int64_t largest = 99999999999, full_counter = 549755813887; /* the largest amount; 2^39 - 1, the most in five bytes */
 
 /* Each way to be refused at this place. */
 static void refused_ways(size_t place)
@@ -1095,15 +1096,15 @@ static void one_after_the_other(size_t place)
     memcpy(list, orders, sizeof list);
     list[place] = details_of(0, DITGRUX_STANDARD, 0);
     list[place].month = 13;
-    list[place].standard = most + 1;
-    list[place].reduced_1 = list[place].reduced_2 = list[place].zero = list[place].special = most;
+    list[place].standard = largest + 1;
+    list[place].reduced_1 = list[place].reduced_2 = list[place].zero = list[place].special = largest;
     go_to(0);
     CHECK(listed(list, ORDERS, room, &issued) == DITGRUX_NUMBER_NOT_ABOVE && issued == place && is_at(place));
     list[place].number = orders[place].number;
     CHECK(listed(list + place, ORDERS - place, room, &issued) == DITGRUX_BAD_DATE && issued == 0 && is_at(place));
     list[place].month = 12;
     CHECK(listed(list + place, ORDERS - place, room, &issued) == DITGRUX_BAD_AMOUNT && issued == 0 && is_at(place));
-    list[place].standard = most;
+    list[place].standard = largest;
     CHECK(listed(list + place, ORDERS - place, room, &issued) == DITGRUX_COUNTER_FULL && issued == 0 && is_at(place));
     list[place] = orders[place];
     CHECK(listed(list + place, ORDERS - place, room, &issued) == DITGRUX_NO_ROOM && issued == 0 && is_at(place));
@@ -1169,7 +1170,7 @@ static void make_orders(void)
     memset(journal, 0xA5, sizeof journal);
     CHECK(ditgrux_open(narrow, sizeof narrow, journal, sizeof journal, state, sizeof state) == DITGRUX_DONE);
     issues(1);
-    sale.standard = sale.reduced_1 = sale.reduced_2 = sale.zero = sale.special = most;
+    sale.standard = sale.reduced_1 = sale.reduced_2 = sale.zero = sale.special = largest;
     CHECK(ditgrux_issue_details(state, sizeof state, &sale, NULL, 0, journal, sizeof journal) == DITGRUX_DONE);
 
     orders[0] = details_of(10, DITGRUX_STANDARD, 1);
@@ -1179,12 +1180,14 @@ static void make_orders(void)
     orders[2].kind = DITGRUX_TRAINING;
     orders[2].number = 20;
     orders[3] = details_of(21, DITGRUX_STANDARD, 0);
-    orders[3].special = full_counter - 5 * most;
+    orders[3].special = full_counter - 5 * largest;
     orders[4] = details_of(UINT32_MAX, DITGRUX_CANCELLATION, 0);
-    orders[4].standard = orders[4].reduced_1 = orders[4].reduced_2 = orders[4].zero = orders[4].special = -most;
+    orders[4].standard = orders[4].reduced_1 = orders[4].reduced_2 = orders[4].zero = orders[4].special = -largest;
     one_by_one();
-    CHECK(ditgrux_counter(states[0], DITGRUX_STATE) == 5 * most && ditgrux_counter(states[ORDERS], DITGRUX_STATE) == full_counter - 5 * most);
-    CHECK(ditgrux_receipts(states[ORDERS], DITGRUX_STATE) == 2 + ORDERS && ditgrux_last_number(states[ORDERS], DITGRUX_STATE) == UINT32_MAX);
+    CHECK(ditgrux_counter(states[0], DITGRUX_STATE) == 5 * largest && ditgrux_counter(states[4], DITGRUX_STATE) == full_counter);
+    CHECK(ditgrux_counter(states[ORDERS], DITGRUX_STATE) == full_counter - 5 * largest);
+    CHECK(ditgrux_receipts(states[ORDERS], DITGRUX_STATE) == 2 + ORDERS);
+    CHECK(ditgrux_last_number(states[ORDERS], DITGRUX_STATE) == UINT32_MAX);
 }
 
 static void lists(void)
@@ -1201,7 +1204,7 @@ static void lists(void)
     cut_lists();
 }
 
-/* Five orders with these numbers, from this one on. */
+/* Five orders, numbered from this one on; the fourth is a training receipt. */
 static void numbered_from(uint32_t number)
 {
     uint32_t i;
@@ -1233,7 +1236,7 @@ static void lists_before_start(void)
             refused_at(place, &wrong, DITGRUX_NO_START);
         wrong.special = -1;
         refused_at(place, &wrong, DITGRUX_NO_START);
-        wrong.special = most + 1;
+        wrong.special = largest + 1;
         refused_at(place, &wrong, DITGRUX_BAD_AMOUNT);
     }
     WRONG(number, 0, DITGRUX_NUMBER_NOT_ABOVE);
@@ -1349,6 +1352,10 @@ static void power_cut_in_list(int changed)
     CHECK(number_at(journal + place, 4) == (changed ? 1 : before + 1) && gives_state());
 }
 
+/* The values of the fields in turn `i`: in as many turns as there are values each field has each of them. */
+#define NUMBER(field) numbers[(i + (field)) % NUMBERS]
+#define AMOUNT(field) amounts[(i + (field)) % AMOUNTS]
+
 /* Packed details have the layout of the header, are 72 bytes and no more, and come back, whatever their values. */
 static void packing(void)
 {
@@ -1358,9 +1365,7 @@ static void packing(void)
     uint8_t bytes[DITGRUX_DETAILS + 2];
     struct ditgrux_details d, back;
     int i, j;
-    for (i = 0; i < NUMBERS * AMOUNTS; i++) { /* each field takes each value */
-#define NUMBER(place) numbers[(i + (place)) % NUMBERS]
-#define AMOUNT(place) amounts[(i + (place)) % AMOUNTS]
+    for (i = 0; i < NUMBERS * AMOUNTS; i++) {
         d.number = NUMBER(0);
         d.year = NUMBER(1);
         d.month = NUMBER(2);
