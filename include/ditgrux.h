@@ -138,8 +138,9 @@ enum ditgrux_number {
  *
  * The bytes before the first entry are the head. An entry is a length of two bytes, big-endian, and a compact form of that length.
  *
- * ditgrux_open writes the head. ditgrux_issue appends an entry and rewrites the number of receipts of the last pair. ditgrux_change
- * appends a pair without receipts. Nothing else in the journal ever changes.
+ * ditgrux_open writes the head. ditgrux_issue appends an entry and rewrites the number of receipts of the last pair;
+ * ditgrux_issue_list does so for each receipt that it issues. ditgrux_change appends a pair without receipts. Nothing else in the
+ * journal ever changes.
  *
  * This is how to walk the entries of a journal that ditgrux_take_over has accepted or that the functions here have written. (In any
  * other journal, compare each place with the number of bytes that there are before you read.)

@@ -1,7 +1,7 @@
 /* What include/ditgrux.h says besides the contracts: the wrappers pass every detail to its place and back, an empty signature may be
  * NULL, the walk of the entries ends at the length of the journal, what is left after a refusal, what to do when the buffer is full,
  * where power fails, what every byte of state and journal is after a change of the certificate, what becomes of a state of version 1,
- * which registers a shared key may have, and what the optical line is of a code.
+ * which registers a shared key may have, what the optical line is of a code, and what a list of receipts leaves, issued and refused.
  * Prints each line that fails; exit status 1 where one does. Compiles as C99 and as C++11. */
 #include "ditgrux.h"
 
@@ -424,7 +424,7 @@ static void shared(void)
 
 /* ---- changing the certificate */
 
-enum { SERIALS_AT = 43, SLOT = 40, LENGTH_AT = 427, OPEN_AT = 435, PLACE_AT = 439 }; /* places in the state */
+enum { SERIALS_AT = 43, SLOT = 40, WIDTH_AT = 363, LENGTH_AT = 427, OPEN_AT = 435, PLACE_AT = 439 }; /* places in the state */
 
 static void put(uint8_t *bytes, int count, uint64_t number)
 {
@@ -504,10 +504,11 @@ static void issues(uint32_t number)
     CHECK(memcmp(state, other, 403) == 0); /* settings and serials */
 }
 
-/* Take over of so many bytes of a journal: its number, and where. Where it is refused, the state that it writes is all zero. */
+/* Take over of so many bytes of a journal, with the width in the state: its number, and where. Where it is refused, the state that it
+ * writes is all zero. */
 static uint32_t taken_over(const uint8_t *bytes, size_t length, uint32_t *index)
 {
-    const uint32_t number = ditgrux_take_over(bytes, length, key, sizeof key, 8, other, sizeof other, index);
+    const uint32_t number = ditgrux_take_over(bytes, length, key, sizeof key, number_at(state + WIDTH_AT, 8), other, sizeof other, index);
     CHECK(number == DITGRUX_DONE || is_all(0, other, sizeof other));
     return number;
 }
@@ -698,7 +699,31 @@ static void serials(void)
     CHECK(ditgrux_settings_in(state, sizeof state, 0, under, sizeof under) == DITGRUX_DONE && is_all(0, under, sizeof under));
 }
 
-/* A state of this length: every call refuses it and keeps its bytes, and the readers find nothing in it. */
+/* A list of so many bytes, the first receipt of this kind, with this state: it issues none. The caller looks at state and journal. */
+static uint32_t none_issued(uint8_t *bytes, size_t length, uint32_t kind, size_t list_length, size_t room)
+{
+    const struct ditgrux_details sale = details_of(30, kind, 1), late = details_of(31, DITGRUX_STANDARD, 1);
+    uint8_t list[2 * DITGRUX_DETAILS];
+    size_t issued = SIZE_MAX;
+    uint32_t number;
+    ditgrux_pack_details(&sale, list);
+    ditgrux_pack_details(&late, list + DITGRUX_DETAILS);
+    number = ditgrux_issue_list(bytes, length, list, list_length, journal, room, &issued);
+    CHECK(issued == 0);
+    return number;
+}
+
+/* With a bad state: 6 for a list, be it whole or cut and its kind known or not, and nothing to do for an empty one. */
+static void lists_of_bad_state(uint8_t *bytes, size_t length, size_t room)
+{
+    size_t list_length;
+    for (list_length = 1; list_length <= 2 * DITGRUX_DETAILS; list_length++)
+        CHECK(none_issued(bytes, length, DITGRUX_STANDARD, list_length, room) == DITGRUX_BAD_STATE);
+    CHECK(none_issued(bytes, length, 3, 2 * DITGRUX_DETAILS, room) == DITGRUX_BAD_STATE);
+    CHECK(none_issued(bytes, length, 3, 0, room) == DITGRUX_DONE);
+}
+
+/* A state of this length: every call refuses it and keeps its bytes, and the readers find nothing in it. An empty list is not refused. */
 static void of_length(uint8_t *bytes, size_t length)
 {
     const struct ditgrux_details sale = details_of(3, DITGRUX_STANDARD, 1);
@@ -712,6 +737,7 @@ static void of_length(uint8_t *bytes, size_t length)
     CHECK(ditgrux_prepare_details(bytes, length, &sale, out, sizeof out, &wrote) == DITGRUX_BAD_STATE && wrote == 0);
     CHECK(ditgrux_issue_details(bytes, length, &sale, NULL, 0, journal, sizeof journal) == DITGRUX_BAD_STATE);
     CHECK(ditgrux_change(bytes, length, text_of("9"), 1, journal, sizeof journal) == DITGRUX_BAD_STATE);
+    lists_of_bad_state(bytes, length, sizeof journal);
     CHECK(ditgrux_take_over(journal, journal_length(), key, sizeof key, 8, bytes, length, &index) == DITGRUX_BAD_STATE && index == 0);
     CHECK(ditgrux_counter(bytes, length) == 0 && ditgrux_last_number(bytes, length) == 0 && ditgrux_receipts(bytes, length) == 0);
     CHECK(ditgrux_journal_length(bytes, length) == 0 && ditgrux_serials(bytes, length) == 0);
@@ -750,7 +776,7 @@ static void version_1(void)
 
 /* ---- what a state must be */
 
-/* Prepare, Issue and Change refuse the state with this number at the place, and change nothing. */
+/* Prepare, Issue, Change and a list refuse the state with this number at the place, and change nothing. */
 static void is_unsound(size_t at, int count, uint64_t number)
 {
     const struct ditgrux_details sale = details_of(20, DITGRUX_STANDARD, 1);
@@ -762,6 +788,7 @@ static void is_unsound(size_t at, int count, uint64_t number)
     CHECK(ditgrux_prepare_details(state, sizeof state, &sale, out, sizeof out, &wrote) == DITGRUX_BAD_STATE && wrote == 0);
     CHECK(ditgrux_issue_details(state, sizeof state, &sale, NULL, 0, journal, sizeof journal) == DITGRUX_BAD_STATE);
     CHECK(ditgrux_change(state, sizeof state, text_of("9"), 1, journal, sizeof journal) == DITGRUX_BAD_STATE);
+    lists_of_bad_state(state, sizeof state, sizeof journal);
     CHECK(kept());
     memcpy(state, sound, sizeof state);
 }
@@ -809,6 +836,13 @@ static void unsound_states(void)
     length = journal_length();
     CHECK(no_change("9", 1, length - 1) == DITGRUX_BAD_STATE);
     CHECK(ditgrux_issue_details(state, sizeof state, &sale, NULL, 0, journal, length - 1) == DITGRUX_BAD_STATE && kept());
+    lists_of_bad_state(state, sizeof state, length - 1);
+    lists_of_bad_state(state, sizeof state, 0);
+    CHECK(kept());
+    memset(state, 0, sizeof state); /* the unopened state */
+    keep();
+    lists_of_bad_state(state, sizeof state, sizeof journal);
+    CHECK(kept());
 }
 
 /* ---- journals with several pairs */
@@ -904,6 +938,459 @@ static void power_cut_in_change(void)
     CHECK(ditgrux_serials(other, sizeof other) == 1);
 }
 
+/* ---- a list of receipts */
+
+enum { ORDERS = 5 };
+
+static struct ditgrux_details orders[ORDERS];
+static uint8_t states[ORDERS + 1][DITGRUX_STATE], journals[ORDERS + 1][sizeof journal]; /* after so many orders, issued one by one */
+
+/* Goes to where so many orders were issued. */
+static void go_to(size_t place)
+{
+    memcpy(state, states[place], sizeof state);
+    memcpy(journal, journals[place], sizeof journal);
+}
+
+/* Every byte of the state and of the journal's whole buffer is what so many single calls left. */
+static int is_at(size_t place)
+{
+    return memcmp(state, states[place], sizeof state) == 0 && memcmp(journal, journals[place], sizeof journal) == 0;
+}
+
+static size_t length_at(size_t place)
+{
+    return ditgrux_journal_length(states[place], DITGRUX_STATE);
+}
+
+/* Issues the orders one by one with a failed device, keeps what each leaves, and goes back. */
+static void one_by_one(void)
+{
+    size_t i;
+    for (i = 0; i <= ORDERS; i++) {
+        memcpy(states[i], state, sizeof state);
+        memcpy(journals[i], journal, sizeof journal);
+        if (i < ORDERS)
+            CHECK(ditgrux_issue_details(state, sizeof state, &orders[i], NULL, 0, journal, sizeof journal) == DITGRUX_DONE);
+    }
+    CHECK(gives_state());
+    go_to(0);
+}
+
+/* The number of a list in a buffer with this room. The list lies between other bytes; none of all these changes. */
+static uint32_t listed(const struct ditgrux_details *list, size_t count, size_t room, size_t *issued)
+{
+    uint8_t bytes[ORDERS * DITGRUX_DETAILS + 2], before[ORDERS * DITGRUX_DETAILS + 2];
+    uint32_t number;
+    size_t i;
+    memset(bytes, 0xA5, sizeof bytes);
+    for (i = 0; i < count; i++)
+        ditgrux_pack_details(&list[i], bytes + 1 + i * DITGRUX_DETAILS);
+    memcpy(before, bytes, sizeof bytes);
+    *issued = SIZE_MAX;
+    number = ditgrux_issue_list(state, sizeof state, bytes + 1, count * DITGRUX_DETAILS, journal, room, issued);
+    CHECK(memcmp(bytes, before, sizeof bytes) == 0);
+    return number;
+}
+
+/* Each part of the list, from each place on, leaves what the single calls leave; the parts of no orders change nothing. */
+static void parts(void)
+{
+    size_t from, to, issued;
+    for (from = 0; from <= ORDERS; from++)
+        for (to = from; to <= ORDERS; to++) {
+            go_to(from);
+            CHECK(listed(orders + from, to - from, sizeof journal, &issued) == DITGRUX_DONE && issued == to - from && is_at(to));
+        }
+    CHECK(gives_state());
+}
+
+/* The new entries lie one after the other, from the old length on. Read finds in each the details as they were packed and no signature,
+ * under the newest serial, and its code ends in the text of a failed device. */
+static void entries(void)
+{
+    uint8_t under[DITGRUX_SETTINGS], packed[DITGRUX_DETAILS], found[DITGRUX_DETAILS], given[DITGRUX_SIGNATURE], code[DITGRUX_LONGEST_CODE];
+    const size_t text = sizeof FAILED_64 - 1;
+    size_t i, at = length_at(0), length, wrote;
+    go_to(0);
+    CHECK(listed(orders, ORDERS, sizeof journal, &wrote) == DITGRUX_DONE);
+    CHECK(ditgrux_settings_in(state, sizeof state, ditgrux_serials(state, sizeof state) - 1, under, sizeof under) == DITGRUX_DONE);
+    for (i = 0; i < ORDERS; i++) {
+        length = number_at(journal + at, 2);
+        at += 2;
+        memset(found, 0xA5, sizeof found);
+        ditgrux_pack_details(&orders[i], packed);
+        CHECK(ditgrux_read(under, sizeof under, journal + at, length, found, sizeof found, given, sizeof given, &wrote) == DITGRUX_DONE);
+        CHECK(wrote == 0 && memcmp(found, packed, sizeof found) == 0);
+        CHECK(ditgrux_code(journal + at, length, code, sizeof code, &wrote) == DITGRUX_DONE);
+        CHECK(wrote > text && memcmp(code + wrote - text, FAILED_64, text) == 0);
+        at += length;
+        CHECK(at == length_at(i + 1));
+    }
+    CHECK(at == journal_length());
+}
+
+/* The list with these details at the place is refused there. The orders before it are issued, and no other. The list from there on, with
+ * the right details, issues the rest. */
+static void refused_at(size_t place, const struct ditgrux_details *wrong, uint32_t number)
+{
+    struct ditgrux_details list[ORDERS];
+    size_t issued;
+    memcpy(list, orders, sizeof list);
+    list[place] = *wrong;
+    go_to(0);
+    CHECK(listed(list, ORDERS, sizeof journal, &issued) == number);
+    CHECK(issued == place && is_at(place));
+    list[issued < ORDERS ? issued : 0] = orders[place];
+    CHECK(listed(list + place, ORDERS - place, sizeof journal, &issued) == DITGRUX_DONE && issued == ORDERS - place && is_at(ORDERS));
+}
+
+/* The list with one detail of the order at the place changed. */
+#define WRONG(field, value, number) (wrong = orders[place], wrong.field = (value), refused_at(place, &wrong, number))
+
+static const int64_t largest = 99999999999, full_counter = 549755813887; /* the largest amount; 2^39 - 1, the most in five bytes */
+
+/* Each way to be refused at this place. */
+static void refused_ways(size_t place)
+{
+    static const uint32_t kinds[] = {3, 4, 256, 65536, 0x80000000, UINT32_MAX}, years[] = {0, 1999, 2100, 67567, UINT32_MAX};
+    static const int64_t amounts[] = {100000000000, -100000000000, INT64_MAX, INT64_MIN};
+    const uint32_t last = ditgrux_last_number(states[place], DITGRUX_STATE);
+    struct ditgrux_details wrong;
+    size_t i;
+    WRONG(number, 0, DITGRUX_NUMBER_NOT_ABOVE);
+    WRONG(number, last, DITGRUX_NUMBER_NOT_ABOVE);
+    WRONG(number, last - 1, DITGRUX_NUMBER_NOT_ABOVE);
+    for (i = 0; i < sizeof kinds / sizeof kinds[0]; i++)
+        WRONG(kind, kinds[i], DITGRUX_NUMBER_NOT_ABOVE);
+    for (i = 0; i < sizeof years / sizeof years[0]; i++)
+        WRONG(year, years[i], DITGRUX_BAD_DATE);
+    WRONG(month, 0, DITGRUX_BAD_DATE);
+    WRONG(month, 13, DITGRUX_BAD_DATE);
+    WRONG(day, 0, DITGRUX_BAD_DATE);
+    WRONG(day, 32, DITGRUX_BAD_DATE);
+    WRONG(hour, 24, DITGRUX_BAD_DATE);
+    WRONG(minute, 60, DITGRUX_BAD_DATE);
+    WRONG(second, 60, DITGRUX_BAD_DATE);
+    for (i = 0; i < sizeof amounts / sizeof amounts[0]; i++) {
+        WRONG(standard, amounts[i], DITGRUX_BAD_AMOUNT);
+        WRONG(reduced_1, amounts[i], DITGRUX_BAD_AMOUNT);
+        WRONG(reduced_2, amounts[i], DITGRUX_BAD_AMOUNT);
+        WRONG(zero, amounts[i], DITGRUX_BAD_AMOUNT);
+        WRONG(special, amounts[i], DITGRUX_BAD_AMOUNT);
+    }
+    wrong = details_of(orders[place].number, DITGRUX_STANDARD, 0);
+    wrong.zero = full_counter - ditgrux_counter(states[place], DITGRUX_STATE) + 1; /* one cent too much */
+    refused_at(place, &wrong, DITGRUX_COUNTER_FULL);
+    wrong.kind = DITGRUX_CANCELLATION;
+    refused_at(place, &wrong, DITGRUX_COUNTER_FULL);
+}
+
+/* Each number before the next: all is wrong at the place, and one thing after the other is put right. Each call goes on from the order
+ * that the last one refused. */
+static void one_after_the_other(size_t place)
+{
+    struct ditgrux_details list[ORDERS];
+    const size_t room = length_at(place);
+    size_t issued;
+    memcpy(list, orders, sizeof list);
+    list[place] = details_of(0, DITGRUX_STANDARD, 0);
+    list[place].month = 13;
+    list[place].standard = largest + 1;
+    list[place].reduced_1 = list[place].reduced_2 = list[place].zero = list[place].special = largest;
+    go_to(0);
+    CHECK(listed(list, ORDERS, room, &issued) == DITGRUX_NUMBER_NOT_ABOVE && issued == place && is_at(place));
+    list[place].number = orders[place].number;
+    CHECK(listed(list + place, ORDERS - place, room, &issued) == DITGRUX_BAD_DATE && issued == 0 && is_at(place));
+    list[place].month = 12;
+    CHECK(listed(list + place, ORDERS - place, room, &issued) == DITGRUX_BAD_AMOUNT && issued == 0 && is_at(place));
+    list[place].standard = largest;
+    CHECK(listed(list + place, ORDERS - place, room, &issued) == DITGRUX_COUNTER_FULL && issued == 0 && is_at(place));
+    list[place] = orders[place];
+    CHECK(listed(list + place, ORDERS - place, room, &issued) == DITGRUX_NO_ROOM && issued == 0 && is_at(place));
+    CHECK(listed(list + place, ORDERS - place, room - 1, &issued) == DITGRUX_BAD_STATE && issued == 0 && is_at(place));
+    CHECK(listed(list + place, ORDERS - place, length_at(ORDERS), &issued) == DITGRUX_DONE && issued == ORDERS - place && is_at(ORDERS));
+}
+
+/* The list in a buffer of every size. It issues the orders that fit as a whole and refuses the next with 13; in a larger buffer the list
+ * from there on issues the rest. 6 where the buffer is smaller than the journal was before. */
+static void rooms(void)
+{
+    size_t room, place = 0, issued;
+    go_to(0);
+    CHECK(listed(orders, ORDERS, length_at(0) - 1, &issued) == DITGRUX_BAD_STATE && issued == 0 && is_at(0));
+    CHECK(listed(orders, ORDERS, 0, &issued) == DITGRUX_BAD_STATE && issued == 0 && is_at(0));
+    for (room = length_at(0); room < length_at(ORDERS); room++) {
+        place += room == length_at(place + 1);
+        go_to(0);
+        CHECK(listed(orders, ORDERS, room, &issued) == DITGRUX_NO_ROOM && issued == place && is_at(place));
+        CHECK(listed(orders + place, ORDERS - place, length_at(ORDERS), &issued) == DITGRUX_DONE && issued == ORDERS - place);
+        CHECK(is_at(ORDERS));
+    }
+    CHECK(place == ORDERS - 1);
+}
+
+/* A list that is not a whole number of details issues none, not even those that are whole: 7, before 13. An empty one does nothing. */
+static void cut_lists(void)
+{
+    uint8_t list[ORDERS * DITGRUX_DETAILS];
+    size_t i, length, issued;
+    for (i = 0; i < ORDERS; i++)
+        ditgrux_pack_details(&orders[i], list + i * DITGRUX_DETAILS);
+    go_to(0);
+    for (length = 1; length < sizeof list; length++) {
+        if (length % DITGRUX_DETAILS == 0)
+            continue;
+        issued = SIZE_MAX;
+        CHECK(ditgrux_issue_list(state, sizeof state, list, length, journal, sizeof journal, &issued) == DITGRUX_NUMBER_NOT_ABOVE);
+        CHECK(issued == 0 && is_at(0));
+        issued = SIZE_MAX;
+        CHECK(ditgrux_issue_list(state, sizeof state, list, length, journal, length_at(0), &issued) == DITGRUX_NUMBER_NOT_ABOVE);
+        CHECK(issued == 0 && is_at(0));
+        issued = SIZE_MAX;
+        CHECK(ditgrux_issue_list(state, sizeof state, list, length, journal, length_at(0) - 1, &issued) == DITGRUX_BAD_STATE);
+        CHECK(issued == 0 && is_at(0));
+    }
+    for (i = 0; i <= ORDERS; i++) {
+        go_to(i);
+        CHECK(listed(orders, 0, sizeof journal, &issued) == DITGRUX_DONE && issued == 0 && is_at(i));
+        CHECK(listed(orders, 0, length_at(i), &issued) == DITGRUX_DONE && issued == 0 && is_at(i));
+        CHECK(listed(orders, 0, 0, &issued) == DITGRUX_DONE && issued == 0 && is_at(i));
+    }
+}
+
+/* Each kind, dates that go back, the last number that there is, and the largest amounts, in a register whose counter has five bytes and
+ * little room left: the fourth order fills it to the cent. */
+static void make_orders(void)
+{
+    uint8_t narrow[DITGRUX_SETTINGS];
+    struct ditgrux_details sale = details_of(3, DITGRUX_STANDARD, 0);
+    memcpy(narrow, settings, sizeof narrow);
+    put(narrow + 83, 8, 5);
+    memset(journal, 0xA5, sizeof journal);
+    CHECK(ditgrux_open(narrow, sizeof narrow, journal, sizeof journal, state, sizeof state) == DITGRUX_DONE);
+    issues(1);
+    sale.standard = sale.reduced_1 = sale.reduced_2 = sale.zero = sale.special = largest;
+    CHECK(ditgrux_issue_details(state, sizeof state, &sale, NULL, 0, journal, sizeof journal) == DITGRUX_DONE);
+
+    orders[0] = details_of(10, DITGRUX_STANDARD, 1);
+    orders[1] = details_of(11, DITGRUX_CANCELLATION, -1);
+    orders[1].year = 2030;
+    orders[2] = sale;
+    orders[2].kind = DITGRUX_TRAINING;
+    orders[2].number = 20;
+    orders[3] = details_of(21, DITGRUX_STANDARD, 0);
+    orders[3].special = full_counter - 5 * largest;
+    orders[4] = details_of(UINT32_MAX, DITGRUX_CANCELLATION, 0);
+    orders[4].standard = orders[4].reduced_1 = orders[4].reduced_2 = orders[4].zero = orders[4].special = -largest;
+    one_by_one();
+    CHECK(ditgrux_counter(states[0], DITGRUX_STATE) == 5 * largest && ditgrux_counter(states[4], DITGRUX_STATE) == full_counter);
+    CHECK(ditgrux_counter(states[ORDERS], DITGRUX_STATE) == full_counter - 5 * largest);
+    CHECK(ditgrux_receipts(states[ORDERS], DITGRUX_STATE) == 2 + ORDERS);
+    CHECK(ditgrux_last_number(states[ORDERS], DITGRUX_STATE) == UINT32_MAX);
+}
+
+static void lists(void)
+{
+    size_t place;
+    make_orders();
+    parts();
+    entries();
+    for (place = 0; place < ORDERS; place++) {
+        refused_ways(place);
+        one_after_the_other(place);
+    }
+    rooms();
+    cut_lists();
+}
+
+/* Five orders, numbered from this one on; the fourth is a training receipt. */
+static void numbered_from(uint32_t number)
+{
+    uint32_t i;
+    for (i = 0; i < ORDERS; i++)
+        orders[i] = details_of(number + i, i == 3 ? DITGRUX_TRAINING : DITGRUX_STANDARD, 1 + (int64_t)i);
+}
+
+/* Before the first receipt: the list must begin with the start receipt. 10 is asked of the first receipt of the register alone, and
+ * after 7, 8 and 9. */
+static void lists_before_start(void)
+{
+    static const uint32_t kinds[] = {DITGRUX_STANDARD, DITGRUX_CANCELLATION, DITGRUX_TRAINING};
+    struct ditgrux_details wrong;
+    const size_t place = 0;
+    uint32_t i;
+    fresh();
+    numbered_from(1);
+    orders[0] = details_of(1, DITGRUX_STANDARD, 0);
+    for (i = 1; i < 4; i++) /* five zeros again, of each kind */
+        orders[i] = details_of(1 + i, kinds[i - 1], 0);
+    one_by_one();
+    parts();
+    entries();
+    for (i = 0; i < 3; i++) {
+        wrong = details_of(1, kinds[i], 1);
+        refused_at(place, &wrong, DITGRUX_NO_START);
+        wrong = details_of(1, kinds[i], 0);
+        if (kinds[i] != DITGRUX_STANDARD)
+            refused_at(place, &wrong, DITGRUX_NO_START);
+        wrong.special = -1;
+        refused_at(place, &wrong, DITGRUX_NO_START);
+        wrong.special = largest + 1;
+        refused_at(place, &wrong, DITGRUX_BAD_AMOUNT);
+    }
+    WRONG(number, 0, DITGRUX_NUMBER_NOT_ABOVE);
+    WRONG(kind, 3, DITGRUX_NUMBER_NOT_ABOVE);
+    WRONG(hour, 24, DITGRUX_BAD_DATE);
+    rooms();
+    cut_lists();
+}
+
+/* Right after a change: the receipts name the new serial, and the count of the last pair rises by theirs. The pair before is as it was.
+ * A second list goes on counting. The change may come before the start receipt. */
+static void lists_after_change(void)
+{
+    uint8_t under[DITGRUX_SETTINGS], given[DITGRUX_SIGNATURE];
+    struct ditgrux_details found;
+    size_t place, before, issued, wrote;
+    fresh();
+    issues(1);
+    issues(2);
+    changes_to("3c4d5e");
+    place = number_at(state + PLACE_AT, 8);
+    before = journal_length();
+    numbered_from(3);
+    one_by_one();
+    parts();
+    entries();
+    go_to(0);
+    keep();
+    CHECK(listed(orders, 2, sizeof journal, &issued) == DITGRUX_DONE && issued == 2);
+    CHECK(number_at(state + OPEN_AT, 4) == 2 && number_at(journal + place, 4) == 2 && number_at(state + PLACE_AT, 8) == place);
+    CHECK(listed(orders + 2, 3, sizeof journal, &issued) == DITGRUX_DONE && issued == 3);
+    CHECK(number_at(state + OPEN_AT, 4) == 5 && number_at(journal + place, 4) == 5 && number_at(state + PLACE_AT, 8) == place);
+    CHECK(memcmp(journal, twin, place) == 0 && memcmp(state, other, 403) == 0 && ditgrux_receipts(state, sizeof state) == 7);
+    CHECK(ditgrux_counter(state, sizeof state) == 45 * (1 + 1 + 2 + 3 + 5));
+    CHECK(ditgrux_settings_in(state, sizeof state, 0, under, sizeof under) == DITGRUX_DONE); /* not under the old serial */
+    CHECK(ditgrux_read_details(under, sizeof under, journal + before + 2, number_at(journal + before, 2), &found, given, &wrote) ==
+          DITGRUX_ENTRY_MISSPELLED);
+    CHECK(gives_state() && ditgrux_serials(other, sizeof other) == 2);
+
+    fresh();
+    changes_to("3c4d5e");
+    numbered_from(1);
+    orders[0] = details_of(1, DITGRUX_STANDARD, 0);
+    one_by_one();
+    parts();
+    entries();
+}
+
+/* Three hundred receipts in one call: what three hundred calls leave, although the count no longer fits a byte. */
+static void long_list(void)
+{
+    enum { MANY = 300 };
+    static uint8_t list[MANY * DITGRUX_DETAILS], long_journal[MANY * DITGRUX_LONGEST_ENTRY], long_twin[MANY * DITGRUX_LONGEST_ENTRY];
+    struct ditgrux_details details;
+    size_t issued = SIZE_MAX, length;
+    uint32_t i, index;
+    memset(long_twin, 0xA5, sizeof long_twin);
+    CHECK(ditgrux_open(settings, sizeof settings, long_twin, sizeof long_twin, state, sizeof state) == DITGRUX_DONE);
+    memcpy(other, state, sizeof state);
+    memcpy(long_journal, long_twin, sizeof long_journal);
+    for (i = 0; i < MANY; i++) {
+        details = details_of(1 + i * 1000, i % 3, i ? (int64_t)i - 100 : 0);
+        ditgrux_pack_details(&details, list + i * DITGRUX_DETAILS);
+        CHECK(ditgrux_issue_details(other, sizeof other, &details, NULL, 0, long_twin, sizeof long_twin) == DITGRUX_DONE);
+    }
+    CHECK(ditgrux_issue_list(state, sizeof state, list, sizeof list, long_journal, sizeof long_journal, &issued) == DITGRUX_DONE);
+    CHECK(issued == MANY && memcmp(state, other, sizeof state) == 0 && memcmp(long_journal, long_twin, sizeof long_journal) == 0);
+    length = journal_length();
+    CHECK(taken_over(long_journal, length, &index) == DITGRUX_DONE && memcmp(state, other, sizeof state) == 0);
+    CHECK(ditgrux_receipts(state, sizeof state) == MANY && number_at(long_journal + number_at(state + PLACE_AT, 8), 4) == MANY);
+}
+
+/* Where power fails after a list, be the pair of its receipts new or not. */
+static void power_cut_in_list(int changed)
+{
+    uint32_t index, before;
+    size_t stored, covered = 0, place, forms, issued;
+    fresh();
+    issues(1);
+    if (changed)
+        changes_to("1a2c");
+    else
+        issues(2);
+    numbered_from(3);
+    one_by_one();
+    before = ditgrux_receipts(state, sizeof state);
+    place = number_at(state + PLACE_AT, 8);
+    CHECK(listed(orders, ORDERS, sizeof journal, &issued) == DITGRUX_DONE);
+    /* the entries are stored, or a part of them, the count is not: the old journal */
+    for (stored = length_at(0); stored <= length_at(ORDERS); stored++) {
+        memcpy(twin, journals[0], sizeof journal);
+        memcpy(twin + length_at(0), journal + length_at(0), stored - length_at(0));
+        CHECK(taken_over(twin, length_at(0), &index) == DITGRUX_DONE && memcmp(other, states[0], sizeof other) == 0);
+    }
+    /* the same list again, from the state that this wrote, leaves the same bytes */
+    memcpy(state, other, sizeof state);
+    memcpy(journal, twin, sizeof journal);
+    CHECK(listed(orders, ORDERS, sizeof journal, &issued) == DITGRUX_DONE && issued == ORDERS && is_at(ORDERS));
+    /* the entries and the count are stored, the length is not: 15 at the first entry that the length does not cover */
+    for (stored = length_at(0); stored < length_at(ORDERS); stored++) {
+        covered += stored == length_at(covered + 1);
+        CHECK(taken_over(journal, stored, &index) == DITGRUX_ENTRY_CUT && index == before + covered);
+    }
+    CHECK(covered == ORDERS - 1);
+    /* the walk with the old length finds the new one, and with it the journal is accepted */
+    CHECK(walk(journal, length_at(0), &forms) == length_at(ORDERS) && forms == before + ORDERS);
+    /* all but the state are stored: the new state, with all receipts of the list */
+    CHECK(taken_over(journal, length_at(ORDERS), &index) == DITGRUX_DONE && memcmp(other, states[ORDERS], sizeof other) == 0);
+    /* the old state is sound, and its next receipt writes over the first of the list; the count says one */
+    memcpy(state, states[0], sizeof state);
+    CHECK(listed(orders + 1, 1, sizeof journal, &issued) == DITGRUX_DONE && issued == 1);
+    CHECK(memcmp(journal + length_at(0), journals[ORDERS] + length_at(0), length_at(1) - length_at(0)) != 0);
+    CHECK(number_at(journal + place, 4) == (changed ? 1 : before + 1) && gives_state());
+}
+
+/* The values of the fields in turn `i`: in as many turns as there are values each field has each of them. */
+#define NUMBER(field) numbers[(i + (field)) % NUMBERS]
+#define AMOUNT(field) amounts[(i + (field)) % AMOUNTS]
+
+/* Packed details have the layout of the header, are 72 bytes and no more, and come back, whatever their values. */
+static void packing(void)
+{
+    static const uint32_t numbers[] = {0, 1, 0x01020304, 0x7FFFFFFF, 0x80000000, UINT32_MAX};
+    static const int64_t amounts[] = {0, 1, -1, 0x0102030405060708, INT64_MAX, INT64_MIN, -99999999999};
+    enum { NUMBERS = sizeof numbers / sizeof numbers[0], AMOUNTS = sizeof amounts / sizeof amounts[0] };
+    uint8_t bytes[DITGRUX_DETAILS + 2];
+    struct ditgrux_details d, back;
+    int i, j;
+    for (i = 0; i < NUMBERS * AMOUNTS; i++) {
+        d.number = NUMBER(0);
+        d.year = NUMBER(1);
+        d.month = NUMBER(2);
+        d.day = NUMBER(3);
+        d.hour = NUMBER(4);
+        d.minute = NUMBER(5);
+        d.second = NUMBER(6);
+        d.kind = NUMBER(7);
+        d.standard = AMOUNT(0);
+        d.reduced_1 = AMOUNT(1);
+        d.reduced_2 = AMOUNT(2);
+        d.zero = AMOUNT(3);
+        d.special = AMOUNT(4);
+        memset(bytes, 0xA5, sizeof bytes);
+        ditgrux_pack_details(&d, bytes + 1);
+        CHECK(bytes[0] == 0xA5 && bytes[1 + DITGRUX_DETAILS] == 0xA5);
+        for (j = 0; j < 8; j++)
+            CHECK(number_at(bytes + 1 + 4 * j, 4) == NUMBER(j));
+        for (j = 0; j < 5; j++)
+            CHECK(number_at(bytes + 33 + 8 * j, 8) == (uint64_t)AMOUNT(j));
+        back = ditgrux_details_in(bytes + 1);
+        CHECK(same_details(&back, &d));
+    }
+}
+
 int main(void)
 {
     CHECK(make_settings(sizeof key, sizeof settings, settings) == DITGRUX_DONE);
@@ -926,5 +1413,12 @@ int main(void)
     power_cut_in_change();
     shared();
     lines();
+    packing();
+    lists();
+    lists_before_start();
+    lists_after_change();
+    long_list();
+    power_cut_in_list(0);
+    power_cut_in_list(1);
     return failures ? 1 : 0;
 }

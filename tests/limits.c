@@ -18,8 +18,8 @@ static const uint8_t signature[DITGRUX_SIGNATURE] = "no signature of any device,
 static const uint8_t name[DITGRUX_LONGEST_NAME + 1] = "0123456789abcdef0123456789abcdef";
 static ucontext_t home, away;
 static uint32_t number, answer, index_;
-static size_t length, start, form_start, form_length, code_length, line_length, room, cut, more;
-static uint8_t serial[DITGRUX_LONGEST_NAME];
+static size_t length, start, form_start, form_length, code_length, line_length, list_length, issued, room, cut, more;
+static uint8_t serial[DITGRUX_LONGEST_NAME], list[RECEIPTS * DITGRUX_DETAILS];
 static uint8_t hash[DITGRUX_HASH], given[DITGRUX_SIGNATURE], form[DITGRUX_LONGEST_COMPACT], text[1024];
 
 static void nothing(void) {}
@@ -54,6 +54,11 @@ static void issue(void)
 {
     answer = ditgrux_issue(state, sizeof state, number, 2099, 12, 31, 23, 59, 59, cents(), cents(), cents(), cents(), cents(), DITGRUX_STANDARD,
                            signature, sizeof signature, journal, room);
+}
+
+static void issue_list(void)
+{
+    answer = ditgrux_issue_list(state, sizeof state, list, list_length - cut, journal, room, &issued);
 }
 
 static void take_over(void)
@@ -316,6 +321,63 @@ static int refusals(void)
     return bad + measure("issue", issue, DITGRUX_BAD_STATE);
 }
 
+/* A register with its start receipt, and a list of the longest receipts that can be issued without a signature. */
+static void make_list(void)
+{
+    struct ditgrux_details details = {0, 2099, 12, 31, 23, 59, 59, DITGRUX_STANDARD, 0, 0, 0, 0, 0};
+    uint32_t i;
+    room = sizeof journal;
+    open_register();
+    memcpy(state, again, sizeof state);
+    number = 1;
+    issue();
+    details.standard = details.reduced_1 = details.reduced_2 = details.zero = details.special = -99999999999;
+    for (i = 0; i < RECEIPTS; i++) {
+        details.number = UINT32_MAX - RECEIPTS + 1 + i;
+        ditgrux_pack_details(&details, list + i * DITGRUX_DETAILS);
+    }
+    list_length = sizeof list;
+}
+
+/* A list call that must give this number and issue so many. */
+static int measure_list(uint32_t expected, size_t count)
+{
+    issued = SIZE_MAX;
+    return measure("list", issue_list, expected) + (issued != count);
+}
+
+/* Lists: refused at the first receipt, cut, empty, issued in part, and issued to the end, a single receipt and many. */
+static int lists(void)
+{
+    enum { UNSIGNED = DITGRUX_LONGEST_ENTRY - 40 }; /* the text of a failed device is 40 letters shorter than a signature */
+    size_t before;
+    int bad = 0;
+    make_list();
+    before = ditgrux_journal_length(state, sizeof state);
+    room = before - 1;
+    bad += measure_list(DITGRUX_BAD_STATE, 0);
+    cut = 1;
+    bad += measure_list(DITGRUX_BAD_STATE, 0);
+    room = sizeof journal;
+    bad += measure_list(DITGRUX_NUMBER_NOT_ABOVE, 0);
+    cut = list_length;
+    bad += measure_list(0, 0);
+    cut = 0;
+    room = before;
+    bad += measure_list(DITGRUX_NO_ROOM, 0);
+    room = before + 2 * UNSIGNED + UNSIGNED - 1;
+    bad += measure_list(DITGRUX_NO_ROOM, 2) + (ditgrux_journal_length(state, sizeof state) != before + 2 * UNSIGNED);
+    room = sizeof journal;
+    bad += measure_list(DITGRUX_NUMBER_NOT_ABOVE, 0); /* from its first receipt on, again */
+    make_list();
+    cut = list_length - DITGRUX_DETAILS;
+    bad += measure_list(0, 1) + exactly("unsigned", ditgrux_journal_length(state, sizeof state) - before, UNSIGNED);
+    cut = 0;
+    make_list();
+    bad += measure_list(0, RECEIPTS) + (ditgrux_journal_length(state, sizeof state) != before + RECEIPTS * UNSIGNED);
+    return bad + measure("take over", take_over, 0);
+}
+
 /* A change to a serial with this first letter. */
 static int change_to(uint8_t letter, uint32_t expected)
 {
@@ -387,6 +449,6 @@ int main(void)
     int bad;
     room = sizeof journal;
     bad = longest();
-    bad += refusals() + texts() + lines() + changes();
+    bad += refusals() + texts() + lines() + lists() + changes();
     return bad ? EXIT_FAILURE : EXIT_SUCCESS;
 }
