@@ -121,6 +121,11 @@ module _ {list b₀ : List ℕ} {s₀ : State} {b : List ℕ} {s : State} {at i 
             buffer = buffer-more s d ds b b₁ a (p .0) (p .1) z ∙ sym (ap (λ (xs : List Details). listBuffer s xs b) left-is) ∙ l .buffer;
           }
 
+-- the state that the loop starts from is the one that was given
+pub from-state : {s st : State} (ds : List Details) (b₀ : List ℕ) {r : IssuedList} {b : List ℕ} → s ≡ st → (r ≡ issuedList s ds b₀) × (b ≡ listBuffer s ds b₀)
+    → (r ≡ issuedList st ds b₀) × (b ≡ listBuffer st ds b₀)
+from-state ds b₀ e p = (p .0 ∙ ap (λ (x : State). issuedList x ds b₀) e, p .1 ∙ ap (λ (x : State). listBuffer x ds b₀) e)
+
 -- ---- a list that is cut within details
 
 module _ (st : State) where
@@ -128,13 +133,14 @@ module _ (st : State) where
   cut-refused : (room : ℕ) → issueNumber st noDetails [] room ≡ 0 → ⊥
   cut-refused room z = omega (arith, ask-zero (sound st room) 5 7 (sym (no-details-number st [] room) ∙ z) .1)
 
-  pub none-issued : (buf : List ℕ) {d : Details} {a : Issued} {b : List ℕ} → d ≡ noDetails → (a ≡ issued st d [] (length buf)) × (b ≡ issueBuffer st d [] buf)
-      → (record { number = a .number; count = 0; state = st } ≡ issuedList st (noDetails ∷ []) buf) × (b ≡ buf)
-  none-issued buf {a = a} e p =
+  pub none-issued : (buf : List ℕ) {s : State} {d : Details} {a : Issued} {b : List ℕ} → st ≡ s → d ≡ noDetails
+      → (a ≡ issued st d [] (length buf)) × (b ≡ issueBuffer st d [] buf)
+      → (record { number = a .number; count = 0; state = st } ≡ issuedList s (noDetails ∷ []) buf) × (b ≡ buf)
+  none-issued buf {a = a} f e p =
       let q : a .number ≡ issueNumber st noDetails [] (length buf) =
       ap (λ (x : Issued). x .number) (p .0) ∙ ap (λ (x : Details). issued st x [] (length buf) .number) e ∙ issued-number st noDetails [] (length buf) in
       let r = cut-refused (length buf) in (
-        ap (λ (m : ℕ). answerWith m 0 st) q ∙ sym (answer-no _ st noDetails [] buf r),
+        ap (λ (m : ℕ). answerWith m 0 st) q ∙ sym (answer-no _ st noDetails [] buf r) ∙ ap (λ (x : State). issuedList x (noDetails ∷ []) buf) f,
         p .1 ∙ ap (λ (x : Details). issueBuffer st x [] buf) e
             ∙ refused-changes-nothing .issues st noDetails [] buf (λ z. r (sym (issued-number st noDetails [] (length buf)) ∙ z)) .1,
       )
@@ -168,17 +174,16 @@ module _ (list : List ℕ) where
 
 -- ---- the call from C
 
-pub list-is : (g : Slices) (list : List ℕ) {st : State} {a : IssuedList} {j b : List ℕ} → st ≡ stateOf (g .state)
-    → (a ≡ issuedList st (listIn list) (g .journal)) × (j ≡ listBuffer st (listIn list) (g .journal)) → b ≡ kept (g .state) (a .state)
+pub list-is : (g : Slices) (list : List ℕ) {a : IssuedList} {j b : List ℕ}
+    → (a ≡ issuedList (stateOf (g .state)) (listIn list) (g .journal)) × (j ≡ listBuffer (stateOf (g .state)) (listIn list) (g .journal)) → b ≡ kept (g .state) (a .state)
     → (a .number ≡ listedNumber g list) × (b ≡ listedSlices g list .state) × (j ≡ listedSlices g list .journal) × (a .count ≡ listedCount g list)
 unfolding listedNumber listedCount listedSlices listAnswer
-list-is g list {a = a} es p q =
-    let e : a ≡ listAnswer g list = p .0 ∙ ap (λ (x : State). issuedList x (listIn list) (g .journal)) es in (
-      ap (λ (x : IssuedList). x .number) e,
-      q ∙ ap (λ (x : IssuedList). kept (g .state) (x .state)) e,
-      p .1 ∙ ap (λ (x : State). listBuffer x (listIn list) (g .journal)) es,
-      ap (λ (x : IssuedList). x .count) e,
-    )
+list-is g list p q = (
+  ap (λ (x : IssuedList). x .number) (p .0),
+  q ∙ ap (λ (x : IssuedList). kept (g .state) (x .state)) (p .0),
+  p .1,
+  ap (λ (x : IssuedList). x .count) (p .0),
+)
 
 -- ---- a call that issues none
 

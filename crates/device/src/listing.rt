@@ -5,22 +5,24 @@ use super::details::no_details;
 use super::layout::keep;
 use super::layout::state_of;
 use journal::IssuedList;
-use journal::State;
 ghost use mathlib.Core.Path.{_≡_};
 ghost use mathlib.Core.List.{[], _∷_};
 ghost use Prim.Native.Nat.{_/_, _%_};
 ghost use lib.ListN.{length};
 ghost use Rattle.journal.specs.Listing.{issuedList, listBuffer};
+ghost use Rattle.device.specs.Layout.{stateOf};
 ghost use Rattle.device.specs.Details.{noDetails, detailsFrom, listIn};
 ghost use Rattle.device.specs.Calls.{slicesWith, listedNumber, listedCount, listedSlices};
 
-// Issues the receipts of a whole number of details, in order, up to the first that is refused.
-fn issue_each(st: State, list: &[u8], buf: &mut [u8]) -> IssuedList
+// Issues the receipts of a whole number of details, in order, up to the first that is refused. It is given the state as bytes: each copy of a whole
+// state lies on the stack.
+fn issue_each(state: &[u8], list: &[u8], buf: &mut [u8]) -> IssuedList
     requires { ⌜ length (now list) % 72 ≡ 0 ⌝ }
     ensures { λ r. let ds : _ = detailsFrom (length (now (list .entry)) / 72) (now (list .entry)) in
+        let st : _ = stateOf (now (state .entry)) in
         ⌜ (r ≡ issuedList st ds (now (buf .entry))) × (now (buf .exit) ≡ listBuffer st ds (now (buf .entry))) ⌝ }
 {
-    let mut s = st;
+    let mut s = state_of(state);
     let mut at: usize = 0;
     let mut i: usize = 0;
     while at < list.len() {
@@ -46,10 +48,11 @@ fn issue_each(st: State, list: &[u8], buf: &mut [u8]) -> IssuedList
 }
 
 // Issues none, for a list that is cut within details: the number of a receipt without a number.
-fn issue_none(st: State, buf: &mut [u8]) -> IssuedList
+fn issue_none(state: &[u8], buf: &mut [u8]) -> IssuedList
     ensures { λ r.
-        ⌜ (r ≡ issuedList st (noDetails ∷ []) (now (buf .entry))) × (now (buf .exit) ≡ now (buf .entry)) ⌝ }
+        ⌜ (r ≡ issuedList (stateOf (now (state .entry))) (noDetails ∷ []) (now (buf .entry))) × (now (buf .exit) ≡ now (buf .entry)) ⌝ }
 {
+    let st = state_of(state);
     let d = no_details();
     let one = journal::issue_failed(st, d, buf);
     IssuedList {
@@ -60,14 +63,15 @@ fn issue_none(st: State, buf: &mut [u8]) -> IssuedList
 }
 
 // Issues the receipts of a list, in order, up to the first that is refused.
-fn issue_bytes(st: State, list: &[u8], buf: &mut [u8]) -> IssuedList
+fn issue_bytes(state: &[u8], list: &[u8], buf: &mut [u8]) -> IssuedList
     ensures { λ r. let ds : _ = listIn (now (list .entry)) in
+        let st : _ = stateOf (now (state .entry)) in
         ⌜ (r ≡ issuedList st ds (now (buf .entry))) × (now (buf .exit) ≡ listBuffer st ds (now (buf .entry))) ⌝ }
 {
     if list.len() % DETAILS != 0 {
-        return issue_none(st, buf);
+        return issue_none(state, buf);
     }
-    issue_each(st, list, buf)
+    issue_each(state, list, buf)
 }
 
 // Issues the receipts of a list and writes the new state. Questions 6 to 11 and 13 for each.
@@ -85,8 +89,7 @@ pub extern "C" fn ditgrux_issue_list(
         × (now (journal .exit) ≡ listedSlices g (now (list .entry)) .journal)
         × (now (issued .exit) ≡ listedCount g (now (list .entry))) ⌝ }
 {
-    let st = state_of(state);
-    let answer = issue_bytes(st, list, journal);
+    let answer = issue_bytes(state, list, journal);
     let after = answer.state;
     keep(after, state);
     *issued = answer.count;

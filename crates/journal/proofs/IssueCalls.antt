@@ -23,6 +23,7 @@ use Rattle.receipt.specs.Compact.{signatureText, compact, signingInput, prepare
 use Rattle.receipt.specs.declared.settings.Settings.{Settings}
 use Rattle.receipt.specs.declared.details.Kind.{Kind}
 use Rattle.receipt.specs.declared.details.Kind.the-variants.{Standard}
+use Rattle.receipt.specs.declared.settings.Name.{Name}
 use Rattle.receipt.specs.declared.details.Details.{Details}
 use Rattle.receipt.specs.declared.details.After.{After}
 use Rattle.receipt.specs.declared.payload.PayloadFields.{PayloadFields}
@@ -66,18 +67,24 @@ module _ (st : State) (d : Details) {k : ℕ} (e : k ≡ detailsNumber st d 0) (
 
 -- ---- the counter field
 
-pub encrypted-is : (st : State) (d : Details) {k : List (List ℕ)} {a : After} {z : ℤ} {r : List ℕ} → k ≡ keySchedule (st .key) → a ≡ newCounter st d
-    → z ≡ a .counter → r ≡ encryptedCounter k (st .id) (d .number) (st .width) z
-    → r ≡ encryptedCounter (keySchedule (st .key)) (st .id) (d .number) (st .width) (newCounter st d .counter)
-encrypted-is st d e q f h =
-    let p = f ∙ ap (λ (x : After). x .counter) q in
-    h ∙ (λ i. encryptedCounter (e i) (st .id) (d .number) (st .width) (p i))
+pub encrypted-is : (key : List ℕ) (id : Name) (number width : ℕ) {k : List (List ℕ)} {y z : ℤ} {r : List ℕ} → k ≡ keySchedule key → y ≡ z
+    → r ≡ encryptedCounter k id number width y → r ≡ encryptedCounter (keySchedule key) id number width z
+encrypted-is key id number width e f h = h ∙ (λ i. encryptedCounter (e i) id number width (f i))
 
-pub field-standard : (st : State) (d : Details) {r : List ℕ} → d .kind ≡ Standard
-    → r ≡ encryptedCounter (keySchedule (st .key)) (st .id) (d .number) (st .width) (newCounter st d .counter) → r ≡ fieldsOf st d .counter
+pub field-standard : (kind : Kind) (key : List ℕ) (id : Name) (number width : ℕ) {y z : ℤ} {r : List ℕ} → kind ≡ Standard → y ≡ z
+    → r ≡ encryptedCounter (keySchedule key) id number width y → r ≡ cond (standard kind) (encryptedCounter (keySchedule key) id number width z) (replicate 8 0)
+field-standard kind key id number width {z = z} e f h =
+    h ∙ ap (encryptedCounter (keySchedule key) id number width) f
+    ∙ sym (ap (λ (k : Kind). cond (standard k) (encryptedCounter (keySchedule key) id number width z) (replicate 8 0)) e)
+
+pub fields-are : (st : State) (d : Details) {a : After} {y : ℤ} {r : List ℕ} → a ≡ newCounter st d → y ≡ a .counter
+    → r ≡ cond (standard (d .kind)) (encryptedCounter (keySchedule (st .key)) (st .id) (d .number) (st .width) y) (replicate 8 0)
+    → record { details = d; counter = r; chain = st .chain } ≡ fieldsOf st d
 unfolding fieldsOf
-field-standard st d e q =
-    q ∙ sym (ap (λ (k : Kind). cond (standard k) (encryptedCounter (keySchedule (st .key)) (st .id) (d .number) (st .width) (newCounter st d .counter)) (replicate 8 0)) e)
+fields-are st d e f h =
+    let p = f ∙ ap (λ (x : After). x .counter) e in
+    let q = h ∙ ap (λ (z : ℤ). cond (standard (d .kind)) (encryptedCounter (keySchedule (st .key)) (st .id) (d .number) (st .width) z) (replicate 8 0)) p in
+    λ i. record { details = d; counter = q i; chain = st .chain }
 
 -- ---- the signature
 

@@ -16,14 +16,15 @@ use receipt::Name;
 use receipt::PayloadFields;
 use receipt::Settings;
 ghost use mathlib.Core.Path.{_≡_};
-ghost use mathlib.Core.Bool.{true, _&&_};
+ghost use mathlib.Core.Bool.{true, cond, _&&_};
 ghost use Prim.Native.Nat.{_+_, _<_};
 ghost use lib.Dec.{leb};
-ghost use lib.ListN.{length};
+ghost use lib.ListN.{length, replicate};
 ghost use Rattle.primitives.specs.Counter.{counterFits};
 ghost use Rattle.primitives.specs.Aes.{keySchedule};
 ghost use Rattle.receipt.specs.Settings.{cspGood, idGood, settingsGood, nameText};
 ghost use Rattle.receipt.specs.Chain.{chainValue, encryptedCounter};
+ghost use Rattle.receipt.specs.Details.{standard};
 ghost use Rattle.journal.specs.Step.{fresh, countWithin, soundAlone, sound, firstGood, newCounter, detailsNumber, fieldsOf, next, renewNumber, renewed};
 ghost use Rattle.journal.specs.State.{used, serialsGood, settingsFirst, headLengthNow};
 
@@ -200,33 +201,41 @@ pub(crate) fn details_number(st: State, d: Details) -> u32
 
 // ---- the fields of the receipt
 
-// The counter after a receipt, encrypted.
-fn encrypted(st: State, d: Details) -> [u8; 8]
-    ensures { λ r. ⌜ r ≡ encryptedCounter (keySchedule (st .key)) (st .id) (d .number) (st .width) (newCounter st d .counter) ⌝ }
+// A counter, encrypted for a receipt with this number.
+fn encrypted(key: [u8; 32], id: Name, number: u32, width: usize, counter: i64) -> [u8; 8]
+    ensures { λ r. ⌜ r ≡ encryptedCounter (keySchedule key) id number width counter ⌝ }
 {
-    let id = st.id;
-    let key = st.key;
-    let after = new_counter(st, d);
     let schedule = receipt::counter_key(key);
-    receipt::encrypt_counter(&schedule, id, d.number, st.width, after.counter)
+    receipt::encrypt_counter(&schedule, id, number, width, counter)
 }
 
-// The counter field: on a standard receipt the encrypted counter.
-fn counter_field(st: State, d: Details) -> [u8; 8]
-    ensures { λ r. ⌜ r ≡ fieldsOf st d .counter ⌝ }
+// The counter field: on a standard receipt the encrypted counter, else eight zeros.
+fn counter_field(
+    kind: Kind,
+    key: [u8; 32],
+    id: Name,
+    number: u32,
+    width: usize,
+    counter: i64,
+) -> [u8; 8]
+    ensures { λ r. ⌜ r ≡ cond (standard kind) (encryptedCounter (keySchedule key) id number width counter) (replicate 8 0) ⌝ }
 {
-    let kind = d.kind;
     match kind {
-        Kind::Standard => encrypted(st, d),
+        Kind::Standard => encrypted(key, id, number, width, counter),
         Kind::Cancellation => [0u8; 8],
         Kind::Training => [0u8; 8],
     }
 }
 
+// What is handed on is parts of the state: each copy of a whole state lies on the stack.
 pub(crate) fn fields_of(st: State, d: Details) -> PayloadFields
     ensures { λ r. ⌜ r ≡ fieldsOf st d ⌝ }
 {
-    let counter = counter_field(st, d);
+    let kind = d.kind;
+    let key = st.key;
+    let id = st.id;
+    let after = new_counter(st, d);
+    let counter = counter_field(kind, key, id, d.number, st.width, after.counter);
     let chain = st.chain;
     PayloadFields {
         details: d,

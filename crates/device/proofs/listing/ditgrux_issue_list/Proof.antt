@@ -5,9 +5,6 @@ use borrow.Author.Needs.{needs}
 use Rattle.device.proofs.listing.ditgrux_issue_list.Statement.{statement}
 use Rattle.device.proofs.listing.ditgrux_issue_list.Tie as tie
 
-state-of-requires : tie.Need-state-of-requires
-state-of-requires c κs = search needs
-
 issue-bytes-requires : tie.Need-issue-bytes-requires
 issue-bytes-requires c κs = search needs
 
@@ -22,19 +19,9 @@ same-length-2 c = search needs
 
 returns : tie.Need-returns
 returns c =
-    let s = c .before .before .before .before .before .before .before .before .before .before .before .before .before .before .args in
-    list-is (slicesWith (s .state .now) (s .journal .now)) (s .list .now)
-    (c .before .before .before .before .before .before .before .before .before .state-of .ensures)
-    (c .before .before .before .before .before .before .before .issue-bytes .ensures)
-    (c .before .before .keep .ensures)
+    let s = c .before .before .before .before .before .before .before .before .before .before .before .before .before .args in
+    list-is (slicesWith (s .state .now) (s .journal .now)) (s .list .now) (c .before .before .before .before .before .before .before .issue-bytes .ensures) (c .before .before .keep .ensures)
 
 pub ditgrux-issue-list-spec : {M : Type 1} → statement M
 ditgrux-issue-list-spec =
-    tie.close
-    (tie.spec
-    state-of-requires
-    issue-bytes-requires
-    keep-requires
-    same-length
-    same-length-2
-    returns)
+    tie.close (tie.spec issue-bytes-requires keep-requires same-length same-length-2 returns)

@@ -2,19 +2,22 @@
 use Prim.Native.Nat.{_-_}
 use mathlib.Core.Path.{_∙_}
 use lib.ListN.{length}
-use Rattle.device.proofs.Lists.{Listing, listing-start, piece-there, piece-long, listing-stops, listing-more, listing-end}
+use Rattle.device.proofs.Lists.{Listing, from-state, listing-start, piece-there, piece-long, listing-stops, listing-more, listing-end}
 use borrow.Author.Needs.{needs}
 use Rattle.device.proofs.listing.issue_each.Statement.{statement}
 use Rattle.device.proofs.listing.issue_each.Tie as tie
 
 abbrev Inv-loop : tie.InvT-loop
-Inv-loop list buf₀ s₀ at₀ i₀ buf s at i = Listing list buf₀ s₀ buf s at i
+Inv-loop state list buf₀ s₀ at₀ i₀ buf s at i = Listing list buf₀ s₀ buf s at i
 
 abbrev μ-loop : tie.MeasureT-loop
-μ-loop list buf₀ s₀ at₀ i₀ buf s at i = length list - at
+μ-loop state list buf₀ s₀ at₀ i₀ buf s at i = length list - at
+
+state-of-requires : tie.Need-state-of-requires Inv-loop μ-loop
+state-of-requires c κs = search needs
 
 loop-holds : tie.Need-loop-holds Inv-loop μ-loop
-loop-holds c = listing-start _ _ _ (c .before .before .pre)
+loop-holds c = listing-start _ _ _ (c .before .before .before .before .pre)
 
 add-end : tie.Need-add-end Inv-loop μ-loop
 add-end c = search needs
@@ -38,10 +41,12 @@ same-length : tie.Need-same-length Inv-loop μ-loop
 same-length c = c .before .before .before .before .issue-failed .kept .1 .1 .0 ∙ c .before .before .before .before .before .before .before .before .before .loop .inv .long
 
 returns : tie.Need-returns Inv-loop μ-loop
-returns c = listing-stops (c .before .before .before .before .before .before .before .before .before .loop .inv) (c .before .before .before .before .before .before .before .before .loop-test .taken) (c .before .before .before .before .before .before .details-in .ensures) (c .before .before .before .before .issue-failed .ensures) (c .if1 .taken)
+returns c =
+    from-state _ _ (c .before .before .before .before .before .before .before .before .before .before .state-of .ensures)
+    (listing-stops (c .before .before .before .before .before .before .before .before .before .loop .inv) (c .before .before .before .before .before .before .before .before .loop-test .taken) (c .before .before .before .before .before .before .details-in .ensures) (c .before .before .before .before .issue-failed .ensures) (c .if1 .taken))
 
 add-i : tie.Need-add-i Inv-loop μ-loop
-add-i c = let p = c .before .before .before .before .before .before .before .before .before .before .loop .inv .place in search needs
+add-i c = let p = c .before .before .before .before .before .before .before .before .before .before .loop .inv in let l = c .before .before .before .before .before .before .before .before .before .loop-test .taken in let g = c .before .before .before .before .before .before .before .before .before .before .before .before .before .before .before .good .1 .0 in let m = p .place in search needs
 
 loop-less : tie.Need-loop-less Inv-loop μ-loop
 loop-less c = search needs
@@ -54,7 +59,7 @@ same-length-2 : tie.Need-same-length-2 Inv-loop μ-loop
 same-length-2 c = search needs
 
 returns-2 : tie.Need-returns-2 Inv-loop μ-loop
-returns-2 c = listing-end (c .before .loop .inv) (c .loop-test .left)
+returns-2 c = from-state _ _ (c .before .before .state-of .ensures) (listing-end (c .before .loop .inv) (c .loop-test .left))
 
 pub issue-each-spec : {M : Type 1} → statement M
 issue-each-spec =
@@ -62,6 +67,7 @@ issue-each-spec =
     (tie.spec
     Inv-loop
     μ-loop
+    state-of-requires
     loop-holds
     add-end
     sub-details-in

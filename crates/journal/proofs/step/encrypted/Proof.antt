@@ -7,9 +7,6 @@ use borrow.Author.Needs.{needs}
 use Rattle.journal.proofs.step.encrypted.Statement.{statement}
 use Rattle.journal.proofs.step.encrypted.Tie as tie
 
-new-counter-requires : tie.Need-new-counter-requires
-new-counter-requires c κs = search needs
-
 counter-key-requires : tie.Need-counter-key-requires
 counter-key-requires c κs = search needs
 
@@ -18,12 +15,9 @@ encrypt-counter-requires c κs = search needs
 
 returns : tie.Need-returns
 returns c =
-    let s = c .before .before .before .before .before .before .before .args in
-    let z = c .before .before .before .before .new-counter .result .counter in
-    let f : SFits w64 z = search needs in
-    encrypted-is (s .st) (s .d) (c .before .before .before .counter-key .ensures) (c .before .before .before .before .new-counter .ensures)
-    (toZ-ofZ w64 z f) (c .encrypt-counter .ensures)
+    let s = c .before .before .before .args in
+    let f : SFits w64 (s .counter) = search needs in
+    encrypted-is (s .key) (s .id) (s .number) (s .width) (c .before .before .counter-key .ensures) (toZ-ofZ w64 (s .counter) f) (c .encrypt-counter .ensures)
 
 pub encrypted-spec : {M : Type 1} → statement M
-encrypted-spec =
-    tie.close (tie.spec new-counter-requires counter-key-requires encrypt-counter-requires returns)
+encrypted-spec = tie.close (tie.spec counter-key-requires encrypt-counter-requires returns)
