@@ -32,8 +32,8 @@
  *   - No pointer is NULL, not even where its length is 0: pass any valid address. (The wrapper ditgrux_issue_details is the one
  *     exception.)
  *   - A pointer points to at least as many bytes as its length says.
- *   - The out pointers `length`, `start`, `index` and `issued` are not NULL and are aligned like any size_t or uint32_t. A NULL `index`
- *     crashes.
+ *   - The out pointers `length`, `start`, `index` and `issued` are not NULL and are aligned like any size_t or uint32_t. A NULL
+ *     `index` crashes.
  *   - No buffer that a call writes overlaps another buffer or out parameter of that call. So do not pass the settings or the
  *     serial as a part of a state that the same call writes.
  *
@@ -202,12 +202,13 @@ enum ditgrux_number {
  *    439      8  place of their count in the journal
  *
  * Any 447 bytes decode to a state; each state has exactly one encoding. Keep the state in flash, and keep it secret: it holds the
- * key. It is not trusted. Prepare, Issue and Change check it first and return DITGRUX_BAD_STATE if it is inconsistent: bad CSP, ID or
- * width; not one to eight good serials with zeros after them; a counter that does not fit the width; more receipts than the last
- * number, or more in the last pair than in all; a journal shorter than its head, or than the end of the last pair's count, or (Issue
- * and Change only) longer than its buffer. They cannot see that a bit of the key, the counter or the chain value has changed, nor
- * that a state is old: with a state from before the last receipt or change, Issue and Change write over what came after it, for
- * they read nothing of the journal. Compare the state with what ditgrux_take_over gives when the device starts.
+ * key. It is not trusted. Prepare, Issue, a list that is not empty, and Change check it first and return DITGRUX_BAD_STATE if it
+ * is inconsistent: bad CSP, ID or width; not one to eight good serials with zeros after them; a counter that does not fit the
+ * width; more receipts than the last number, or more in the last pair than in all; a journal shorter than its head, or than the
+ * end of the last pair's count, or (but for Prepare) longer than its buffer. They cannot see that a bit of the key, the counter
+ * or the chain value has changed, nor that a state is old: with a state from before the last receipt or change, Issue, a list and
+ * Change write over what came after it, for they read nothing of the journal. Compare the state with what ditgrux_take_over gives
+ * when the device starts.
  *
  * After DITGRUX_BAD_STATE the state's bytes are as they were before the call, in every function.
  *
@@ -405,14 +406,17 @@ uint32_t ditgrux_issue(uint8_t *state, size_t state_length, uint32_t number, uin
  * It does what ditgrux_issue does with each of the details and a signature of length 0, up to the first that is refused. That one and
  * those after it are not issued. An empty list issues nothing and returns DITGRUX_DONE, whatever the state is.
  *
+ * After the call the new entries lie in the journal one after the other, from its old length up to the new one.
+ *
  * *issued is the number of receipts issued, also where a later one is refused: it is then the place of the refused one in the list,
  * from 0. `state` and `journal` are as the last issued one left them; where none was issued, they are unchanged. So after a refusal
- * correct the one at *issued and call again with the list from there on.
+ * store the journal and the state, correct the one at *issued, and call again with the list from there on.
  *
  * Returns DITGRUX_DONE (all were issued), or the number with which ditgrux_issue refuses the first one that it refuses:
  * DITGRUX_BAD_STATE (then none was issued), DITGRUX_NUMBER_NOT_ABOVE (also if the kind is unknown), DITGRUX_BAD_DATE,
  * DITGRUX_BAD_AMOUNT, DITGRUX_NO_START, DITGRUX_COUNTER_FULL, or DITGRUX_NO_ROOM (the entry does not fit after the journal).
- * If list_length is not a multiple of 72, none is issued: it returns DITGRUX_BAD_STATE or else DITGRUX_NUMBER_NOT_ABOVE. */
+ * If list_length is not a multiple of 72, none is issued: it returns DITGRUX_BAD_STATE for a state that ditgrux_issue refuses so, and
+ * for any other DITGRUX_NUMBER_NOT_ABOVE. */
 uint32_t ditgrux_issue_list(uint8_t *state, size_t state_length, const uint8_t *list, size_t list_length, uint8_t *journal,
                             size_t journal_size, size_t *issued);
 
@@ -624,7 +628,7 @@ static inline void ditgrux_put_amount(uint8_t *bytes, int64_t amount)
     ditgrux_put_number(bytes + 4, (uint32_t)(uint64_t)amount);
 }
 
-/* Packs details into DITGRUX_DETAILS bytes, for a list that ditgrux_issue_list takes: number i of the list starts at byte
+/* Packs details into DITGRUX_DETAILS bytes, for a list that ditgrux_issue_list takes: the details at place i, from 0, start at byte
  * i * DITGRUX_DETAILS. ditgrux_details_in gives them back. */
 static inline void ditgrux_pack_details(const struct ditgrux_details *details, uint8_t *bytes)
 {

@@ -21,12 +21,13 @@ use Rattle.receipt.specs.Amount.{amountLimit}
 use Rattle.receipt.specs.Details.{amountsWithin}
 use Rattle.receipt.specs.Compact.{compact, noEntry}
 use Rattle.receipt.specs.declared.settings.Name.{Name}
+use Rattle.receipt.specs.declared.details.Details.{Details}
 use Rattle.receipt.specs.declared.settings.Settings.{Settings}
 use Rattle.receipt.specs.declared.entry.Entry.{Entry}
 use Rattle.journal.specs.Head.{head, headSettings, headGood, entryText, pairStart, textAt, startThere}
 use Rattle.journal.specs.State.{sameName, used, inEight, isIn, allGood, settingsNow}
 use Rattle.journal.specs.Step.{fresh, sound, numberAbove, firstGood, newCounter, detailsNumberWithin, next, renewed, renewNumber}
-use Rattle.journal.specs.Issuing.{signatureSized, entryFits, textOf, issueNumberWithin}
+use Rattle.journal.specs.Issuing.{issueNumber, signatureSized, entryFits, textOf, issueNumberWithin}
 use Rattle.journal.specs.Changing.{changeNumber, changed, changeBuffer}
 use Rattle.journal.specs.Checking.{headNumber, found, after, entryNumber, checked, stopped, placeChecked, startNumber, startChecked, full, oneStep, steps, refused, accepted, lastAnswer, takeOver}
 use Rattle.journal.specs.Certificates.{EachGood, GoodSerials, SerialsGoodExactly, ChangeAsks6AsIssue, BadSerialGets3, OneOf, UsedSerialGets30, NinthSerialGets31, NoRoomGets13, SerialAdded, ChangeAddsSerial, ChangeAppends, ChangeTouchesNoOther, ChangedSerialIsSpelled, RunsOn, ChangeRunsOn, oneStepBefore, stepsBefore, takeOverBefore, OneSectionAsBefore}
@@ -165,11 +166,17 @@ not-in s ns h = bool-no (isIn s ns) (λ e. h (in-one s ns e))
 in-none : (s : Name) (ns : List Name) → isIn s ns ≡ false → OneOf s ns → ⊥
 in-none s ns e h = true-is-not-false (sym e ∙ one-in s ns h)
 
+pub issue-six : (st : State) (d : Details) (sig : List ℕ) (room : ℕ) → issueNumber st d sig room ≡ 6 → sound st room ≡ false
+unfolding issueNumberWithin detailsNumberWithin
+issue-six st d sig room z =
+    issue-row (sound st room) (numberAbove st d) (dateGood (d .date)) (amountsWithin amountLimit (d .amounts)) (firstGood st d) (newCounter st d .fits) (signatureSized sig)
+    (entryFits st (textOf st d sig) room) z
+
 pub change-asks-6-as-issue : ChangeAsks6AsIssue
 unfolding changeNumber renewNumber issueNumberWithin detailsNumberWithin ask
 change-asks-6-as-issue st serial d sig room = (
   (λ z. rw (row-6 (sound st room) (serialGood serial) (isIn serial (used (st .serials))) (ltb (length (used (st .serials))) 8) (leb (st .length + (8 + serial .len)) room) z)),
-  (λ z. rw (issue-row (sound st room) (numberAbove st d) (dateGood (d .date)) (amountsWithin amountLimit (d .amounts)) (firstGood st d) (newCounter st d .fits) (signatureSized sig) (entryFits st (textOf st d sig) room) z)),
+  (λ z. rw (issue-six st d sig room z)),
 )
 
 pub bad-serial-gets-3 : BadSerialGets3

@@ -34,6 +34,7 @@ pub mod Registers
 pub mod Sections
 pub mod Serials
 pub mod SharedKey
+pub mod SoundLists
 pub mod Starting
 pub mod Stepping
 pub mod Touching

@@ -76,7 +76,7 @@ module _ (st : State) (d : Details) (sig buf : List ℕ) where
   unfolding issuedWithin next
   place-stays z = ap countPlaceNow (ifZero-yes (next st d (textOf st d sig)) st z)
 
-  longer : issueNumber st d sig (length buf) ≡ 0 → issued st d sig (length buf) .state .length ≡ st .length + length (entryText (textOf st d sig))
+  pub longer : issueNumber st d sig (length buf) ≡ 0 → issued st d sig (length buf) .state .length ≡ st .length + length (entryText (textOf st d sig))
   longer z = let f = form-is-appended st d sig buf z .0 in omega (arith, f, length-entry (textOf st d sig))
 
   -- the buffer is as long as it was

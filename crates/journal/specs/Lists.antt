@@ -48,6 +48,10 @@ abbrev pub EmptyListChangesNothing : Type 0
 EmptyListChangesNothing =
     (st : State) (buf : List ℕ) → (issuedList st [] buf ≡ record { number = 0; count = 0; state = st }) × (listBuffer st [] buf ≡ buf)
 
+-- 6 is answered of the state that was given: no later receipt gets it, since each that is issued leaves a sound state
+abbrev pub SixIssuesNone : Type 0
+SixIssuesNone = (st : State) (ds : List Details) (buf : List ℕ) → issuedList st ds buf .number ≡ 6 → issuedList st ds buf .count ≡ 0
+
 -- it writes the new entries, rewrites the count of the open section, and touches no other byte
 abbrev pub ListTouchesNoOther : Type 0
 ListTouchesNoOther =
