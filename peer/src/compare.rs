@@ -6,6 +6,7 @@ use std::fmt::Debug;
 use crate::calls::{Calls, Listed, Part, Peer, TakenOver, Written};
 use crate::code::LONGEST_CODE;
 use crate::device::Library;
+use crate::layout::DETAILS;
 use crate::line::LONGEST_ANY_LINE;
 use crate::receipt::Details;
 use crate::text::hex;
@@ -298,6 +299,8 @@ impl Compare {
         let (held, written) = (after[0].get(), after[2].get());
         let unchanged = held == state && written == journal;
         demand(listed.issued > 0 || unchanged, "none issued, and a buffer is changed", list)?;
+        let all = listed.issued * DETAILS == list.len();
+        demand(all == (listed.number == 0), "all are issued, or there is a number", list)?;
         state.copy_from_slice(held);
         journal.copy_from_slice(written);
         Ok(listed)
