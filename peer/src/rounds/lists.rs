@@ -77,8 +77,7 @@ impl Round<'_> {
     /// A list of good receipts, and lists made of it: with a refused receipt at every place, into a buffer that is full at every
     /// place, cut, empty, and from bad states.
     pub(super) fn lists_by_design(&mut self) -> Compared<()> {
-        let receipts = self.random.pick(&[MOST, 1 + self.random.below(MOST)]);
-        let design = self.list_near_the_end(receipts)?;
+        let design = self.list_near_the_end(1 + self.random.below(MOST))?;
         self.refused_at_every_place(&design)?;
         self.full_at_every_place(&design)?;
         self.shorter_after_a_longer()?;
@@ -341,7 +340,7 @@ impl Round<'_> {
         let mut state = self.garbage(STATE);
         self.compare.open(&settings_bytes(&settings), &mut journal, &mut state)?;
         let mut receipts = Vec::new();
-        for _ in 0..3 {
+        for _ in 0..4 {
             match self.random.below(3) {
                 0 => self.change_to_another(&mut state, &mut journal)?,
                 1 => receipts.extend(self.next_of_a_list(&mut state, &mut journal)?),
