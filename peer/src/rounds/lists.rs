@@ -77,7 +77,8 @@ impl Round<'_> {
     /// A list of good receipts, and lists made of it: with a refused receipt at every place, into a buffer that is full at every
     /// place, cut, empty, and from bad states.
     pub(super) fn lists_by_design(&mut self) -> Compared<()> {
-        let design = self.list_near_the_end(1 + self.random.below(MOST))?;
+        let most = self.random.pick(&[MOST / 2, MOST]);
+        let design = self.list_near_the_end(1 + self.random.below(most))?;
         self.refused_at_every_place(&design)?;
         self.full_at_every_place(&design)?;
         self.shorter_after_a_longer()?;
@@ -120,7 +121,7 @@ impl Round<'_> {
         (0..receipts).map(|_| next()).collect()
     }
 
-    /// The single calls of a list of good receipts, each with an empty signature.
+    /// The single calls of a list of good receipts, each with an empty signature. The buffer is then cut near its last byte.
     fn single_calls(
         &mut self,
         mut state: Vec<u8>,
@@ -134,6 +135,8 @@ impl Round<'_> {
             demand(number == 0, "a good receipt is issued", &state)?;
             after.push((state.clone(), journal.clone()));
         }
+        let room = state_of(&state).journal_length as usize + self.random.below(4);
+        after.iter_mut().for_each(|(_, journal)| journal.truncate(room));
         Ok(Design { list, after, end })
     }
 
@@ -262,9 +265,8 @@ impl Round<'_> {
         let (state, journal) = &design.after[0];
         let (bad, other, any) = (self.bad_state(design), self.other_length(state), self.garbage(STATE));
         for state in [state, &bad, &other, &any, &vec![0; STATE], &Vec::new()] {
-            for room in [journal.len(), design.length(0) - 1, 0] {
-                self.nothing_issued(state, &[], &journal[..room], 0)?;
-            }
+            let room = self.random.pick(&[design.room(), design.length(0), design.length(0) - 1, 0]);
+            self.nothing_issued(state, &[], &journal[..room], 0)?;
         }
         Ok(())
     }
