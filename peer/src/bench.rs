@@ -2,10 +2,10 @@
 
 use std::time::{Duration, Instant};
 
-use crate::calls::{Calls, Peer, Written};
+use crate::calls::{Calls, Listed, Peer, Written};
 use crate::code::LONGEST_CODE;
 use crate::device::Library;
-use crate::layout::{DETAILS, SETTINGS, SIGNATURE, STATE, details_bytes, state_bytes, state_of};
+use crate::layout::{DETAILS, SETTINGS, SIGNATURE, STATE, details_bytes, list_bytes, state_bytes, state_of};
 use crate::line::LONGEST_LINE;
 use crate::receipt::{Date, Details, LONGEST_COMPACT, LONGEST_INPUT};
 use crate::register::State;
@@ -51,6 +51,10 @@ struct Work {
     /// The journal of these receipts and the state after it, both made by the peer.
     journal: Vec<u8>,
     state: [u8; STATE],
+    /// The same receipts as a list, and journal and state where the device has failed.
+    list: Vec<u8>,
+    failed_journal: Vec<u8>,
+    failed_state: [u8; STATE],
     /// Where in the journal each compact form stands.
     forms: Vec<std::ops::Range<usize>>,
     /// The code of each receipt and its line, both made by the peer.
@@ -72,14 +76,16 @@ impl Work {
             signatures: (0..receipts).map(signature).collect(),
             journal: Vec::new(),
             state: [0; STATE],
+            list: Vec::new(),
+            failed_journal: Vec::new(),
+            failed_state: [0; STATE],
             forms: Vec::new(),
             codes: Vec::new(),
             lines: Vec::new(),
             started: [0; STATE],
             buffer: vec![0; 83 + receipts * (2 + LONGEST_COMPACT)],
         };
-        let mut state = [0; STATE];
-        assert_eq!(Peer.open(&work.settings, &mut work.buffer, &mut state), 0);
+        let mut state = work.opened(&Peer);
         for i in 0..receipts {
             let before = Peer.journal_length(&state);
             assert_eq!(Peer.issue(&mut state, &work.details[i], &work.signatures[i], &mut work.buffer), 0);
@@ -96,7 +102,21 @@ impl Work {
             work.codes.push(written(Peer.code(work.form(i), &mut code), &code));
             work.lines.push(written(Peer.line(&work.codes[i], &mut line), &line));
         }
+        let mut failed = work.opened(&Peer);
+        for details in &work.details {
+            assert_eq!(Peer.issue(&mut failed, details, &[], &mut work.buffer), 0);
+        }
+        work.failed_journal = work.buffer[..Peer.journal_length(&failed)].to_vec();
+        work.failed_state = failed;
+        work.list = list_bytes(&work.details);
         work
+    }
+
+    /// Open into the buffer.
+    fn opened(&mut self, side: &dyn Calls) -> [u8; STATE] {
+        let mut state = [0; STATE];
+        assert_eq!(side.open(&self.settings, &mut self.buffer, &mut state), 0);
+        state
     }
 
     fn form(&self, i: usize) -> &[u8] {
@@ -105,13 +125,31 @@ impl Work {
 
     /// Open and one Issue for each receipt; the journal's bytes.
     fn issue(&mut self, side: &dyn Calls) -> usize {
-        let mut state = [0; STATE];
-        assert_eq!(side.open(&self.settings, &mut self.buffer, &mut state), 0);
+        let mut state = self.opened(side);
         for (details, signature) in self.details.iter().zip(&self.signatures) {
             assert_eq!(side.issue(&mut state, details, signature, &mut self.buffer), 0);
         }
         assert_eq!(state, self.state);
         self.journal.len()
+    }
+
+    /// Open and one Issue for each receipt, all with a failed device; the journal's bytes.
+    fn issue_failed(&mut self, side: &dyn Calls) -> usize {
+        let mut state = self.opened(side);
+        for details in &self.details {
+            assert_eq!(side.issue(&mut state, details, &[], &mut self.buffer), 0);
+        }
+        assert_eq!(state, self.failed_state);
+        self.failed_journal.len()
+    }
+
+    /// Open and one list of all receipts; the journal's bytes.
+    fn issue_list(&mut self, side: &dyn Calls) -> usize {
+        let mut state = self.opened(side);
+        let listed = side.issue_list(&mut state, &self.list, &mut self.buffer);
+        assert_eq!(listed, Listed { number: 0, issued: self.details.len() });
+        assert_eq!(state, self.failed_state);
+        self.failed_journal.len()
     }
 
     /// One Prepare for each receipt, all after the start receipt; the bytes written.
@@ -191,6 +229,8 @@ impl Work {
     fn call(&mut self, call: &str, side: &dyn Calls) -> Option<usize> {
         match call {
             "issue" => Some(self.issue(side)),
+            "issue-failed" => Some(self.issue_failed(side)),
+            "issue-list" => Some(self.issue_list(side)),
             "prepare" => Some(self.prepare(side)),
             "take-over" => Some(self.take_over(side)),
             "code" => Some(self.code(side)),
@@ -208,6 +248,11 @@ fn same_answers(work: &mut Work) {
         work.buffer.fill(0);
         work.issue(side);
         assert!(work.buffer.starts_with(&work.journal));
+        for call in ["issue-failed", "issue-list"] {
+            work.buffer.fill(0);
+            work.call(call, side);
+            assert!(work.buffer.starts_with(&work.failed_journal));
+        }
     }
     for i in 0..work.forms.len() {
         let mut outputs = [[0; LONGEST_CODE]; 2];
@@ -269,7 +314,7 @@ pub fn run() {
         let mut work = Work::of(receipts);
         same_answers(&mut work);
         let calls: &[&str] = if receipts == 10_000 {
-            &["issue", "prepare", "code", "line", "unline", "read", "take-over"]
+            &["issue", "issue-failed", "issue-list", "prepare", "code", "line", "unline", "read", "take-over"]
         } else {
             &["take-over"]
         };

@@ -1,7 +1,8 @@
 //! The calls of the C interface as one trait, and the peer's answers to them.
 
 use crate::layout::{
-    DETAILS, SETTINGS, SIGNATURE, STATE, VERSION, details_bytes, settings_bytes, settings_of, state_bytes, state_of,
+    DETAILS, SETTINGS, SIGNATURE, STATE, VERSION, details_bytes, list_of, settings_bytes, settings_of, state_bytes,
+    state_of,
 };
 use crate::receipt::{Details, Receipt};
 use crate::register::State;
@@ -13,6 +14,13 @@ use crate::{base32, base64, code, crypto, line, register};
 pub struct Written {
     pub number: u32,
     pub length: usize,
+}
+
+/// A number, and how many receipts of a list were issued.
+#[derive(Clone, Copy, Debug, PartialEq, Eq)]
+pub struct Listed {
+    pub number: u32,
+    pub issued: usize,
 }
 
 /// A number and an index.
@@ -45,6 +53,7 @@ pub trait Calls {
     fn open_shared(&self, settings: &[u8], journal: &mut [u8], state: &mut [u8]) -> u32;
     fn prepare(&self, state: &[u8], details: &Details, output: &mut [u8]) -> Written;
     fn issue(&self, state: &mut [u8], details: &Details, signature: &[u8], journal: &mut [u8]) -> u32;
+    fn issue_list(&self, state: &mut [u8], list: &[u8], journal: &mut [u8]) -> Listed;
     fn change(&self, state: &mut [u8], serial: &[u8], journal: &mut [u8]) -> u32;
     fn take_over(&self, journal: &[u8], key: &[u8], width: usize, state: &mut [u8]) -> TakenOver;
     fn read(&self, settings: &[u8], form: &[u8], details: &mut [u8], signature: &mut [u8]) -> Written;
@@ -188,6 +197,15 @@ impl Calls for Peer {
 
     fn issue(&self, state: &mut [u8], details: &Details, signature: &[u8], journal: &mut [u8]) -> u32 {
         with_state(state, |held| register::issue(held, details, signature, journal))
+    }
+
+    fn issue_list(&self, state: &mut [u8], list: &[u8], journal: &mut [u8]) -> Listed {
+        let mut held = state_of(state);
+        let (issued, answer) = register::issue_list(&mut held, &list_of(list), journal);
+        if issued > 0 {
+            state.copy_from_slice(&state_bytes(&held));
+        }
+        Listed { number: answer.err().unwrap_or(0), issued }
     }
 
     fn change(&self, state: &mut [u8], serial: &[u8], journal: &mut [u8]) -> u32 {

@@ -3,15 +3,16 @@
 
 use std::fmt::Debug;
 
-use crate::calls::{Calls, Part, Peer, TakenOver, Written};
+use crate::calls::{Calls, Listed, Part, Peer, TakenOver, Written};
 use crate::code::LONGEST_CODE;
 use crate::device::Library;
+use crate::layout::DETAILS;
 use crate::line::LONGEST_ANY_LINE;
 use crate::receipt::Details;
 use crate::text::hex;
 
 /// The calls in the order of the table, with the numbers that each can return.
-pub const CALLS: [(&str, &[u32]); 22] = [
+pub const CALLS: [(&str, &[u32]); 23] = [
     ("version", &[0]),
     ("settings", &[0, 1, 2, 3, 4, 23]),
     ("figures", &[0]),
@@ -21,6 +22,7 @@ pub const CALLS: [(&str, &[u32]); 22] = [
     ("open_shared", &[0, 1, 2, 3, 4, 5, 6, 32]),
     ("prepare", &[0, 6, 7, 8, 9, 10, 11, 13]),
     ("issue", &[0, 6, 7, 8, 9, 10, 11, 12, 13]),
+    ("issue_list", &[0, 6, 7, 8, 9, 10, 11, 13]),
     ("change", &[0, 3, 6, 13, 30, 31]),
     ("take_over", &[0, 4, 6, 14, 15, 16, 17, 18, 19, 20, 21, 30, 31]),
     ("read", &[0, 1, 2, 3, 4, 16, 23]),
@@ -97,13 +99,13 @@ impl Default for Compare {
 }
 
 impl Compare {
-    /// Does one call on both sides. `free` is the buffer that a refusal may change.
+    /// Does one call on both sides. `free` are the buffers that a refusal may change.
     fn run<const BUFFERS: usize, Answer: Copy + PartialEq + Debug>(
         &mut self,
         call: &'static str,
         values: &dyn Debug,
         buffers: [(&str, &[u8]); BUFFERS],
-        free: Option<usize>,
+        free: &[usize],
         work: impl Fn(&dyn Calls, &mut [Guarded; BUFFERS]) -> Answer,
         number: impl Fn(Answer) -> u32,
     ) -> Compared<(Answer, [Guarded; BUFFERS])> {
@@ -117,7 +119,7 @@ impl Compare {
             "other answers"
         } else if library != peer {
             "other bytes in a buffer or around it"
-        } else if number(library_answer) != 0 && (0..BUFFERS).any(|i| Some(i) != free && library[i] != before[i]) {
+        } else if number(library_answer) != 0 && (0..BUFFERS).any(|i| !free.contains(&i) && library[i] != before[i]) {
             "refused, and a buffer is changed"
         } else {
             let number = number(library_answer);
@@ -148,7 +150,7 @@ impl Compare {
     }
 
     pub fn version(&mut self) -> Compared<()> {
-        self.run("version", &format_args!(""), [], None, |side, []| side.version(), |_| 0)?;
+        self.run("version", &format_args!(""), [], &[], |side, []| side.version(), |_| 0)?;
         Ok(())
     }
 
@@ -166,7 +168,7 @@ impl Compare {
             "settings",
             &format_args!("width {width}"),
             [("csp", csp), ("id", id), ("serial", serial), ("key", key), ("settings", output)],
-            None,
+            &[],
             |side, [csp, id, serial, key, settings]| {
                 side.settings(csp.get(), id.get(), serial.get(), width, key.get(), settings.get_mut())
             },
@@ -182,7 +184,7 @@ impl Compare {
             "figures",
             &format_args!(""),
             [("state", state)],
-            None,
+            &[],
             |side, [state]| {
                 let state = state.get();
                 let numbers = [side.last_number(state), side.receipts(state), side.serials(state)];
@@ -206,7 +208,7 @@ impl Compare {
             "settings_in",
             &format_args!("which {which}"),
             [("state", state), ("settings", settings)],
-            None,
+            &[],
             |side, [state, settings]| side.settings_in(state.get(), which, settings.get_mut()),
             |number| number,
         )?;
@@ -239,7 +241,7 @@ impl Compare {
             call,
             &format_args!(""),
             [("settings", settings), ("journal", journal), ("state", state)],
-            Some(2),
+            &[2],
             |side, [settings, journal, state]| work(side, settings.get(), journal.get_mut(), state.get_mut()),
             |number| number,
         )?;
@@ -253,7 +255,7 @@ impl Compare {
             "prepare",
             details,
             [("state", state), ("output", output)],
-            None,
+            &[],
             |side, [state, output]| side.prepare(state.get(), details, output.get_mut()),
             |written| written.number,
         )?;
@@ -272,7 +274,7 @@ impl Compare {
             "issue",
             details,
             [("state", state), ("signature", signature), ("journal", journal)],
-            None,
+            &[],
             |side, [state, signature, journal]| {
                 side.issue(state.get_mut(), details, signature.get(), journal.get_mut())
             },
@@ -283,12 +285,33 @@ impl Compare {
         Ok(number)
     }
 
+    /// A list of receipts. A refused one leaves what was issued before it, so a number does not say that nothing is changed:
+    /// the count of the issued ones does.
+    pub fn issue_list(&mut self, state: &mut [u8], list: &[u8], journal: &mut [u8]) -> Compared<Listed> {
+        let (listed, after) = self.run(
+            "issue_list",
+            &format_args!(""),
+            [("state", state), ("list", list), ("journal", journal)],
+            &[0, 2],
+            |side, [state, list, journal]| side.issue_list(state.get_mut(), list.get(), journal.get_mut()),
+            |listed| listed.number,
+        )?;
+        let (held, written) = (after[0].get(), after[2].get());
+        let unchanged = held == state && written == journal;
+        demand(listed.issued > 0 || unchanged, "none issued, and a buffer is changed", list)?;
+        let all = listed.issued * DETAILS == list.len();
+        demand(all == (listed.number == 0), "all are issued, or there is a number", list)?;
+        state.copy_from_slice(held);
+        journal.copy_from_slice(written);
+        Ok(listed)
+    }
+
     pub fn change(&mut self, state: &mut [u8], serial: &[u8], journal: &mut [u8]) -> Compared<u32> {
         let (number, after) = self.run(
             "change",
             &format_args!(""),
             [("state", state), ("serial", serial), ("journal", journal)],
-            None,
+            &[],
             |side, [state, serial, journal]| side.change(state.get_mut(), serial.get(), journal.get_mut()),
             |number| number,
         )?;
@@ -302,7 +325,7 @@ impl Compare {
             "take_over",
             &format_args!("width {width}"),
             [("journal", journal), ("key", key), ("state", state)],
-            Some(2),
+            &[2],
             |side, [journal, key, state]| side.take_over(journal.get(), key.get(), width, state.get_mut()),
             |taken| taken.number,
         )?;
@@ -322,7 +345,7 @@ impl Compare {
             "read",
             &format_args!(""),
             [("settings", settings), ("form", form), ("details", details), ("signature", signature)],
-            None,
+            &[],
             |side, [settings, form, details, signature]| {
                 side.read(settings.get(), form.get(), details.get_mut(), signature.get_mut())
             },
@@ -346,7 +369,7 @@ impl Compare {
             call,
             values,
             [(name, text), ("output", output)],
-            None,
+            &[],
             |side, [text, output]| work(side, text.get(), output.get_mut()),
             |written| written.number,
         )?;
@@ -372,7 +395,7 @@ impl Compare {
             "fields",
             &format_args!(""),
             [("code", code)],
-            None,
+            &[],
             |side, [code]| side.fields(code.get()),
             |part| part.number,
         )?;
@@ -394,7 +417,7 @@ impl Compare {
             "sha256",
             &format_args!(""),
             [("data", data), ("output", output)],
-            None,
+            &[],
             |side, [data, output]| side.sha256(data.get(), output.get_mut()),
             |number| number,
         )?;

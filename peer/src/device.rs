@@ -1,6 +1,6 @@
 //! The static library under test: a safe wrapper over include/ditgrux.h.
 
-use crate::calls::{Calls, Part, TakenOver, Written};
+use crate::calls::{Calls, Listed, Part, TakenOver, Written};
 use crate::receipt::Details;
 
 /// Every result by pointer starts as this, so that one that is not written shows.
@@ -32,6 +32,8 @@ unsafe extern "C" {
     fn ditgrux_issue(state: *mut u8, state_length: usize, number: u32, year: u32, month: u32, day: u32, hour: u32,
         minute: u32, second: u32, standard: i64, reduced_1: i64, reduced_2: i64, zero: i64, special: i64, kind: u32,
         signature: *const u8, signature_length: usize, journal: *mut u8, journal_length: usize) -> u32;
+    fn ditgrux_issue_list(state: *mut u8, state_length: usize, list: *const u8, list_length: usize, journal: *mut u8,
+        journal_length: usize, issued: *mut usize) -> u32;
     fn ditgrux_change(state: *mut u8, state_length: usize, serial: *const u8, serial_length: usize, journal: *mut u8,
         journal_length: usize) -> u32;
     fn ditgrux_take_over(journal: *const u8, journal_length: usize, key: *const u8, key_length: usize, width: usize,
@@ -198,6 +200,22 @@ impl Calls for Library {
                 journal.len(),
             )
         }
+    }
+
+    fn issue_list(&self, state: &mut [u8], list: &[u8], journal: &mut [u8]) -> Listed {
+        let mut issued = UNWRITTEN_LENGTH;
+        let number = unsafe {
+            ditgrux_issue_list(
+                state.as_mut_ptr(),
+                state.len(),
+                list.as_ptr(),
+                list.len(),
+                journal.as_mut_ptr(),
+                journal.len(),
+                &mut issued,
+            )
+        };
+        Listed { number, issued }
     }
 
     fn change(&self, state: &mut [u8], serial: &[u8], journal: &mut [u8]) -> u32 {

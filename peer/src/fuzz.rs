@@ -4,9 +4,9 @@
 use std::sync::OnceLock;
 
 use crate::base32::padded_letters;
-use crate::calls::{Calls, Peer};
+use crate::calls::{Calls, Listed, Peer};
 use crate::compare::{Compare, Compared, demand};
-use crate::layout::{DETAILS, SETTINGS, SIGNATURE, STATE};
+use crate::layout::{DETAILS, SETTINGS, SIGNATURE, STATE, details_of};
 use crate::model::{Journal, Pair, SERIAL};
 use crate::receipt::{Date, Details, LONGEST_INPUT};
 
@@ -16,7 +16,7 @@ const WIDTH: usize = 5;
 /// Does one input.
 pub fn one_input(compare: &mut Compare, input: &[u8]) -> Compared<()> {
     let Some((choice, rest)) = input.split_first() else { return Ok(()) };
-    match choice % 13 {
+    match choice % 14 {
         0 => take_over(compare, rest),
         1 => edited_journal(compare, rest),
         2 => code(compare, rest),
@@ -29,7 +29,8 @@ pub fn one_input(compare: &mut Compare, input: &[u8]) -> Compared<()> {
         9 => base32(compare, rest),
         10 => unbase32(compare, rest),
         11 => change(compare, rest),
-        _ => edited_pairs(compare, rest),
+        12 => edited_pairs(compare, rest),
+        _ => issue_list(compare, rest),
     }
 }
 
@@ -244,6 +245,26 @@ fn issue(compare: &mut Compare, input: &[u8]) -> Compared<()> {
     let mut journal = vec![0xaa; number(0, 2) as usize % 1000];
     compare.issue(&mut state, &details, signature, &mut journal)?;
     Ok(())
+}
+
+/// 447 bytes of state, the size of the buffer in two bytes, and a list, whole or not: it must leave what the single calls leave.
+fn issue_list(compare: &mut Compare, input: &[u8]) -> Compared<()> {
+    let Some((state, rest)) = input.split_at_checked(STATE) else { return Ok(()) };
+    let Some(([high, low], list)) = rest.split_first_chunk() else { return Ok(()) };
+    let (mut held, mut journal) = (state.to_vec(), vec![0xaa; u16::from_be_bytes([*high, *low]) as usize % 3000]);
+    let (mut after, mut written) = (held.clone(), journal.clone());
+    let listed = compare.issue_list(&mut after, list, &mut written)?;
+    let (details, []) = list.as_chunks::<DETAILS>() else { return Ok(()) };
+    let mut single = Listed { number: 0, issued: 0 };
+    for bytes in details {
+        single.number = compare.issue(&mut held, &details_of(bytes), &[], &mut journal)?;
+        if single.number != 0 {
+            break;
+        }
+        single.issued += 1;
+    }
+    demand(listed == single, "a list is its single calls up to the first that is refused", input)?;
+    demand((after, written) == (held, journal), "a list leaves what its single calls leave", input)
 }
 
 /// Three lengths in a byte each, of the details, the signature and the settings; then the settings and a compact form.

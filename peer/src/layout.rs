@@ -141,6 +141,15 @@ pub fn details_of(bytes: &[u8; DETAILS]) -> Details {
     }
 }
 
+/// The details of a list, 72 bytes each. Bytes that are no whole number of details say one receipt without a number.
+pub fn list_of(bytes: &[u8]) -> Vec<Details> {
+    let (list, rest) = bytes.as_chunks::<DETAILS>();
+    if !rest.is_empty() {
+        return vec![Details::default()];
+    }
+    list.iter().map(details_of).collect()
+}
+
 pub fn details_bytes(details: &Details) -> [u8; DETAILS] {
     let mut bytes = [0; DETAILS];
     let date = &details.date;
@@ -150,4 +159,8 @@ pub fn details_bytes(details: &Details) -> [u8; DETAILS] {
     put(&mut bytes, 28, &details.kind.to_be_bytes());
     put(&mut bytes, 32, details.amounts.map(i64::to_be_bytes).as_flattened());
     bytes
+}
+
+pub fn list_bytes(list: &[Details]) -> Vec<u8> {
+    list.iter().flat_map(details_bytes).collect()
 }

@@ -15,7 +15,7 @@ use peer::rounds::round;
 
 const USAGE: &str = "usage: peer [--minutes N | --rounds N | --round R] [--seed S]
        peer --bench
-       peer --work issue|prepare|take-over|code|line|unline|read library|peer RECEIPTS [REPEATS]";
+       peer --work issue|issue-failed|issue-list|prepare|take-over|code|line|unline|read library|peer RECEIPTS [REPEATS]";
 
 /// How long to compare.
 enum Length {

@@ -1,5 +1,5 @@
-//! A register: open, prepare, issue, change, take over, and read. The questions stand in the order of the paper, those of
-//! read in that of the C header; `Err` holds the number of the first one that is answered by "no".
+//! A register: open, prepare, issue, a list of receipts, change, take over, and read. The questions stand in the order of the
+//! paper, those of read in that of the C header; `Err` holds the number of the first one that is answered by "no".
 
 use crate::crypto::Aes256;
 use crate::receipt::{
@@ -209,6 +209,17 @@ pub fn issue(state: &mut State, details: &Details, signature: &[u8], buffer: &mu
     let place = state.open_place as usize;
     buffer[place..place + 4].copy_from_slice(&state.open_receipts.to_be_bytes());
     Ok(())
+}
+
+/// Issues the receipts of a list in order, all with a failed device, up to the first that is refused: how many were issued, and
+/// the number of the refused one. State and buffer are as the last issued one left them.
+pub fn issue_list(state: &mut State, list: &[Details], buffer: &mut [u8]) -> (usize, Result<(), Number>) {
+    for (issued, details) in list.iter().enumerate() {
+        if let Err(number) = issue(state, details, &[], buffer) {
+            return (issued, Err(number));
+        }
+    }
+    (list.len(), Ok(()))
 }
 
 /// Appends the pair of a new serial: its section, and an empty section of receipts. Refused, it changes neither the state

@@ -2,6 +2,7 @@
 
 mod limits;
 mod lines;
+mod lists;
 mod pairs;
 mod shared;
 
@@ -93,7 +94,10 @@ pub fn round(compare: &mut Compare, seed: u64, number: u64) -> Compared<()> {
         round.lines_of_every_length()?;
         round.lines_with_every_change(&written)?;
     }
-    Ok(())
+    round.lists_by_design()?;
+    round.list_with_the_start()?;
+    round.lists_among_calls()?;
+    round.list_by_hand()
 }
 
 /// A journal that a list of calls wrote, under what, and the receipts in it.
@@ -331,12 +335,23 @@ impl Round<'_> {
             }
         }
 
-        journal.truncate(state_of(&state).journal_length as usize);
+        self.accepted(given, &state, journal, receipts)
+    }
+
+    /// What a list of calls left: the journal is taken over with the same state, and written again.
+    fn accepted(
+        &mut self,
+        settings: Settings,
+        state: &[u8],
+        mut journal: Vec<u8>,
+        receipts: Vec<Given>,
+    ) -> Compared<Accepted> {
+        journal.truncate(state_of(state).journal_length as usize);
         let mut taken = self.garbage(STATE);
-        let answer = self.compare.take_over(&journal, &given.key, given.width as usize, &mut taken)?;
+        let answer = self.compare.take_over(&journal, &settings.key, settings.width as usize, &mut taken)?;
         demand(answer.number == 0, "the journal of a list is accepted", &journal)?;
         demand(taken == state, "the state taken over is the one of the list", &journal)?;
-        let accepted = Accepted { settings: given, journal, receipts };
+        let accepted = Accepted { settings, journal, receipts };
         self.written_again(&accepted)?;
         Ok(accepted)
     }

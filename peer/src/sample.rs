@@ -493,11 +493,16 @@ pub fn details(random: &Random, state: &State) -> Details {
     details
 }
 
+/// No kind of receipt, but one in few bits at times.
+pub fn bad_kind(random: &Random) -> u32 {
+    random.pick(&[3, 4, 255, 256, 257, 65_536, 0x8000_0000, u32::MAX])
+}
+
 /// Makes the details wrong by one of 7 to 11; the state's counter decides whether 11 can be.
 pub fn spoil_details(random: &Random, details: &mut Details, state: &State) {
     match random.below(7) {
         0 => details.number = random.pick(&[0, state.last_number, state.last_number / 2, 1.min(state.last_number)]),
-        1 => details.kind = random.pick(&[3, 4, 255, 256, 257, 65_536, 0x8000_0000, u32::MAX]),
+        1 => details.kind = bad_kind(random),
         2 => details.date = bad_date(random),
         3 | 4 => details.amounts[random.below(5)] = bad_amount(random),
         5 => {

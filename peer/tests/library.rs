@@ -65,6 +65,11 @@ fn journals() {
 }
 
 #[test]
+fn journals_by_lists() {
+    vectors::journals_by_lists(&Library);
+}
+
+#[test]
 fn takeover() {
     vectors::takeover(&Library);
 }
@@ -112,6 +117,36 @@ fn serials_of_a_state() {
 #[test]
 fn counts_at_any_place() {
     vectors::counts_at_any_place(&Library);
+}
+
+#[test]
+fn lists_by_hand() {
+    vectors::lists_by_hand(&Library);
+}
+
+#[test]
+fn lists_refused() {
+    vectors::lists_refused(&Library);
+}
+
+#[test]
+fn lists_with_the_start() {
+    vectors::lists_with_the_start(&Library);
+}
+
+#[test]
+fn lists_into_room() {
+    vectors::lists_into_room(&Library);
+}
+
+#[test]
+fn lists_cut_or_empty() {
+    vectors::lists_cut_or_empty(&Library);
+}
+
+#[test]
+fn long_list() {
+    vectors::long_list(&Library);
 }
 
 #[test]

@@ -6,11 +6,11 @@ use peer::base64;
 use peer::calls::Peer;
 use peer::code::LONGEST_CODE;
 use peer::crypto::Aes256;
-use peer::layout::{DETAILS, SETTINGS, STATE, details_bytes, details_of, state_bytes, state_of};
+use peer::layout::{DETAILS, SETTINGS, STATE, details_bytes, details_of, list_bytes, list_of, state_bytes, state_of};
 use peer::line::{LONGEST_ANY_LINE, LONGEST_LINE};
 use peer::receipt::{
-    Kind, LONGEST_COMPACT, LONGEST_INPUT, LONGEST_PAYLOAD, counter_fits, counter_iv, decrypt_counter, encrypt_counter,
-    push_amount, read_amount, read_date, read_entry, read_number,
+    Details, Kind, LONGEST_COMPACT, LONGEST_INPUT, LONGEST_PAYLOAD, counter_fits, counter_iv, decrypt_counter,
+    encrypt_counter, push_amount, read_amount, read_date, read_entry, read_number,
 };
 use peer::register::{SERIALS, State};
 use peer::rows::TABLES;
@@ -74,6 +74,11 @@ fn journals() {
 }
 
 #[test]
+fn journals_by_lists() {
+    vectors::journals_by_lists(&Peer);
+}
+
+#[test]
 fn takeover() {
     vectors::takeover(&Peer);
 }
@@ -121,6 +126,36 @@ fn serials_of_a_state() {
 #[test]
 fn counts_at_any_place() {
     vectors::counts_at_any_place(&Peer);
+}
+
+#[test]
+fn lists_by_hand() {
+    vectors::lists_by_hand(&Peer);
+}
+
+#[test]
+fn lists_refused() {
+    vectors::lists_refused(&Peer);
+}
+
+#[test]
+fn lists_with_the_start() {
+    vectors::lists_with_the_start(&Peer);
+}
+
+#[test]
+fn lists_into_room() {
+    vectors::lists_into_room(&Peer);
+}
+
+#[test]
+fn lists_cut_or_empty() {
+    vectors::lists_cut_or_empty(&Peer);
+}
+
+#[test]
+fn long_list() {
+    vectors::long_list(&Peer);
 }
 
 #[test]
@@ -432,5 +467,19 @@ fn details_as_bytes() {
     for place in 0..DETAILS {
         bytes[place] = 0xff ^ place as u8;
         assert_eq!(details_bytes(&details_of(&bytes)), bytes);
+    }
+}
+
+/// A list is its details one after the other; where bytes are left over, it is one receipt without a number.
+#[test]
+fn lists_as_bytes() {
+    let (details, example) = cancellation();
+    for length in 0..4 {
+        let (list, bytes) = (vec![details; length], example.repeat(length));
+        assert_eq!(list_bytes(&list), bytes);
+        assert_eq!(list_of(&bytes), list);
+        for rest in [1, 35, DETAILS - 1] {
+            assert_eq!(list_of(&[&bytes[..], &example[..rest]].concat()), [Details::default()]);
+        }
     }
 }

@@ -17,7 +17,7 @@ use crate::settings::{Name, Settings};
 const QUESTIONS: [u32; 5] = [6, 3, 30, 31, 13];
 
 /// The serials of a sound state that are used.
-fn used_serials(state: &State) -> Vec<Vec<u8>> {
+pub(super) fn used_serials(state: &State) -> Vec<Vec<u8>> {
     state.serials.iter().map(|serial| serial.shown().to_vec()).take_while(|serial| !serial.is_empty()).collect()
 }
 

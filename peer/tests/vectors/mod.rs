@@ -1,9 +1,11 @@
 //! The vectors, published ones and those of the peer, asked of either side through the interface.
 
-use peer::calls::{Calls, TakenOver, Written};
+use peer::calls::{Calls, Listed, TakenOver, Written};
 use peer::code::LONGEST_CODE;
 use peer::crypto::Aes256;
-use peer::layout::{DETAILS, SETTINGS, SIGNATURE, STATE, details_bytes, settings_bytes, state_bytes, state_of};
+use peer::layout::{
+    DETAILS, SETTINGS, SIGNATURE, STATE, details_bytes, list_bytes, settings_bytes, state_bytes, state_of,
+};
 use peer::receipt::{Date, Details, LONGEST_COMPACT, LONGEST_INPUT, LONGEST_PAYLOAD, counter_iv};
 use peer::register::{SERIALS, State};
 use peer::rows::{KINDS, change_answer, issue_answer, open_answer, takeover_line, text_answer};
@@ -54,6 +56,16 @@ pub fn date_of(text: &str) -> Date {
         hour: part(11..13),
         minute: part(14..16),
         second: part(17..19),
+    }
+}
+
+/// The details in a row of receipts.tsv.
+fn details_in(row: &[String]) -> Details {
+    Details {
+        number: row[1].parse().expect("a number"),
+        date: date_of(&row[2]),
+        amounts: amounts_of(&row[3]),
+        kind: kind_of(&row[4]),
     }
 }
 
@@ -286,12 +298,7 @@ pub fn journals(side: &dyn Calls) {
         assert_eq!(side.open(&settings, &mut buffer, &mut held), 0, "{name}");
         for receipt in receipts.iter().filter(|receipt| receipt[0] == *name) {
             seen += 1;
-            let details = Details {
-                number: receipt[1].parse().expect("a number"),
-                date: date_of(&receipt[2]),
-                amounts: amounts_of(&receipt[3]),
-                kind: kind_of(&receipt[4]),
-            };
+            let details = details_in(receipt);
             let compact = &receipt[8];
             assert_eq!(state_of(&held).chain.to_vec(), unhex(&receipt[9]), "{name}");
             let mut input = [0; LONGEST_INPUT];
@@ -321,6 +328,32 @@ pub fn journals(side: &dyn Calls) {
         assert_eq!(taken, held, "{name}");
     }
     assert_eq!(seen, 13);
+}
+
+/// The same journals, where those receipts whose device had failed are issued by lists.
+pub fn journals_by_lists(side: &dyn Calls) {
+    let receipts = rows("tests/data/receipts.tsv", 13);
+    let mut listed = 0;
+    for row in rows("tests/data/journals.tsv", 3) {
+        let (name, journal) = (&row[0], unhex(&row[6]));
+        let mut settings = [0; SETTINGS];
+        let (mut buffer, mut held) = (vec![0xaa; journal.len()], [0xaa; STATE]);
+        let (csp, id, serial) = (row[1].as_bytes(), row[2].as_bytes(), row[3].as_bytes());
+        assert_eq!(side.settings(csp, id, serial, row[4].parse().expect("a width"), &unhex(&row[5]), &mut settings), 0);
+        assert_eq!(side.open(&settings, &mut buffer, &mut held), 0, "{name}");
+        for receipt in receipts.iter().filter(|receipt| receipt[0] == *name) {
+            let details = details_in(receipt);
+            if receipt[5].is_empty() {
+                listed += 1;
+                let answer = side.issue_list(&mut held, &details_bytes(&details), &mut buffer);
+                assert_eq!(answer, Listed { number: 0, issued: 1 }, "{name} {}", receipt[1]);
+            } else {
+                assert_eq!(side.issue(&mut held, &details, &unhex(&receipt[5]), &mut buffer), 0, "{name}");
+            }
+        }
+        assert_eq!(buffer, journal, "{name}");
+    }
+    assert_eq!(listed, 3);
 }
 
 pub fn takeover(side: &dyn Calls) {
@@ -601,6 +634,184 @@ fn state_by_hand() -> State {
     State::opened(&by_hand())
 }
 
+// ---- lists of receipts with a failed device
+
+/// The answer to a list, which leaves what the single calls of its issued receipts leave, each with an empty signature.
+fn assert_listed(side: &dyn Calls, held: &[u8], list: &[Details], journal: &[u8], number: u32, issued: usize) {
+    let (mut after, mut written) = (held.to_vec(), journal.to_vec());
+    let listed = side.issue_list(&mut after, &list_bytes(list), &mut written);
+    assert_eq!(listed, Listed { number, issued }, "{list:?}");
+    let (mut single, mut buffer) = (held.to_vec(), journal.to_vec());
+    for details in &list[..issued] {
+        assert_eq!(side.issue(&mut single, details, &[], &mut buffer), 0, "{list:?}");
+    }
+    assert!(after == single && written == buffer, "{list:?}");
+}
+
+/// A list is not issued at all, and nothing is changed.
+fn assert_not_listed(side: &dyn Calls, held: &[u8], list: &[u8], room: usize, number: u32) {
+    let (mut after, mut journal) = (held.to_vec(), vec![0xaa; room]);
+    assert_eq!(side.issue_list(&mut after, list, &mut journal), Listed { number, issued: 0 }, "{} bytes", list.len());
+    assert_eq!(after, held);
+    assert!(journal.iter().all(|&byte| byte == 0xaa));
+}
+
+fn receipt(number: u32, cents: i64, kind: u32) -> Details {
+    Details { number, date: GOOD_DATE, amounts: [cents, 0, 0, 0, 0], kind }
+}
+
+/// Two lists, the first with the start receipt and the second after a change: every byte but those of the entries is spelled
+/// here, and each entry is read back.
+pub fn lists_by_hand(side: &dyn Calls) {
+    let (mut journal, mut held) = (vec![0xaa; 2000], [0xaa; STATE]);
+    assert_eq!(side.open(&settings_bytes(&by_hand()), &mut journal, &mut held), 0);
+    let first = [receipt(1, 0, 0), receipt(7, 1050, 0), receipt(8, -50, 1), receipt(9, 500, 2)];
+    let second = [receipt(10, 5, 0), receipt(u32::MAX, -1005, 1)];
+    assert_eq!(side.issue_list(&mut held, &list_bytes(&first), &mut journal), Listed { number: 0, issued: 4 });
+    assert_eq!((side.receipts(&held), side.counter(&held), side.last_number(&held)), (4, 1000, 9));
+    let length = side.journal_length(&held);
+    assert_eq!(side.change(&mut held, b"2b", &mut journal), 0);
+    assert_eq!(side.issue_list(&mut held, &list_bytes(&second), &mut journal), Listed { number: 0, issued: 2 });
+    assert_eq!((side.receipts(&held), side.counter(&held), side.last_number(&held)), (6, 0, u32::MAX));
+    assert_eq!(held[435..439], [0, 0, 0, 2]);
+    assert_eq!(held[439..447], (length as u64 + 6).to_be_bytes());
+
+    assert_eq!(journal[..24], unhex_parts(&[HEAD_BY_HAND, "00000004"]));
+    assert_eq!(journal[length..length + 10], unhex_parts(&[SECOND_BY_HAND, "00000002"]));
+    let next = assert_entries(side, &by_hand(), &first, &journal[24..]);
+    assert_eq!(24 + next, length);
+    let settings = Settings { serial: Name::of(b"2b"), ..by_hand() };
+    let next = assert_entries(side, &settings, &second, &journal[length + 10..]);
+    assert_eq!(length + 10 + next, side.journal_length(&held));
+    let (journal, mut taken) = (&journal[..side.journal_length(&held)], [0xaa; STATE]);
+    assert_eq!(side.take_over(journal, &by_hand().key, 5, &mut taken), TakenOver { number: 0, index: 0 });
+    assert_eq!(taken, held);
+}
+
+/// The bytes start with the entries of these receipts, whose device had failed; how many bytes these are.
+fn assert_entries(side: &dyn Calls, settings: &Settings, list: &[Details], bytes: &[u8]) -> usize {
+    let mut at = 0;
+    for details in list {
+        let length = u16::from_be_bytes([bytes[at], bytes[at + 1]]) as usize;
+        let form = &bytes[at + 2..at + 2 + length];
+        assert_read(side, settings, form, details, &[]);
+        assert!(form.ends_with(b".U2ljaGVyaGVpdHNlaW5yaWNodHVuZyBhdXNnZWZhbGxlbg"));
+        at += 2 + length;
+    }
+    at
+}
+
+/// A refused receipt first, in the middle and last, and two of them: the first decides.
+pub fn lists_refused(side: &dyn Calls) {
+    // a cent more than 100 is beyond the end
+    let held = state_bytes(&state("K-1", [9; 32], 5, 549_755_813_787, 4, 1));
+    let journal = [0xaa; 1500];
+    let date = |year, day, hour| Date { year, day, hour, ..GOOD_DATE };
+    let (a, b, good) = (receipt(5, 1, 0), receipt(6, -1, 1), receipt(7, 2, 0));
+    let wrong = [
+        (Details { number: 0, ..good }, 7),
+        (Details { number: 4, ..good }, 7),
+        (Details { kind: 3, ..good }, 7),
+        (Details { kind: 256, ..good }, 7),
+        (Details { kind: u32::MAX, ..good }, 7),
+        (Details { date: date(2017, 29, 8), ..good }, 8),
+        (Details { date: date(2100, 28, 8), ..good }, 8),
+        (Details { date: date(2016, 29, 24), ..good }, 8),
+        (receipt(7, 100_000_000_000, 0), 9),
+        (receipt(7, i64::MIN, 2), 9),
+        (receipt(7, 102, 0), 11),
+        (receipt(7, 102, 1), 11),
+    ];
+    for (refused, number) in wrong {
+        assert_listed(side, &held, &[refused], &journal, number, 0);
+        assert_listed(side, &held, &[refused, a, b], &journal, number, 0);
+        assert_listed(side, &held, &[a, refused, b], &journal, number, 1);
+        assert_listed(side, &held, &[a, b, refused], &journal, number, 2);
+        for (other, _) in wrong {
+            assert_listed(side, &held, &[a, refused, other, b], &journal, number, 1);
+        }
+    }
+    // the counter and the last number of the receipt before count, and training adds nothing
+    assert_listed(side, &held, &[a, receipt(6, 99, 0), receipt(7, 1, 2), receipt(8, 1, 0)], &journal, 11, 3);
+    assert_listed(side, &held, &[a, receipt(6, 100, 0)], &journal, 11, 1);
+    assert_listed(side, &held, &[a, a], &journal, 7, 1);
+    assert_listed(side, &held, &[b, a], &journal, 7, 1);
+    assert_listed(side, &held, &[a, receipt(u32::MAX, 1, 0), good], &journal, 7, 2);
+    assert_listed(side, &held, &[a, b, good], &journal, 0, 3);
+}
+
+/// The first receipt of a register is a start receipt, and the one after it is not asked.
+pub fn lists_with_the_start(side: &dyn Calls) {
+    let (held, journal) = (state_bytes(&state_by_hand()), [0xaa; 1500]);
+    let start = receipt(1, 0, 0);
+    for first in [receipt(1, 0, 1), receipt(1, 0, 2), receipt(1, 1, 0)] {
+        assert_listed(side, &held, &[first, receipt(2, 0, 0)], &journal, 10, 0);
+        assert_listed(side, &held, &[start, Details { number: 2, ..first }], &journal, 0, 2);
+    }
+    assert_listed(side, &held, &[Details { number: 0, ..receipt(1, 1, 2) }], &journal, 7, 0);
+    assert_listed(side, &held, &[receipt(1, 100_000_000_000, 2)], &journal, 9, 0);
+}
+
+/// A buffer that has room for exactly so many receipts, or a byte less.
+pub fn lists_into_room(side: &dyn Calls) {
+    let held = state_bytes(&state("K-1", [9; 32], 5, 0, 4, 1));
+    let list: Vec<Details> = (5..10).map(|number| receipt(number, 1050, number % 3)).collect();
+    let (mut after, mut journal) = (held, vec![0xaa; 2000]);
+    for (place, details) in list.iter().enumerate() {
+        let start = side.journal_length(&after);
+        assert_listed(side, &held, &list, &vec![0xaa; start], 13, place);
+        assert_eq!(side.issue(&mut after, details, &[], &mut journal), 0);
+        assert_listed(side, &held, &list, &vec![0xaa; side.journal_length(&after) - 1], 13, place);
+        if place > 0 {
+            // after one that does not fit comes one that would
+            let long = Details { amounts: [-99_999_999_999; 5], ..*details };
+            let short = Details { number: details.number + 1, ..*details };
+            let mut longer = list[..place].to_vec();
+            longer.extend([long, short]);
+            assert_listed(side, &held, &longer, &vec![0xaa; side.journal_length(&after) + 2], 13, place);
+        }
+    }
+    assert_listed(side, &held, &list, &vec![0xaa; side.journal_length(&after)], 0, 5);
+    assert_not_listed(side, &held, &list_bytes(&list), 23, 6);
+}
+
+/// No receipts are never refused; bytes that are no whole number of receipts are one without a number.
+pub fn lists_cut_or_empty(side: &dyn Calls) {
+    let sound = state("K-1", [9; 32], 5, 0, 4, 1);
+    let bad = state_bytes(&State { receipts: 5, ..sound });
+    let sound = state_bytes(&sound);
+    let list = list_bytes(&[receipt(5, 1, 0), receipt(6, 1, 0), receipt(7, 1, 0)]);
+    for held in [&sound[..], &bad, &[0; STATE], &[0xff; STATE], &sound[..446], &[0x33; 448], &[0; 155], &[]] {
+        for room in [2000, 23, 0] {
+            assert_not_listed(side, held, &[], room, 0);
+        }
+    }
+    for length in [1, 71, 73, 143, 145, 215] {
+        assert_not_listed(side, &sound, &list[..length], 2000, 7);
+        assert_not_listed(side, &sound, &list[..length], 24, 7);
+        assert_not_listed(side, &sound, &list[..length], 23, 6);
+        for held in [&bad[..], &[0; STATE], &sound[..446], &[]] {
+            assert_not_listed(side, held, &list[..length], 2000, 6);
+        }
+    }
+    for held in [&bad[..], &[0; STATE], &sound[..446], &[]] {
+        assert_not_listed(side, held, &list, 2000, 6);
+        assert_not_listed(side, held, &[0; DETAILS], 2000, 6);
+    }
+}
+
+/// A thousand receipts, which are more than 65,535 bytes, by one call.
+pub fn long_list(side: &dyn Calls) {
+    let settings = settings_bytes(&by_hand());
+    let mut list = vec![receipt(1, 0, 0)];
+    list.extend((2..=1000).map(|number| receipt(number, number as i64, number % 3)));
+    let (mut journal, mut held) = (vec![0xaa; 24 + 1000 * (2 + LONGEST_COMPACT)], [0; STATE]);
+    assert_eq!(side.open(&settings, &mut journal, &mut held), 0);
+    assert_listed(side, &held, &list, &journal, 0, 1000);
+    list[930].date.month = 13;
+    assert_listed(side, &held, &list, &journal, 8, 930);
+}
+
 // ---- receipts read back
 
 /// The register of the receipts that are spelled here by hand.
@@ -693,12 +904,7 @@ pub fn receipts_read(side: &dyn Calls) {
             width: journal[4].parse().expect("a width"),
             key: unhex(&journal[5]).try_into().expect("a key"),
         };
-        let details = Details {
-            number: row[1].parse().expect("a number"),
-            date: date_of(&row[2]),
-            amounts: amounts_of(&row[3]),
-            kind: kind_of(&row[4]),
-        };
+        let details = details_in(&row);
         assert_read(side, &settings, row[8].as_bytes(), &details, &unhex(&row[5]));
     }
 }

@@ -1,0 +1,2 @@
+# src/register.rs: a list goes on after a receipt that does not fit
+/^(pub )?fn issue_list\(/,/^}/ { s/^    for \(issued, details\) in list\.iter\(\)\.enumerate\(\) \{/    let (mut first, mut count) = (Ok(()), 0);\n    for details in list {/; s/^            return \(issued, Err\(number\)\);/            if number != 13 {\n                return (count, Err(number));\n            }\n            first = Err(13);\n        } else {\n            count += 1;/; s/^    \(list\.len\(\), Ok\(\(\)\)\)/    (count, first)/ }

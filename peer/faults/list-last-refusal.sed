@@ -1,0 +1,2 @@
+# src/register.rs: the number of a list is that of its last refused receipt
+/^(pub )?fn issue_list\(/,/^}/ { s/^        if let Err\(number\) = issue\(state, details, &\[\], buffer\) \{/        if let Err(mut number) = issue(state, details, \&[], buffer) {/; s/^            return \(issued, Err\(number\)\);/            for later in \&list[issued + 1..] {\n                let answer = issue(\&mut state.clone(), later, \&[], \&mut buffer.to_vec());\n                number = answer.err().unwrap_or(number);\n            }\n&/ }

@@ -1,0 +1,2 @@
+# src/register.rs: a list that starts a register takes start receipts alone
+/^(pub )?fn issue_list\(/,/^}/ { s/^    for \(issued, details\) in list\.iter\(\)\.enumerate\(\) \{/    let start = state.receipts == 0;\n&/; s/^        if let Err\(number\) = issue\(state, details, &\[\], buffer\) \{/        if start \&\& issued > 0 \&\& (details.kind != 0 || details.amounts != [0; 5]) {\n            return (issued, Err(10));\n        }\n&/ }
