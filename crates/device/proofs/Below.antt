@@ -30,7 +30,7 @@ use Rattle.journal.specs.Listing.{issuedList, listBuffer}
 use Rattle.journal.specs.Checking.{accepted}
 use Rattle.journal.specs.Changing.{changeNumber, changed, changeBuffer}
 use Rattle.journal.specs.Valid.{Owner, Pair, settingsFor, placedUnder, allPlaced, headOf}
-use Rattle.journal.specs.Calls.{Order, failedOrder, TypedOrder, Call, issue, issueList, change, Register, journalOf, opening, numberOf, numbersOf, receiptOfCall, receiptsOfList, receiptsOf, Period, periodsFrom, call, callWithin, calls, callsWithin, orderOf, issuesOf, laterCalls, callsOf}
+use Rattle.journal.specs.Calls.{Order, failedOrder, TypedOrder, Call, issue, issueList, change, Register, journalOf, opening, numberOf, numbersOf, receiptOfCall, firstReceipts, receiptsOfList, receiptsOf, Period, periodsFrom, call, callWithin, calls, callsWithin, orderOf, issuesOf, laterCalls, callsOf}
 use Rattle.journal.specs.declared.state.State.{State}
 use Rattle.journal.proofs.Check.{new-fits, new-is}
 use Rattle.journal.proofs.Answers.{chain-eight, issue-zero}
@@ -146,7 +146,7 @@ module _ (g : Register) (ds : List Details) where
   unfolding callWithin
   list-call = refl
 
-  pub list-issued : receiptsOfList g ds ≡ map (λ (d : Details). receiptOfCall (failedOrder d)) (take (issuedList (g .state) ds (g .buf) .count) ds)
+  pub list-issued : receiptsOfList g ds ≡ firstReceipts (issuedList (g .state) ds (g .buf) .count) ds
   unfolding receiptsOfList
   list-issued = refl
 
@@ -183,10 +183,6 @@ module _ (g : Register) (s : Name) where
       ≡ ifZero (numberOf g (change s)) (x ∷ periodsFrom (call g (change s)) (record { serial = s; receipts = [] }) cs) (periodsFrom (call g (change s)) x cs)
   unfolding periodsFrom
   change-sections x cs = refl
-
-pub issued-number : (st : State) (d : Details) (sig : List ℕ) (room : ℕ) → issued st d sig room .number ≡ issueNumber st d sig room
-unfolding issuedWithin
-issued-number st d sig room = refl
 
 pub changed-number : (st : State) (s : Name) (room : ℕ) → changed st s room .number ≡ changeNumber st s room
 unfolding changed

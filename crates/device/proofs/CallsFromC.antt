@@ -1,5 +1,5 @@
 -- The slices of a C program hold what the journal's register holds, call by call.
-use Prim.Native.Nat.{ℕ, zero, suc, _+_, _*_, _/_, _%_, _≤_, _<_}
+use Prim.Native.Nat.{ℕ, zero, suc, _*_, _/_, _%_, _≤_, _<_}
 use mathlib.Core.Path.{_≡_, refl, sym, ap, _∙_, subst}
 use mathlib.Core.Bool.{Bool, true, false, cond}
 use mathlib.Core.List.{List, [], _∷_, _++_, map}
@@ -26,13 +26,13 @@ use Rattle.journal.specs.Listing.{issuedList, listBuffer}
 use Rattle.journal.specs.Changing.{changed, changeBuffer}
 use Rattle.journal.specs.Receipts.{Receipt}
 use Rattle.journal.specs.Valid.{Owner, Pair}
-use Rattle.journal.specs.Calls.{TypedOrder, failedOrder, Call, issue, issueList, change, TypedList, nothing, also, TypedCall, issues, lists, changes, TypedCalls, none, more, Register, opening, numberOf, numbersOf, receiptOfCall, receiptsOfList, receiptsOf, Period, periodsFrom, call, calls}
+use Rattle.journal.specs.Calls.{TypedOrder, failedOrder, Call, issue, issueList, change, TypedList, nothing, also, TypedCall, issues, lists, changes, TypedCalls, none, more, Register, opening, numberOf, numbersOf, receiptOfCall, firstReceipts, receiptsOfList, receiptsOf, Period, periodsFrom, call, calls}
 use Rattle.journal.specs.declared.state.State.{State}
 use Rattle.journal.specs.declared.state.Opened.{Opened}
 use Rattle.journal.proofs.OpenCalls.{open-zero}
 use Rattle.journal.proofs.Accepting.{ownerIn}
 use Rattle.journal.proofs.Pairs.{wider, emptyPair}
-use Rattle.journal.proofs.Registers.{issue-same, change-same, widened, holds-list, entryIn, Holds, issue-length, issue-holds, issue-right, change-holds, opening-holds, opening-length}
+use Rattle.journal.proofs.Registers.{issue-kept, change-kept, widened, holds-list, entryIn, Holds, issue-length, issue-holds, issue-right, change-holds, opening-holds, opening-length}
 use Rattle.journal.proofs.TypedStates.{holds-typed}
 use Rattle.device.specs.Layout.{stateBytes, nameAt, settingsAt, keyAt, noSettings, settingsOf, widthOf, keyOf, stateOf, kept}
 use Rattle.device.specs.Details.{noDetails, dateOf, detailsWith, ofKind, detailsOf, numberIn, amountIn, detailsIn, detailsFrom, listIn}
@@ -199,7 +199,7 @@ module _ (g : Register) (t : TypedState (g .state)) where
   issued-same : (list : List ℕ) → receiptsOfListFromC (slicesOf g) list ≡ receiptsOfList g (listIn list)
   unfolding receiptsOfListFromC
   issued-same list =
-      ap (λ (k : ℕ). map (λ (d : Details). receiptOfCall (failedOrder d)) (take k (listIn list))) (count-same list) ∙ sym (list-issued g (listIn list))
+      ap (λ (k : ℕ). firstReceipts k (listIn list)) (count-same list) ∙ sym (list-issued g (listIn list))
 
 -- a list of calls leaves and returns the same, and its receipts and sections are the same
 pub record Same (g : Register) (cs : List CallFromC) : Type 0 where
@@ -295,7 +295,7 @@ module _ (k : List ℕ) (n : ℕ) (o : Owner) (kl : length k ≡ 32) (kb : AllBy
             holds = issue-holds k n o g (h .before) (h .pair) (h .holds) c e r;
             small = omega (arith, h .small, issue-length k n o g (h .before) (h .pair) (h .holds) c e);
           }
-      go (suc m) e = subst (Held k n o) (sym (issue-same g c (λ q. omega (arith, e, q)))) h
+      go (suc m) e = subst (Held k n o) (sym (issue-kept g c (λ q. omega (arith, e, q)))) h
   held-call g (issueList ds) (lists ts) h =
       let p = holds-list k n o kb ds g (h .before) (h .pair) ts (h .holds) in
       record { before = h .before; pair = widened g (h .pair) ds; holds = p .0; small = omega (arith, h .small, p .1) }
@@ -305,7 +305,7 @@ module _ (k : List ℕ) (n : ℕ) (o : Owner) (kl : length k ≡ 32) (kb : AllBy
       go zero e =
           let p = change-holds k n o g (h .before) (h .pair) (h .holds) s (sym (change-number g s ∙ changed-number (g .state) s (length (g .buf))) ∙ e) ts in
           record { before = h .before ++ (h .pair ∷ []); pair = emptyPair s; holds = p .0; small = omega (arith, h .small, p .1) }
-      go (suc m) e = subst (Held k n o) (sym (change-same g s (λ q. omega (arith, e, q)))) h
+      go (suc m) e = subst (Held k n o) (sym (change-kept g s (λ q. omega (arith, e, q)))) h
 
   all-same : (cs : List CallFromC) (g : Register) → TypedCallsFromC cs → Held k n o g → Same g cs
   all-same [] g demand.none h = none-same g (holds-typed (h .before) (h .pair) kl kb (h .small) (h .holds))

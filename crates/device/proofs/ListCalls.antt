@@ -4,28 +4,32 @@ use mathlib.Core.Path.{_≡_, refl, sym, ap, _∙_, subst}
 use mathlib.Core.List.{List, [], _∷_, _++_, map}
 use native.Mathlib.Omega.{arith}
 use lib.IntN.{ℤ}
-use lib.ListN.{length, replicate}
+use lib.ListN.{length}
 use Rattle.receipt.specs.declared.details.Details.{Details}
 use Rattle.journal.specs.State.{TypedState}
-use Rattle.journal.specs.Issuing.{issued, issueBuffer}
-use Rattle.journal.specs.Listing.{issuedList}
-use Rattle.journal.specs.Calls.{Order, TypedOrder, failedOrder, Call, issue, issueList, TypedList, nothing, also, Register, numberOf, numbersOf, call, calls}
-use Rattle.journal.specs.Lists as single
-use Rattle.journal.specs.Lists.{singleCalls, NoneRefused, FirstRefused, Ends, Lists}
-use Rattle.journal.specs.declared.state.State.{State}
+use Rattle.journal.specs.Calls.{Order, TypedOrder, failedOrder, Call, issue, TypedList, nothing, also, Register, numberOf, numbersOf, call, calls}
+use Rattle.journal.specs.Lists as lists
+use Rattle.journal.specs.Lists.{singleCalls, NoneRefused, FirstRefused, Ends, ListLeaves}
 use Rattle.journal.specs.declared.state.IssuedList.{IssuedList}
 use Rattle.journal.proofs.Lists.{list-equals-single-calls}
-use Rattle.journal.proofs.Registers.{issue-same}
+use Rattle.journal.proofs.Registers.{issue-kept}
 use Rattle.journal.proofs.Touching.{issue-room}
-use Rattle.device.specs.Layout.{stateBytes, stateOf}
-use Rattle.device.specs.Details.{dateOf, detailsWith, ofKind, detailsOf, kindNumber, listIn}
-use Rattle.device.specs.Calls.{Slices, orderIn, issuedNumber, listedNumber, listedCount, listedSlices}
-use Rattle.device.specs.Demand.{CallFromC, issuing, listing, callIn, numberFromC, slicesAfter, callWithDetails, slicesAfterAll, numbersFromC}
-use Rattle.device.specs.ListLaws.{singleCallsFromC, singleNumberAfter, AllReturnZero, FirstNonzero, EndsInC, whole, early, ListsInC, Lent, ListEqualsSingleCallsInC}
-use Rattle.device.proofs.Below.{issue-number, issue-call, issued-number, issued-typed, list-call, list-number}
+use Rattle.journal.proofs.Answers.{issued-number}
+use Rattle.device.specs.Layout.{stateOf}
+use Rattle.device.specs.Details.{dateOf, detailsWith, ofKind, detailsOf, kindNumber, detailsIn, listIn}
+use Rattle.device.specs.Calls.{Slices, orderIn, issuedNumber}
+use Rattle.device.specs.Demand.{issuing, listing, callIn, numberFromC, slicesAfter, callWithDetails, slicesAfterAll, numbersFromC}
+use Rattle.device.specs.ListLaws.{singleCallsFromC, singleNumberAfter, AllReturnZero, FirstNonzero, EndsInC, whole, early, ListLeavesInC, Lent, ListReadsAsIssue, ListEqualsSingleCallsInC}
+use Rattle.device.proofs.Below.{issue-number, issue-call, issued-typed, list-call, list-number}
 use Rattle.device.proofs.Spelling.{bytes-typed, bytes-are-kept}
 use Rattle.device.proofs.DetailLaws.{five, kind-same}
 use Rattle.device.proofs.CallsFromC.{slicesOf, list-typed, after-same, number-same, count-same, Same, more-same, none-same}
+
+-- ---- the details at a place of a list
+
+pub list-reads-as-issue : ListReadsAsIssue
+unfolding orderIn failedOrder detailsIn
+list-reads-as-issue b = refl
 
 -- ---- a single call keeps what the types say
 
@@ -44,7 +48,7 @@ issue-keeps g c t l o = go (numberOf g (issue c)) refl
           long = ap (λ (x : Register). length (x .buf)) (issue-call g c) ∙ issue-room (g .state) (c .details) (c .signature) (g .buf);
         }
     go (suc k) z =
-        let e = issue-same g c (λ q. omega (arith, z, q)) in
+        let e = issue-kept g c (λ q. omega (arith, z, q)) in
         record { typed = subst (λ (x : Register). TypedState (x .state)) (sym e) t; long = ap (λ (x : Register). length (x .buf)) e }
 
 -- ---- the single calls from C are those of the journal
@@ -97,7 +101,7 @@ module _ (g : Register) (t : TypedState (g .state)) (l : length (g .buf) < 18446
 
   module _ (list : List ℕ) where
     -- what the journal's list does is what the call from C does
-    lists-same : (done : List Details) (number : ℕ) → TypedList done → Lists g (listIn list) done number → ListsInC (slicesOf g) list done number
+    lists-same : (done : List Details) (number : ℕ) → TypedList done → ListLeaves g (listIn list) done number → ListLeavesInC (slicesOf g) list done number
     unfolding numberFromC slicesAfter callIn
     lists-same done number td h =
         let e = list-call g (listIn list) in
@@ -117,7 +121,7 @@ module _ (g : Slices) (list : List ℕ) (lent : Lent g list) where
 
   register-typed : TypedState (register .state)
   unfolding register
-  register-typed = bytes-typed (g .state) (lent .state) (lent .whole)
+  register-typed = bytes-typed (g .state) (lent .state) (lent .size)
 
   register-room : length (register .buf) < 18446744073709551616
   unfolding register
@@ -125,13 +129,13 @@ module _ (g : Slices) (list : List ℕ) (lent : Lent g list) where
 
   slices-is : slicesOf register ≡ g
   unfolding slicesOf register
-  slices-is = λ i. record { state = bytes-are-kept (g .state) (lent .state) (lent .whole) i; journal = g .journal }
+  slices-is = λ i. record { state = bytes-are-kept (g .state) (lent .state) (lent .size) i; journal = g .journal }
 
-  all-equal : AllReturnZero g (listIn list) → ListsInC g list (listIn list) 0
+  all-equal : AllReturnZero g (listIn list) → ListLeavesInC g list (listIn list) 0
   all-equal h =
       let ts = list-typed list (lent .bytes) in
       let z = sym (numbers-are register register-typed register-room (listIn list) ts) ∙ subst (λ (x : Slices). AllReturnZero x (listIn list)) (sym slices-is) h in
-      subst (λ (x : Slices). ListsInC x list (listIn list) 0) slices-is
+      subst (λ (x : Slices). ListLeavesInC x list (listIn list) 0) slices-is
       (lists-same register register-typed register-room list (listIn list) 0 ts (list-equals-single-calls .all register (listIn list) z))
 
   module _ (before : List Details) (d : Details) (later : List Details) (e : listIn list ≡ before ++ (d ∷ later)) where
@@ -148,18 +152,18 @@ module _ (g : Slices) (list : List ℕ) (lent : Lent g list) where
     zeros-from : NoneRefused register before → AllReturnZero g before
     zeros-from h = subst (λ (x : Slices). AllReturnZero x before) slices-is (numbers-are register register-typed register-room before (parts .0) ∙ h)
 
-    until-equal : FirstNonzero g before d → ListsInC g list before (singleNumberAfter g before d)
+    until-equal : FirstNonzero g before d → ListLeavesInC g list before (singleNumberAfter g before d)
     until-equal h =
         let f : FirstRefused register before d = record { none = zeros-are (h .zeros); refused = λ q. h .nonzero (after-is ∙ q) } in
         let m = numberOf (calls register (singleCalls before)) (issue (failedOrder d)) in
         let q = list-equals-single-calls .until register before d later f in
-        let r = lists-same register register-typed register-room list before m (parts .0) (subst (λ (ds : List Details). Lists register ds before m) (sym e) q) in
-        subst (λ (x : Slices). ListsInC x list before (singleNumberAfter g before d)) slices-is (subst (ListsInC (slicesOf register) list before) (sym after-is) r)
+        let r = lists-same register register-typed register-room list before m (parts .0) (subst (λ (ds : List Details). ListLeaves register ds before m) (sym e) q) in
+        subst (λ (x : Slices). ListLeavesInC x list before (singleNumberAfter g before d)) slices-is (subst (ListLeavesInC (slicesOf register) list before) (sym after-is) r)
 
   ends-in : Ends register (listIn list) → EndsInC g (listIn list)
-  ends-in (single.whole h) =
+  ends-in (lists.whole h) =
       whole (subst (λ (x : Slices). AllReturnZero x (listIn list)) slices-is (numbers-are register register-typed register-room (listIn list) (list-typed list (lent .bytes)) ∙ h))
-  ends-in (single.early before d later e f) =
+  ends-in (lists.early before d later e f) =
       early before d later e (record { zeros = zeros-from before d later e (f .none); nonzero = λ z. f .refused (sym (after-is before d later e) ∙ z) })
 
 pub list-equals-single-calls-in-c : ListEqualsSingleCallsInC

@@ -8,7 +8,6 @@ use borrow.Author.Tests.{eq-eqb, ne-eqb, eqb-true, eqb-false}
 use lib.Dec.{eqb}
 use lib.ListN.{length, take, drop, getD, length-append, length-drop}
 use lib.Seq.{take-at, drop-at, drop-drop, length-take-le}
-use Rattle.primitives.specs.Questions.{ask}
 use Rattle.primitives.proofs.Rows.{ask-zero, ask-yes, ask-no}
 use Rattle.receipt.specs.Amount.{amountLimit}
 use Rattle.receipt.specs.declared.details.Details.{Details}
@@ -22,11 +21,11 @@ use Rattle.journal.specs.declared.state.IssuedList.{IssuedList}
 use Rattle.journal.proofs.Refusals.{refused-changes-nothing}
 use Rattle.journal.proofs.Lists.{empty-list-changes-nothing}
 use Rattle.journal.proofs.ListSteps.{buffer-none, answer-no, buffer-no, listed, listed-start, listed-end, listed-more, buffer-more, listed-stops, buffer-stops}
+use Rattle.journal.proofs.Answers.{issued-number}
 use Rattle.device.specs.Layout.{stateOf, kept}
 use Rattle.device.specs.Details.{noDetails, pieces, detailsBytes, detailsIn, detailsFrom, listIn}
 use Rattle.device.specs.Calls.{Slices, listAnswer, listedNumber, listedCount, listedSlices}
 use Rattle.device.specs.Laws.{TypedDetails, ListIsRead, RefusedListKeepsSlices, EmptyListChangesNothingInC, CutListIssuesNone}
-use Rattle.device.proofs.Below.{issued-number}
 use Rattle.device.proofs.DetailLaws.{details-are-read}
 use Rattle.device.proofs.Sizes.{state-none}
 use Rattle.device.proofs.Spelling.{kept-as-it-was}
@@ -238,7 +237,7 @@ cut-list-issues-none g list a h =
     let n = cut-listed g list h in
     let q = n ∙ no-details-number st [] (length (g .journal)) in
     let z = cut-count g list h in
-    (z, refused-list-keeps-slices g a list z, n, λ s. q ∙ ask-yes 6 7 s, λ s. q ∙ ask-no 6 7 s)
+    (z, refused-list-keeps-slices g a list z, λ s. q ∙ ask-yes 6 7 s, λ s. q ∙ ask-no 6 7 s)
 
 -- ---- a state that is not 447 bytes long
 

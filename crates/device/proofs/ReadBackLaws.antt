@@ -29,7 +29,7 @@ use Rattle.journal.specs.Issuing.{entryOf, textOf, issueNumber, issued, issueBu
 use Rattle.journal.specs.Calls.{Order, orderOf}
 use Rattle.journal.specs.declared.state.State.{State}
 use Rattle.journal.proofs.Serials.{serials-used, newest-at}
-use Rattle.journal.proofs.Answers.{Eight, Sound, sound-settings, issue-zero}
+use Rattle.journal.proofs.Answers.{Eight, Sound, sound-settings, issue-zero, issued-number}
 use Rattle.journal.proofs.Appended.{form-is-appended, order-back, text-is, entry-spelled}
 use Rattle.journal.proofs.ReceiptLines.{valid-place}
 use Rattle.device.specs.Layout.{settingsAt, stateAt, noSettings, settingsOf, widthOf, stateOf, kept}
@@ -39,7 +39,7 @@ use Rattle.device.specs.Calls.{settingsIn, settingsInBuffer, Slices, Iss
 use Rattle.device.specs.Demand.{TypedIssueCall}
 use Rattle.device.specs.ReadBack.{foundIn, answered, readBack}
 use Rattle.device.specs.ReadBackLaws.{readAs, Readable, ReadIsExact, AcceptedIsRead, RefusedReadChangesNothing, appended, IssuedIsRead}
-use Rattle.device.proofs.Below.{issued-number, issued-typed}
+use Rattle.device.proofs.Below.{issued-typed}
 use Rattle.device.proofs.Sizes.{kept-all}
 use Rattle.device.proofs.Spelling.{state-is-read, bytes-typed}
 use Rattle.device.proofs.Zeros.{unopened-gets-six}

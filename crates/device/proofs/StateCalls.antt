@@ -16,11 +16,12 @@ use Rattle.journal.specs.Preparing.{prepareNumber}
 use Rattle.journal.specs.declared.state.State.{State}
 use Rattle.journal.proofs.Refusals.{refused-changes-nothing}
 use Rattle.journal.proofs.Serials.{used-length}
+use Rattle.journal.proofs.Answers.{issued-number}
 use Rattle.device.specs.Layout.{stateOf, kept}
 use Rattle.device.specs.Details.{noDetails}
 use Rattle.device.specs.Calls.{Slices, serialIn, settingsIn, settingsInBuffer, openedNumber, openedSlices, IssueCall, orderIn, issueAnswer, issuedNumber, issuedSlices, changeAnswer, changedNumber, changedSlices}
 use Rattle.device.specs.Laws.{RefusedIssueKeepsSlices, RefusedChangeKeepsSlices, OtherLengthsGetSix, SettingsOfSerial}
-use Rattle.device.proofs.Below.{issued-number, changed-number}
+use Rattle.device.proofs.Below.{changed-number}
 use Rattle.device.proofs.Lists.{list-left, list-six}
 use Rattle.device.proofs.Sizes.{state-none, kept-not, take-six}
 use Rattle.device.proofs.Spelling.{settings-are-read, kept-as-it-was}

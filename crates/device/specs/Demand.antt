@@ -15,7 +15,7 @@ use Rattle.receipt.specs.declared.details.Details.{Details}
 use Rattle.receipt.specs.declared.entry.Entry.{Entry}
 use Rattle.journal.specs.Receipts.{Receipt, receiptsIn, sum}
 use Rattle.journal.specs.Valid.{Pair, entriesIn, Valid, headOf}
-use Rattle.journal.specs.Calls.{failedOrder, Call, issue, issueList, change, Register, opening, numbersOf, receiptOfCall, Period, periodsIn, orderOf}
+use Rattle.journal.specs.Calls.{Call, issue, issueList, change, Register, opening, numbersOf, receiptOfCall, firstReceipts, Period, periodsIn, orderOf}
 use Rattle.device.specs.Layout.{settingsOf, widthOf, keyOf, stateOf, kept}
 use Rattle.device.specs.Details.{kindNumber, listIn}
 use Rattle.device.specs.Calls.{settingsFrom, widthWith, settingsAnswer, settingsBuffer, Slices, openedNumber, openedSlices, IssueCall, callWith, orderIn, issuedNumber, issuedSlices, listedNumber, listedCount, listedSlices, changedNumber, changedSlices, takeOverAnswer}
@@ -82,11 +82,11 @@ unfoldable pub numbersFromC : Slices → List CallFromC → List ℕ
 numbersFromC g [] = []
 numbersFromC g (c ∷ cs) = numberFromC g c ∷ numbersFromC (slicesAfter g c) cs
 
--- the receipts that a call of ditgrux_issue_list issues: as many as it says, the first ones
+-- the receipts that a call of ditgrux_issue_list issues: the first ones, as many as it says
 unfoldable pub receiptsOfListFromC : Slices → List ℕ → List Receipt
-receiptsOfListFromC g list = map (λ (d : Details). receiptOfCall (failedOrder d)) (take (listedCount g list) (listIn list))
+receiptsOfListFromC g list = firstReceipts (listedCount g list) (listIn list)
 
--- the receipts of the calls of ditgrux_issue that return 0 and of those of ditgrux_issue_list, in order
+-- the receipts that the calls issue, in order: that of each ditgrux_issue that returns 0, and those of each ditgrux_issue_list
 unfoldable pub receiptsFromC : Slices → List CallFromC → List Receipt
 receiptsFromC g [] = []
 receiptsFromC g (issuing c ∷ cs) =
@@ -94,7 +94,7 @@ receiptsFromC g (issuing c ∷ cs) =
 receiptsFromC g (listing list ∷ cs) = receiptsOfListFromC g list ++ receiptsFromC (listedSlices g list) cs
 receiptsFromC g (changing serial ∷ cs) = receiptsFromC (changedSlices g serial) cs
 
--- the periods that they make, and the calls of ditgrux_change that return 0
+-- the periods that the calls make: a ditgrux_change that returns 0 begins a new one
 unfoldable pub periodsFromC : Slices → Period → List CallFromC → List Period
 periodsFromC g x [] = x ∷ []
 periodsFromC g x (issuing c ∷ cs) =

@@ -91,6 +91,6 @@ unfoldable pub detailsFrom : ℕ → List ℕ → List Details
 detailsFrom zero b = []
 detailsFrom (suc k) b = detailsIn (take 72 b) ∷ detailsFrom k (drop 72 b)
 
--- if the bytes are not a whole number of details, one receipt without a number, which question 7 refuses
+-- if the bytes are not a whole number of details, one receipt that is all zero: question 7 refuses receipt number 0
 unfoldable pub listIn : List ℕ → List Details
 listIn b = cond (eqb (length b % 72) 0) (detailsFrom (length b / 72) b) (noDetails ∷ [])

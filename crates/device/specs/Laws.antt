@@ -112,12 +112,11 @@ abbrev pub EmptyListChangesNothingInC : Type 0
 EmptyListChangesNothingInC =
     (g : Slices) → AllBytes (g .state) → (listedNumber g [] ≡ 0) × (listedCount g [] ≡ 0) × (listedSlices g [] ≡ g)
 
--- a list that is not a whole number of details: none is issued, and the number is that of a receipt without a number, 7, or 6 if the state is not sound
+-- a list that is not a whole number of details: none is issued, and 7 is returned, or 6 if the state is not sound
 abbrev pub CutListIssuesNone : Type 0
 CutListIssuesNone =
     (g : Slices) (list : List ℕ) → AllBytes (g .state) → (length list % 72 ≡ 0 → ⊥)
     → (listedCount g list ≡ 0) × (listedSlices g list ≡ g)
-    × (listedNumber g list ≡ issueNumber (stateOf (g .state)) noDetails [] (length (g .journal)))
     × (sound (stateOf (g .state)) (length (g .journal)) ≡ true → listedNumber g list ≡ 7)
     × (sound (stateOf (g .state)) (length (g .journal)) ≡ false → listedNumber g list ≡ 6)
 

@@ -14,8 +14,8 @@ ghost use Rattle.device.specs.Layout.{stateOf};
 ghost use Rattle.device.specs.Details.{noDetails, detailsFrom, listIn};
 ghost use Rattle.device.specs.Calls.{slicesWith, listedNumber, listedCount, listedSlices};
 
-// Issues the receipts of a whole number of details, in order, up to the first that is refused. It is given the state as bytes: each copy of a whole
-// state lies on the stack.
+// Issues the receipts of a whole number of details, in order, up to the first that is refused. It takes the state as bytes: a copy of a
+// whole state takes stack.
 fn issue_each(state: &[u8], list: &[u8], buf: &mut [u8]) -> IssuedList
     requires { ⌜ length (now list) % 72 ≡ 0 ⌝ }
     ensures { λ r. let ds : _ = detailsFrom (length (now (list .entry)) / 72) (now (list .entry)) in
@@ -47,7 +47,7 @@ fn issue_each(state: &[u8], list: &[u8], buf: &mut [u8]) -> IssuedList
     }
 }
 
-// Issues none, for a list that is cut within details: the number of a receipt without a number.
+// Issues none, for a list that is not a whole number of details: refused as receipt number 0 is.
 fn issue_none(state: &[u8], buf: &mut [u8]) -> IssuedList
     ensures { λ r.
         ⌜ (r ≡ issuedList (stateOf (now (state .entry))) (noDetails ∷ []) (now (buf .entry))) × (now (buf .exit) ≡ now (buf .entry)) ⌝ }

@@ -34,7 +34,7 @@ use Rattle.journal.specs.Head.{head, entryText}
 use Rattle.primitives.specs.Questions.{ask, ifZero}
 use Rattle.journal.specs.Changing.{changeNumber}
 use Rattle.journal.specs.Step.{countWithin, soundAlone, sound, numberAbove, firstGood, newCounter, detailsNumber, detailsNumberWithin, fieldsOf, renewNumber}
-use Rattle.journal.specs.Issuing.{signatureSized, givenSignature, entryOf, textOf, entryFits, issueNumber, issueNumberWithin, issued}
+use Rattle.journal.specs.Issuing.{signatureSized, givenSignature, entryOf, textOf, entryFits, issueNumber, issueNumberWithin, issued, issuedWithin}
 use Rattle.journal.specs.Calls.{Order, TypedOrder}
 use Rattle.journal.specs.declared.state.State.{State}
 use Rattle.receipt.proofs.Entries.{spellable-yes, after-counter, none-counter, failed-zero, signed-zero}
@@ -151,6 +151,10 @@ pub record Answered (st : State) (d : Details) (sig : List ℕ) (room : ℕ) : T
   pub details : Detailed st d
   pub signature : signatureSized sig ≡ true
   pub fits : st .length + length (entryText (textOf st d sig)) ≤ room
+
+pub issued-number : (st : State) (d : Details) (sig : List ℕ) (room : ℕ) → issued st d sig room .number ≡ issueNumber st d sig room
+unfolding issuedWithin
+issued-number st d sig room = refl
 
 pub issue-zero : (st : State) (d : Details) (sig : List ℕ) (room : ℕ) → issueNumber st d sig room ≡ 0 → Answered st d sig room
 unfolding issueNumberWithin sound entryFits

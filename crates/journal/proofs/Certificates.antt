@@ -30,7 +30,7 @@ use Rattle.journal.specs.Step.{fresh, sound, numberAbove, firstGood, new
 use Rattle.journal.specs.Issuing.{issueNumber, signatureSized, entryFits, textOf, issueNumberWithin}
 use Rattle.journal.specs.Changing.{changeNumber, changed, changeBuffer}
 use Rattle.journal.specs.Checking.{headNumber, found, after, entryNumber, checked, stopped, placeChecked, startNumber, startChecked, full, oneStep, steps, refused, accepted, lastAnswer, takeOver}
-use Rattle.journal.specs.Certificates.{EachGood, GoodSerials, SerialsGoodExactly, ChangeAsks6AsIssue, BadSerialGets3, OneOf, UsedSerialGets30, NinthSerialGets31, NoRoomGets13, SerialAdded, ChangeAddsSerial, ChangeAppends, ChangeTouchesNoOther, ChangedSerialIsSpelled, RunsOn, ChangeRunsOn, oneStepBefore, stepsBefore, takeOverBefore, OneSectionAsBefore}
+use Rattle.journal.specs.Certificates.{EachGood, SerialsGoodExactly, ChangeAsks6AsIssue, BadSerialGets3, OneOf, UsedSerialGets30, NinthSerialGets31, NoRoomGets13, SerialAdded, ChangeAddsSerial, ChangeAppends, ChangeTouchesNoOther, ChangedSerialIsSpelled, RunsOn, ChangeRunsOn, oneStepBefore, stepsBefore, takeOverBefore, OneSectionAsBefore}
 use Rattle.journal.specs.Valid.{Owner, Pair, settingsFor, texts, pairTexts, placedUnder, allPlaced, journalText, GoodOwner, Valid, headOf}
 use Rattle.journal.specs.declared.state.State.{State}
 use Rattle.journal.specs.declared.state.TakenOver.{TakenOver}

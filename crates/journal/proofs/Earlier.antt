@@ -21,9 +21,10 @@ use Rattle.journal.specs.Checking.{accepted, takeOver}
 use Rattle.journal.specs.Valid.{Placed, allPlaced, ValidWithin, Valid}
 use Rattle.journal.specs.Calls.{Order, failedOrder, Call, issue, issueList, change, TypedList, nothing, also, lists, TypedCalls, none, more, Register, journalOf, calls, call, callWithin, callsWithin}
 use Rattle.journal.specs.Earlier.{StaysAccepted, OldJournalsStayAccepted, OldCallsStay, OnlyTheLimitMoved}
+use Rattle.journal.specs.Lists.{singleCall}
 use Rattle.journal.specs.declared.state.State.{State}
 use Rattle.journal.proofs.JournalStates.{state-of-journal}
-use Rattle.journal.proofs.Lists.{single, singleNumber, list-none, list-yes, list-no}
+use Rattle.journal.proofs.Lists.{singleNumber, list-none, list-yes, list-no}
 use Rattle.journal.proofs.Registers.{refused-within}
 use Rattle.journal.proofs.WrittenIsAccepted.{written-is-accepted}
 
@@ -143,9 +144,9 @@ module _ (limit : ℕ) (lower : limit ≤ amountLimit) where
   keep-list : (ds : List Details) (g : Register) → TypedList ds → KeptList g ds
   unfolding failedOrder
   keep-list [] g nothing = record { those = []; typed = nothing; kept = list-none limit g ∙ sym (list-none amountLimit g) }
-  keep-list (d ∷ ds) g (also t ts) = go (singleNumber limit g d) refl (keep-list ds (callWithin limit g (single d)) ts)
+  keep-list (d ∷ ds) g (also t ts) = go (singleNumber limit g d) refl (keep-list ds (callWithin limit g (singleCall d)) ts)
     where
-      go : (m : ℕ) → singleNumber limit g d ≡ m → KeptList (callWithin limit g (single d)) ds → KeptList g (d ∷ ds)
+      go : (m : ℕ) → singleNumber limit g d ≡ m → KeptList (callWithin limit g (singleCall d)) ds → KeptList g (d ∷ ds)
       go zero e k =
           let n : issueNumberWithin limit (g .state) d [] (length (g .buf)) ≡ 9 → ⊥ = λ q. omega (arith, e, q) in
           let z : singleNumber amountLimit g d ≡ 0 = number-stays (g .state) d [] (length (g .buf)) n ∙ e in

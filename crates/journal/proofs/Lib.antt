@@ -16,6 +16,7 @@ pub mod FirstNo
 pub mod Heads
 pub mod IssueCalls
 pub mod JournalStates
+pub mod ListNumbers
 pub mod ListSteps
 pub mod ListTurns
 pub mod Lists
@@ -34,7 +35,6 @@ pub mod Registers
 pub mod Sections
 pub mod Serials
 pub mod SharedKey
-pub mod SoundLists
 pub mod Starting
 pub mod Stepping
 pub mod Touching

@@ -11,6 +11,7 @@ use Rattle.journal.specs.Listing.{countedFrom, issuedListWithin, issuedL
 use Rattle.journal.specs.declared.state.State.{State}
 use Rattle.journal.specs.declared.state.Issued.{Issued}
 use Rattle.journal.specs.declared.state.IssuedList.{IssuedList}
+use Rattle.journal.proofs.Answers.{issued-number}
 use Rattle.journal.proofs.Refusals.{issue-refused}
 
 -- ---- the definitions, under any limit of an amount
@@ -70,14 +71,10 @@ counted-on k r =
     let e : (k + 1) + r .count ≡ k + (1 + r .count) = omega arith in
     λ j. record { number = r .number; count = e j; state = r .state }
 
-pub one-number : (s : State) (d : Details) (sig : List ℕ) (room : ℕ) → issued s d sig room .number ≡ issueNumber s d sig room
-unfolding issuedWithin
-one-number s d sig room = refl
-
 -- one receipt: `one` is the answer to it, ws the buffer after it
 module _ (s : State) (d : Details) (ds : List Details) (b ws : List ℕ) (one : Issued) (e : one ≡ issued s d [] (length b)) (f : ws ≡ issueBuffer s d [] b) where
   number-is : one .number ≡ issueNumber s d [] (length b)
-  number-is = ap (λ (o : Issued). o .number) e ∙ one-number s d [] (length b)
+  number-is = ap (λ (o : Issued). o .number) e ∙ issued-number s d [] (length b)
 
   -- it is issued
   module _ (z : one .number ≡ 0) where

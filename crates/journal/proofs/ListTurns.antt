@@ -22,8 +22,8 @@ use Rattle.journal.proofs.state.State as S
 use Rattle.journal.proofs.state.State.Laws as S′
 
 -- a default for `getD`
-abbrev pub none : Details
-none = record { number = 0; date = record { year = 0; month = 0; day = 0; hour = 0; minute = 0; second = 0 }; amounts = []; kind = Standard }
+abbrev pub blank : Details
+blank = record { number = 0; date = record { year = 0; month = 0; day = 0; hour = 0; minute = 0; second = 0 }; amounts = []; kind = Standard }
 
 -- ---- where the loop stands: i receipts are issued, s is the state after them and zs the buffer
 
@@ -50,18 +50,18 @@ module _ {st : State} {xs : List Details} {ys : List ℕ} where
 
   module _ (t : Turn st xs ys) (l : t .i < length xs) where
     -- the list from here is its next receipt and the rest
-    list-here : listed (t .i) (t .s) (getD xs (t .i) none ∷ drop (suc (t .i)) xs) (t .zs) ≡ issuedList st xs ys
-    list-here = sym (ap (λ (ds : List Details). listed (t .i) (t .s) ds (t .zs)) (drop-cons xs (t .i) none l)) ∙ t .list-is
+    list-here : listed (t .i) (t .s) (getD xs (t .i) blank ∷ drop (suc (t .i)) xs) (t .zs) ≡ issuedList st xs ys
+    list-here = sym (ap (λ (ds : List Details). listed (t .i) (t .s) ds (t .zs)) (drop-cons xs (t .i) blank l)) ∙ t .list-is
 
-    buffer-here : listBuffer (t .s) (getD xs (t .i) none ∷ drop (suc (t .i)) xs) (t .zs) ≡ listBuffer st xs ys
-    buffer-here = sym (ap (λ (ds : List Details). listBuffer (t .s) ds (t .zs)) (drop-cons xs (t .i) none l)) ∙ t .buffer-is
+    buffer-here : listBuffer (t .s) (getD xs (t .i) blank ∷ drop (suc (t .i)) xs) (t .zs) ≡ listBuffer st xs ys
+    buffer-here = sym (ap (λ (ds : List Details). listBuffer (t .s) ds (t .zs)) (drop-cons xs (t .i) blank l)) ∙ t .buffer-is
 
-    module _ (one : Issued) (ws : List ℕ) (e : one ≡ issued (t .s) (getD xs (t .i) none) [] (length (t .zs))) (f : ws ≡ issueBuffer (t .s) (getD xs (t .i) none) [] (t .zs)) where
+    module _ (one : Issued) (ws : List ℕ) (e : one ≡ issued (t .s) (getD xs (t .i) blank) [] (length (t .zs))) (f : ws ≡ issueBuffer (t .s) (getD xs (t .i) blank) [] (t .zs)) where
       pub list-next : eqb (one .number) 0 ≡ true → listed (t .i + 1) (one .state) (drop (t .i + 1) xs) ws ≡ issuedList st xs ys
-      list-next z = (λ j. listed (t .i + 1) (one .state) (drop (add-one (t .i) j) xs) ws) ∙ listed-more (t .s) (getD xs (t .i) none) (drop (suc (t .i)) xs) (t .zs) ws one e f (eqb-true _ _ z) (t .i) ∙ list-here
+      list-next z = (λ j. listed (t .i + 1) (one .state) (drop (add-one (t .i) j) xs) ws) ∙ listed-more (t .s) (getD xs (t .i) blank) (drop (suc (t .i)) xs) (t .zs) ws one e f (eqb-true _ _ z) (t .i) ∙ list-here
 
       pub buffer-next : eqb (one .number) 0 ≡ true → listBuffer (one .state) (drop (t .i + 1) xs) ws ≡ listBuffer st xs ys
-      buffer-next z = (λ j. listBuffer (one .state) (drop (add-one (t .i) j) xs) ws) ∙ buffer-more (t .s) (getD xs (t .i) none) (drop (suc (t .i)) xs) (t .zs) ws one e f (eqb-true _ _ z) ∙ buffer-here
+      buffer-next z = (λ j. listBuffer (one .state) (drop (add-one (t .i) j) xs) ws) ∙ buffer-more (t .s) (getD xs (t .i) blank) (drop (suc (t .i)) xs) (t .zs) ws one e f (eqb-true _ _ z) ∙ buffer-here
 
       abbrev pub goes-on : length ws ≡ length (t .zs) → Is S.the-row (one .state) (LL.vals S.the-type S′.the-laws (one .state)) → eqb (one .number) 0 ≡ true → Turn st xs ys
       goes-on long is z = record { i = t .i + 1; s = one .state; zs = ws; within = omega (arith, l); long = long ∙ t .long; is = is; list-is = list-next z; buffer-is = buffer-next z }
@@ -69,9 +69,9 @@ module _ {st : State} {xs : List Details} {ys : List ℕ} where
       -- the function returns within the loop
       pub stops : eqb (one .number) 0 ≡ false → (record { number = one .number; count = t .i; state = one .state } ≡ issuedList st xs ys) × (ws ≡ listBuffer st xs ys)
       stops z = (
-        (λ j. record { number = one .number; count = t .i; state = left-there (t .s) (getD xs (t .i) none) (drop (suc (t .i)) xs) (t .zs) ws one e f (eqb-false _ _ z) .0 j })
-            ∙ listed-stops (t .s) (getD xs (t .i) none) (drop (suc (t .i)) xs) (t .zs) ws one e f (eqb-false _ _ z) (t .i) ∙ list-here,
-        buffer-stops (t .s) (getD xs (t .i) none) (drop (suc (t .i)) xs) (t .zs) ws one e f (eqb-false _ _ z) ∙ buffer-here,
+        (λ j. record { number = one .number; count = t .i; state = left-there (t .s) (getD xs (t .i) blank) (drop (suc (t .i)) xs) (t .zs) ws one e f (eqb-false _ _ z) .0 j })
+            ∙ listed-stops (t .s) (getD xs (t .i) blank) (drop (suc (t .i)) xs) (t .zs) ws one e f (eqb-false _ _ z) (t .i) ∙ list-here,
+        buffer-stops (t .s) (getD xs (t .i) blank) (drop (suc (t .i)) xs) (t .zs) ws one e f (eqb-false _ _ z) ∙ buffer-here,
       )
 
   -- the loop is left

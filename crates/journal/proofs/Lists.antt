@@ -7,23 +7,19 @@ use lib.ListN.{length, take, replicate}
 use Rattle.receipt.specs.Amount.{amountLimit}
 use Rattle.receipt.specs.declared.details.Details.{Details}
 use Rattle.journal.specs.Issuing.{issueNumberWithin}
-use Rattle.journal.specs.Listing.{countedFrom, issuedListWithin, issuedList, listBufferWithin, listBuffer}
+use Rattle.journal.specs.Listing.{countedFrom, issuedListWithin, issuedList, listBufferWithin}
 use Rattle.journal.specs.Calls.{Call, issue, issueList, failedOrder, Register, numberOf, callWithin, call, calls, callsWithin, numbersOf, receiptOfCall, receiptsOfList}
-use Rattle.journal.specs.Lists.{singleCalls, NoneRefused, FirstRefused, Ends, whole, early, Lists, ListEqualsSingleCalls, EmptyListChangesNothing}
+use Rattle.journal.specs.Lists.{singleCall, singleCalls, NoneRefused, FirstRefused, Ends, whole, early, ListLeaves, ListEqualsSingleCalls, EmptyListChangesNothing}
 use Rattle.journal.specs.declared.state.IssuedList.{IssuedList}
 use Rattle.journal.proofs.ListSteps.{answer-none, buffer-none, answer-yes, buffer-yes, answer-no, buffer-no}
 
 -- ---- one receipt of a list: it is issued, or it ends the list
 
--- the single call for a receipt
-abbrev pub single : Details → Call
-single d = issue (failedOrder d)
-
--- its number under a limit of an amount
+-- the number of a singleCall call under a limit of an amount
 abbrev pub singleNumber : ℕ → Register → Details → ℕ
 singleNumber limit g d = issueNumberWithin limit (g .state) d [] (length (g .buf))
 
-pub single-number : (g : Register) (d : Details) → numberOf g (single d) ≡ singleNumber amountLimit g d
+pub single-number : (g : Register) (d : Details) → numberOf g (singleCall d) ≡ singleNumber amountLimit g d
 unfolding numberOf failedOrder
 single-number g d = refl
 
@@ -32,7 +28,7 @@ unfolding callWithin issuedListWithin listBufferWithin
 list-none limit g = refl
 
 module _ (limit : ℕ) (g : Register) (d : Details) (ds : List Details) where
-  pub list-yes : singleNumber limit g d ≡ 0 → callWithin limit g (issueList (d ∷ ds)) ≡ callWithin limit (callWithin limit g (single d)) (issueList ds)
+  pub list-yes : singleNumber limit g d ≡ 0 → callWithin limit g (issueList (d ∷ ds)) ≡ callWithin limit (callWithin limit g (singleCall d)) (issueList ds)
   unfolding callWithin failedOrder
   list-yes z = λ i. record { state = answer-yes limit (g .state) d ds (g .buf) z i .state; buf = buffer-yes limit (g .state) d ds (g .buf) z i }
 
@@ -50,11 +46,11 @@ unfolding receiptsOfList issuedListWithin
 receipts-nothing g = refl
 
 module _ (g : Register) (d : Details) (ds : List Details) where
-  pub receipts-yes : singleNumber amountLimit g d ≡ 0 → receiptsOfList g (d ∷ ds) ≡ receiptOfCall (failedOrder d) ∷ receiptsOfList (call g (single d)) ds
+  pub receipts-yes : singleNumber amountLimit g d ≡ 0 → receiptsOfList g (d ∷ ds) ≡ receiptOfCall (failedOrder d) ∷ receiptsOfList (call g (singleCall d)) ds
   unfolding receiptsOfList callWithin failedOrder
   receipts-yes z =
       ap (λ (r : IssuedList). map (λ (x : Details). receiptOfCall (failedOrder x)) (take (r .count) (d ∷ ds))) (answer-yes amountLimit (g .state) d ds (g .buf) z)
-      ∙ ap (λ (m : ℕ). map (λ (x : Details). receiptOfCall (failedOrder x)) (take m (d ∷ ds))) (one-plus (issuedList (call g (single d) .state) ds (call g (single d) .buf) .count))
+      ∙ ap (λ (m : ℕ). map (λ (x : Details). receiptOfCall (failedOrder x)) (take m (d ∷ ds))) (one-plus (issuedList (call g (singleCall d) .state) ds (call g (singleCall d) .buf) .count))
 
   pub receipts-no : (singleNumber amountLimit g d ≡ 0 → ⊥) → receiptsOfList g (d ∷ ds) ≡ []
   unfolding receiptsOfList
@@ -69,13 +65,13 @@ empty-list-changes-nothing st buf = (answer-none amountLimit st buf, buffer-none
 first-zero : (m : ℕ) (ms : List ℕ) (n : ℕ) → m ∷ ms ≡ replicate (suc n) 0 → (m ≡ 0) × (ms ≡ replicate n 0)
 first-zero m ms n e = (ap (λ (l : List ℕ). lib.ListN.getD l 0 0) e, ap (λ (l : List ℕ). lib.ListN.drop 1 l) e)
 
-numbers-first : (g : Register) (d : Details) (ds : List Details) → NoneRefused g (d ∷ ds) → (singleNumber amountLimit g d ≡ 0) × NoneRefused (call g (single d)) ds
+numbers-first : (g : Register) (d : Details) (ds : List Details) → NoneRefused g (d ∷ ds) → (singleNumber amountLimit g d ≡ 0) × NoneRefused (call g (singleCall d)) ds
 unfolding numbersOf
 numbers-first g d ds h =
-    let p = first-zero (numberOf g (single d)) (numbersOf (call g (single d)) (singleCalls ds)) (length ds) h in
+    let p = first-zero (numberOf g (singleCall d)) (numbersOf (call g (singleCall d)) (singleCalls ds)) (length ds) h in
     (sym (single-number g d) ∙ p .0, p .1)
 
-none-more : (g : Register) (d : Details) (ds : List Details) → singleNumber amountLimit g d ≡ 0 → NoneRefused (call g (single d)) ds → NoneRefused g (d ∷ ds)
+none-more : (g : Register) (d : Details) (ds : List Details) → singleNumber amountLimit g d ≡ 0 → NoneRefused (call g (singleCall d)) ds → NoneRefused g (d ∷ ds)
 unfolding numbersOf
 none-more g d ds z h = λ i. (single-number g d ∙ z) i ∷ h i
 
@@ -83,7 +79,7 @@ none-nothing : (g : Register) → NoneRefused g []
 unfolding numbersOf
 none-nothing g = refl
 
-calls-first : (g : Register) (d : Details) (ds : List Details) → calls g (singleCalls (d ∷ ds)) ≡ calls (call g (single d)) (singleCalls ds)
+calls-first : (g : Register) (d : Details) (ds : List Details) → calls g (singleCalls (d ∷ ds)) ≡ calls (call g (singleCall d)) (singleCalls ds)
 unfolding callsWithin
 calls-first g d ds = refl
 
@@ -92,7 +88,7 @@ unfolding callsWithin
 calls-nothing g = refl
 
 -- one receipt more that is issued
-also-listed : (g : Register) (d : Details) (ds done : List Details) (m : ℕ) → singleNumber amountLimit g d ≡ 0 → Lists (call g (single d)) ds done m → Lists g (d ∷ ds) (d ∷ done) m
+also-listed : (g : Register) (d : Details) (ds done : List Details) (m : ℕ) → singleNumber amountLimit g d ≡ 0 → ListLeaves (call g (singleCall d)) ds done m → ListLeaves g (d ∷ ds) (d ∷ done) m
 unfolding callWithin failedOrder
 also-listed g d ds done m z h =
     record {
@@ -103,47 +99,47 @@ also-listed g d ds done m z h =
       buffer = buffer-yes amountLimit (g .state) d ds (g .buf) z ∙ h .buffer ∙ ap (λ (r : Register). r .buf) (sym (calls-first g d done));
     }
 
-all-listed : (ds : List Details) (g : Register) → NoneRefused g ds → Lists g ds ds 0
+all-listed : (ds : List Details) (g : Register) → NoneRefused g ds → ListLeaves g ds ds 0
 all-listed [] g h =
     let e = empty-list-changes-nothing (g .state) (g .buf) in
     let c = sym (calls-nothing g) in
     record { answer = e .0 ∙ (λ i. record { number = 0; count = 0; state = c i .state }); buffer = e .1 ∙ ap (λ (r : Register). r .buf) c }
 all-listed (d ∷ ds) g h =
     let p = numbers-first g d ds h in
-    also-listed g d ds ds 0 (p .0) (all-listed ds (call g (single d)) (p .1))
+    also-listed g d ds ds 0 (p .0) (all-listed ds (call g (singleCall d)) (p .1))
 
 first-listed : (before : List Details) (g : Register) (d : Details) (later : List Details) → FirstRefused g before d
-    → Lists g (before ++ (d ∷ later)) before (numberOf (calls g (singleCalls before)) (single d))
+    → ListLeaves g (before ++ (d ∷ later)) before (numberOf (calls g (singleCalls before)) (singleCall d))
 first-listed [] g d later h =
     let c = sym (calls-nothing g) in
-    let r = subst (λ (x : Register). numberOf x (single d) ≡ 0 → ⊥) (calls-nothing g) (h .refused) in
+    let r = subst (λ (x : Register). numberOf x (singleCall d) ≡ 0 → ⊥) (calls-nothing g) (h .refused) in
     let s : singleNumber amountLimit g d ≡ 0 → ⊥ = λ z. r (single-number g d ∙ z) in
     record {
-      answer = answer-no amountLimit (g .state) d later (g .buf) s ∙ (λ i. record { number = (sym (single-number g d) ∙ ap (λ (x : Register). numberOf x (single d)) c) i; count = 0; state = c i .state });
+      answer = answer-no amountLimit (g .state) d later (g .buf) s ∙ (λ i. record { number = (sym (single-number g d) ∙ ap (λ (x : Register). numberOf x (singleCall d)) c) i; count = 0; state = c i .state });
       buffer = buffer-no amountLimit (g .state) d later (g .buf) s ∙ ap (λ (x : Register). x .buf) c;
     }
 first-listed (b ∷ before) g d later h =
     let p = numbers-first g b before (h .none) in
     let e = calls-first g b before in
-    let f : FirstRefused (call g (single b)) before d = record { none = p .1; refused = subst (λ (x : Register). numberOf x (single d) ≡ 0 → ⊥) e (h .refused) } in
-    subst (Lists g (b ∷ (before ++ (d ∷ later))) (b ∷ before)) (ap (λ (x : Register). numberOf x (single d)) (sym e))
-    (also-listed g b (before ++ (d ∷ later)) before _ (p .0) (first-listed before (call g (single b)) d later f))
+    let f : FirstRefused (call g (singleCall b)) before d = record { none = p .1; refused = subst (λ (x : Register). numberOf x (singleCall d) ≡ 0 → ⊥) e (h .refused) } in
+    subst (ListLeaves g (b ∷ (before ++ (d ∷ later))) (b ∷ before)) (ap (λ (x : Register). numberOf x (singleCall d)) (sym e))
+    (also-listed g b (before ++ (d ∷ later)) before _ (p .0) (first-listed before (call g (singleCall b)) d later f))
 
 list-ends : (ds : List Details) (g : Register) → Ends g ds
 list-ends [] g = whole (none-nothing g)
-list-ends (d ∷ ds) g = go (singleNumber amountLimit g d) refl (list-ends ds (call g (single d)))
+list-ends (d ∷ ds) g = go (singleNumber amountLimit g d) refl (list-ends ds (call g (singleCall d)))
   where
-    grown : singleNumber amountLimit g d ≡ 0 → Ends (call g (single d)) ds → Ends g (d ∷ ds)
+    grown : singleNumber amountLimit g d ≡ 0 → Ends (call g (singleCall d)) ds → Ends g (d ∷ ds)
     grown z (whole h) = whole (none-more g d ds z h)
     grown z (early before x later e f) =
         early (d ∷ before) x later (ap (λ (l : List Details). d ∷ l) e)
-        (record { none = none-more g d before z (f .none); refused = subst (λ (r : Register). numberOf r (single x) ≡ 0 → ⊥) (sym (calls-first g d before)) (f .refused) })
+        (record { none = none-more g d before z (f .none); refused = subst (λ (r : Register). numberOf r (singleCall x) ≡ 0 → ⊥) (sym (calls-first g d before)) (f .refused) })
 
-    go : (m : ℕ) → singleNumber amountLimit g d ≡ m → Ends (call g (single d)) ds → Ends g (d ∷ ds)
+    go : (m : ℕ) → singleNumber amountLimit g d ≡ m → Ends (call g (singleCall d)) ds → Ends g (d ∷ ds)
     go zero e h = grown e h
     go (suc m) e h =
         early [] d ds refl
-        (record { none = none-nothing g; refused = λ q. omega (arith, e, sym (single-number g d) ∙ ap (λ (x : Register). numberOf x (single d)) (sym (calls-nothing g)) ∙ q) })
+        (record { none = none-nothing g; refused = λ q. omega (arith, e, sym (single-number g d) ∙ ap (λ (x : Register). numberOf x (singleCall d)) (sym (calls-nothing g)) ∙ q) })
 
 pub list-equals-single-calls : ListEqualsSingleCalls
 list-equals-single-calls = record { all = λ g ds h. all-listed ds g h; until = λ g before d later h. first-listed before g d later h; either = λ g ds. list-ends ds g }

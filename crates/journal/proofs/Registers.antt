@@ -4,7 +4,7 @@ use mathlib.Core.Path.{_≡_, refl, sym, ap, _∙_, subst}
 use mathlib.Core.Bool.{Bool, true}
 use mathlib.Core.List.{List, [], _∷_, _++_, append-assoc, append-nil}
 use native.Mathlib.Omega.{arith}
-use lib.IntN.{ℤ, +ℤ-idl}
+use lib.IntN.{+ℤ-idl}
 use lib.ListN.{length, take, length-append}
 use lib.Seq.{take-add}
 use Rattle.primitives.specs.Place.{overwrite}
@@ -30,18 +30,19 @@ use Rattle.journal.specs.Opening.{openNumber, opened, openBuffer}
 use Rattle.journal.specs.Issuing.{entryOf, textOf, issueNumberWithin, issuedWithin, withEntry, issueBufferWithin}
 use Rattle.journal.specs.Changing.{changeNumber, changed, changeBuffer}
 use Rattle.journal.specs.Receipts.{Receipt, receiptOf, receiptsIn, sum}
-use Rattle.journal.specs.Valid.{Owner, Pair, settingsFor, texts, pairTexts, ownerText, journalText, Placed, placedUnder, allPlaced, entriesOf, entriesIn, serialsOf, GoodOwner}
-use Rattle.journal.specs.Calls.{Order, TypedOrder, failedOrder, Call, issue, issueList, change, TypedList, nothing, also, TypedCall, issues, lists, changes, TypedCalls, none, more, Register, opening, numberOf, call, callWithin, calls, callsWithin, receiptOfCall, receiptsOfList, receiptsOf, Period, periodsFrom, periodsIn}
+use Rattle.journal.specs.Valid.{Owner, Pair, settingsFor, texts, pairTexts, ownerText, journalText, Placed, placedUnder, allPlaced, entriesOf, entriesIn, serialsOf}
+use Rattle.journal.specs.Calls.{Order, TypedOrder, failedOrder, Call, issue, issueList, change, TypedList, nothing, also, issues, lists, changes, TypedCalls, none, more, Register, opening, numberOf, call, callWithin, calls, callsWithin, receiptOfCall, receiptsOfList, receiptsOf, Period, periodsFrom, periodsIn}
 use Rattle.journal.specs.Demands.{beforeCount}
+use Rattle.journal.specs.Lists.{singleCall}
 use Rattle.journal.specs.declared.state.State.{State}
 use Rattle.journal.proofs.OpenCalls.{open-zero}
 use Rattle.journal.proofs.Sections.{length-start}
-use Rattle.journal.proofs.Lists.{single, singleNumber, single-number, list-none, list-yes, list-no, receipts-nothing, receipts-yes, receipts-no}
+use Rattle.journal.proofs.Lists.{singleNumber, single-number, list-none, list-yes, list-no, receipts-nothing, receipts-yes, receipts-no}
 use Rattle.journal.proofs.Heads.{length-head}
 use Rattle.journal.proofs.Check.{RightAt, textIn, step, step-length}
 use Rattle.journal.proofs.Answers.{Eight, chain-eight, Answered, issue-zero, right-call, change-zero}
 use Rattle.journal.proofs.Serials.{Zeroed, added-zeroed}
-use Rattle.journal.proofs.Placing.{Core, startCore, stepCore, runCore, coreAfter, run-after, RightFor, AllRight, right-append, names-split}
+use Rattle.journal.proofs.Placing.{Core, startCore, stepCore, runCore, coreAfter, run-after, AllRight, right-append, names-split}
 use Rattle.journal.proofs.Placing as placing
 use Rattle.journal.proofs.Passing.{right-there, text-is, under, run, runPairs, kept, renewed-length}
 use Rattle.journal.proofs.Accepting.{Work, blank, blank-base, fresh-is, head-pair, ownerIn, good-owner}
@@ -98,14 +99,14 @@ refused-change g s h =
     let e₂ : ifZero m (overwrite (g .buf) (g .state .length) (pairStart s 0)) (g .buf) ≡ g .buf = ifZero-no m (overwrite (g .buf) (g .state .length) (pairStart s 0)) (g .buf) h in
     λ i. record { state = e₁ i; buf = e₂ i }
 
--- a refused Issue or Change; a list of which a part is issued has a number, too
-pub issue-same : (g : Register) (c : Order) → (numberOf g (issue c) ≡ 0 → ⊥) → call g (issue c) ≡ g
+-- A refused Issue or Change leaves the register as it was. A list with a number need not: a part of it may be issued.
+pub issue-kept : (g : Register) (c : Order) → (numberOf g (issue c) ≡ 0 → ⊥) → call g (issue c) ≡ g
 unfolding numberOf
-issue-same g c h = refused-within amountLimit g c h
+issue-kept g c h = refused-within amountLimit g c h
 
-pub change-same : (g : Register) (s : Name) → (numberOf g (change s) ≡ 0 → ⊥) → call g (change s) ≡ g
+pub change-kept : (g : Register) (s : Name) → (numberOf g (change s) ≡ 0 → ⊥) → call g (change s) ≡ g
 unfolding numberOf
-change-same g s h = refused-change g s h
+change-kept g s h = refused-change g s h
 
 -- the entry of an Issue
 unfoldable pub entryIn : Register → Order → Entry
@@ -281,7 +282,7 @@ module _ (k : List ℕ) (n : ℕ) (o : Owner) (g : Register) (ps : List Pair) (p
 -- the open pair after a list: it takes an entry for each receipt, up to the first that is refused
 unfoldable pub widened : Register → Pair → List Details → Pair
 widened g p [] = p
-widened g p (d ∷ ds) = ifZero (singleNumber amountLimit g d) (widened (call g (single d)) (wider p (entryIn g (failedOrder d))) ds) p
+widened g p (d ∷ ds) = ifZero (singleNumber amountLimit g d) (widened (call g (singleCall d)) (wider p (entryIn g (failedOrder d))) ds) p
 
 pub holds-list : (k : List ℕ) (n : ℕ) (o : Owner) → AllBytes k → (ds : List Details) (g : Register) (ps : List Pair) (p : Pair) → TypedList ds → Holds k n o g (ps ++ (p ∷ []))
     → Holds k n o (call g (issueList ds)) (ps ++ (widened g p ds ∷ [])) × (length (call g (issueList ds) .buf) ≡ length (g .buf))
@@ -289,19 +290,19 @@ unfolding widened ifZero
 holds-list k n o kb [] g ps p nothing h =
     let e = sym (list-none amountLimit g) in
     (subst (λ (x : Register). Holds k n o x (ps ++ (p ∷ []))) e h, ap (λ (x : Register). length (x .buf)) (sym e))
-holds-list k n o kb (d ∷ ds) g ps p (also t ts) h = go (singleNumber amountLimit g d) refl (holds-list k n o kb ds (call g (single d)) ps (wider p (entryIn g (failedOrder d))) ts)
+holds-list k n o kb (d ∷ ds) g ps p (also t ts) h = go (singleNumber amountLimit g d) refl (holds-list k n o kb ds (call g (singleCall d)) ps (wider p (entryIn g (failedOrder d))) ts)
   where
     go : (m : ℕ) → singleNumber amountLimit g d ≡ m
-        → (Holds k n o (call g (single d)) (ps ++ (wider p (entryIn g (failedOrder d)) ∷ []))
-        → Holds k n o (call (call g (single d)) (issueList ds)) (ps ++ (widened (call g (single d)) (wider p (entryIn g (failedOrder d))) ds ∷ []))
-        × (length (call (call g (single d)) (issueList ds) .buf) ≡ length (call g (single d) .buf)))
-        → Holds k n o (call g (issueList (d ∷ ds))) (ps ++ (ifZero (singleNumber amountLimit g d) (widened (call g (single d)) (wider p (entryIn g (failedOrder d))) ds) p ∷ []))
+        → (Holds k n o (call g (singleCall d)) (ps ++ (wider p (entryIn g (failedOrder d)) ∷ []))
+        → Holds k n o (call (call g (singleCall d)) (issueList ds)) (ps ++ (widened (call g (singleCall d)) (wider p (entryIn g (failedOrder d))) ds ∷ []))
+        × (length (call (call g (singleCall d)) (issueList ds) .buf) ≡ length (call g (singleCall d) .buf)))
+        → Holds k n o (call g (issueList (d ∷ ds))) (ps ++ (ifZero (singleNumber amountLimit g d) (widened (call g (singleCall d)) (wider p (entryIn g (failedOrder d))) ds) p ∷ []))
         × (length (call g (issueList (d ∷ ds)) .buf) ≡ length (g .buf))
     go zero e f =
         let z = single-number g d ∙ e in
         let q = f (issue-holds k n o g ps p h (failedOrder d) z (issue-right k n o g ps p h (failedOrder d) z kb t)) in
         let y = sym (list-yes amountLimit g d ds e) in (
-          rw e (subst (λ (x : Register). Holds k n o x (ps ++ (widened (call g (single d)) (wider p (entryIn g (failedOrder d))) ds ∷ []))) y (q .0)),
+          rw e (subst (λ (x : Register). Holds k n o x (ps ++ (widened (call g (singleCall d)) (wider p (entryIn g (failedOrder d))) ds ∷ []))) y (q .0)),
           ap (λ (x : Register). length (x .buf)) (sym y) ∙ (q .1 ∙ issue-length k n o g ps p h (failedOrder d) z),
         )
     go (suc m) e f =
@@ -333,7 +334,7 @@ holds-calls k n o kb (issue c ∷ cs) g ps p (more (issues tc) tcs) h =
         → Holds k n o (calls (call g (issue c)) cs)
         (ps ++ ifZero (numberOf g (issue c)) (pairsFrom (call g (issue c)) (wider p (entryIn g c)) cs) (pairsFrom (call g (issue c)) p cs))
     go zero e f₁ f₂ = rw e (f₂ (issue-holds k n o g ps p h c e (issue-right k n o g ps p h c e kb tc)))
-    go (suc m) e f₁ f₂ = rw e (f₁ (subst (λ (x : Register). Holds k n o x (ps ++ (p ∷ []))) (sym (issue-same g c (λ q. omega (arith, e, q)))) h))
+    go (suc m) e f₁ f₂ = rw e (f₁ (subst (λ (x : Register). Holds k n o x (ps ++ (p ∷ []))) (sym (issue-kept g c (λ q. omega (arith, e, q)))) h))
 holds-calls k n o kb (issueList ds ∷ cs) g ps p (more (lists ts) tcs) h =
     holds-calls k n o kb cs (call g (issueList ds)) ps (widened g p ds) tcs (holds-list k n o kb ds g ps p ts h .0)
 holds-calls k n o kb (change s ∷ cs) g ps p (more (changes ts) tcs) h =
@@ -345,7 +346,7 @@ holds-calls k n o kb (change s ∷ cs) g ps p (more (changes ts) tcs) h =
         (ps ++ ifZero (numberOf g (change s)) (p ∷ pairsFrom (call g (change s)) (emptyPair s) cs) (pairsFrom (call g (change s)) p cs))
     go zero e f₁ f₂ =
         rw e (subst (Holds k n o (calls (call g (change s)) cs)) (append-assoc ps (p ∷ []) (pairsFrom (call g (change s)) (emptyPair s) cs)) (f₂ (change-holds k n o g ps p h s (change-is g s e) ts .0)))
-    go (suc m) e f₁ f₂ = rw e (f₁ (subst (λ (x : Register). Holds k n o x (ps ++ (p ∷ []))) (sym (change-same g s (λ q. omega (arith, e, q)))) h))
+    go (suc m) e f₁ f₂ = rw e (f₁ (subst (λ (x : Register). Holds k n o x (ps ++ (p ∷ []))) (sym (change-kept g s (λ q. omega (arith, e, q)))) h))
 
 -- ---- their receipts
 
@@ -371,7 +372,7 @@ section-wider g c p =
 entries-widened : (ds : List Details) (g : Register) (p : Pair) → receiptsIn (widened g p ds .entries) ≡ receiptsIn (p .entries) ++ receiptsOfList g ds
 unfolding widened ifZero receiptsIn
 entries-widened [] g p = sym (ap (λ (l : List Receipt). receiptsIn (p .entries) ++ l) (receipts-nothing g) ∙ append-nil (receiptsIn (p .entries)))
-entries-widened (d ∷ ds) g p = go (singleNumber amountLimit g d) refl (entries-widened ds (call g (single d)) (wider p (entryIn g (failedOrder d))))
+entries-widened (d ∷ ds) g p = go (singleNumber amountLimit g d) refl (entries-widened ds (call g (singleCall d)) (wider p (entryIn g (failedOrder d))))
   where
     one : receiptsIn (p .entries ++ (entryIn g (failedOrder d) ∷ [])) ≡ receiptsIn (p .entries) ++ (receiptOfCall (failedOrder d) ∷ [])
     one =
@@ -379,27 +380,27 @@ entries-widened (d ∷ ds) g p = go (singleNumber amountLimit g d) refl (entries
         ∙ ap (λ (r : Receipt). receiptsIn (p .entries) ++ (r ∷ [])) (receipt-same g (failedOrder d))
 
     go : (m : ℕ) → singleNumber amountLimit g d ≡ m
-        → receiptsIn (widened (call g (single d)) (wider p (entryIn g (failedOrder d))) ds .entries)
-        ≡ receiptsIn (p .entries ++ (entryIn g (failedOrder d) ∷ [])) ++ receiptsOfList (call g (single d)) ds
-        → receiptsIn (ifZero (singleNumber amountLimit g d) (widened (call g (single d)) (wider p (entryIn g (failedOrder d))) ds) p .entries)
+        → receiptsIn (widened (call g (singleCall d)) (wider p (entryIn g (failedOrder d))) ds .entries)
+        ≡ receiptsIn (p .entries ++ (entryIn g (failedOrder d) ∷ [])) ++ receiptsOfList (call g (singleCall d)) ds
+        → receiptsIn (ifZero (singleNumber amountLimit g d) (widened (call g (singleCall d)) (wider p (entryIn g (failedOrder d))) ds) p .entries)
         ≡ receiptsIn (p .entries) ++ receiptsOfList g (d ∷ ds)
     go zero e f =
-        ap (λ (k : ℕ). receiptsIn (ifZero k (widened (call g (single d)) (wider p (entryIn g (failedOrder d))) ds) p .entries)) e
+        ap (λ (k : ℕ). receiptsIn (ifZero k (widened (call g (singleCall d)) (wider p (entryIn g (failedOrder d))) ds) p .entries)) e
         ∙ f
-        ∙ ap (λ (l : List Receipt). l ++ receiptsOfList (call g (single d)) ds) one
-        ∙ append-assoc (receiptsIn (p .entries)) (receiptOfCall (failedOrder d) ∷ []) (receiptsOfList (call g (single d)) ds)
+        ∙ ap (λ (l : List Receipt). l ++ receiptsOfList (call g (singleCall d)) ds) one
+        ∙ append-assoc (receiptsIn (p .entries)) (receiptOfCall (failedOrder d) ∷ []) (receiptsOfList (call g (singleCall d)) ds)
         ∙ ap (λ (l : List Receipt). receiptsIn (p .entries) ++ l) (sym (receipts-yes g d ds e))
     go (suc m) e f =
-        ap (λ (k : ℕ). receiptsIn (ifZero k (widened (call g (single d)) (wider p (entryIn g (failedOrder d))) ds) p .entries)) e
+        ap (λ (k : ℕ). receiptsIn (ifZero k (widened (call g (singleCall d)) (wider p (entryIn g (failedOrder d))) ds) p .entries)) e
         ∙ sym (ap (λ (l : List Receipt). receiptsIn (p .entries) ++ l) (receipts-no g d ds (λ q. omega (arith, e, q))) ∙ append-nil (receiptsIn (p .entries)))
 
 serial-widened : (ds : List Details) (g : Register) (p : Pair) → widened g p ds .serial ≡ p .serial
 unfolding widened ifZero
 serial-widened [] g p = refl
-serial-widened (d ∷ ds) g p = go (singleNumber amountLimit g d) (serial-widened ds (call g (single d)) (wider p (entryIn g (failedOrder d))))
+serial-widened (d ∷ ds) g p = go (singleNumber amountLimit g d) (serial-widened ds (call g (singleCall d)) (wider p (entryIn g (failedOrder d))))
   where
-    go : (m : ℕ) → widened (call g (single d)) (wider p (entryIn g (failedOrder d))) ds .serial ≡ p .serial
-        → ifZero m (widened (call g (single d)) (wider p (entryIn g (failedOrder d))) ds) p .serial ≡ p .serial
+    go : (m : ℕ) → widened (call g (singleCall d)) (wider p (entryIn g (failedOrder d))) ds .serial ≡ p .serial
+        → ifZero m (widened (call g (singleCall d)) (wider p (entryIn g (failedOrder d))) ds) p .serial ≡ p .serial
     go zero f = f
     go (suc m) f = refl
 

@@ -72,7 +72,7 @@ journalOf g = take (g .state .length) (g .buf)
 unfoldable pub opening : Settings → List ℕ → Bool → ℕ → List ℕ → Register
 opening s key shared n buf = record { state = opened s key shared n (length buf) .state; buf = openBuffer s shared n buf }
 
--- the number of a call: 0 if it was not refused
+-- the number of a call: 0, or the one with which the call, or a receipt of its list, was refused
 unfoldable pub numberOf : Register → Call → ℕ
 numberOf g (issue c) = issueNumber (g .state) (c .details) (c .signature) (length (g .buf))
 numberOf g (issueList ds) = issuedList (g .state) ds (g .buf) .number
@@ -111,11 +111,15 @@ numbersOf g (c ∷ cs) = numberOf g c ∷ numbersOf (call g c) cs
 unfoldable pub receiptOfCall : Order → Receipt
 receiptOfCall c = record { details = c .details; signature = givenSignature (c .signature) }
 
--- the receipts of a list that are issued: as many as the call says, the first ones
-unfoldable pub receiptsOfList : Register → List Details → List Receipt
-receiptsOfList g ds = map (λ (d : Details). receiptOfCall (failedOrder d)) (take (issuedList (g .state) ds (g .buf) .count) ds)
+-- the receipts of the first details of a list, so many of them, with a failed device
+abbrev pub firstReceipts : ℕ → List Details → List Receipt
+firstReceipts k ds = map (λ (d : Details). receiptOfCall (failedOrder d)) (take k ds)
 
--- the receipts of the calls that were not refused, in order
+-- the receipts that a list issues: the first ones, as many as the call says
+unfoldable pub receiptsOfList : Register → List Details → List Receipt
+receiptsOfList g ds = firstReceipts (issuedList (g .state) ds (g .buf) .count) ds
+
+-- the receipts that the calls issue, in order
 unfoldable pub receiptsOf : Register → List Call → List Receipt
 receiptsOf g [] = []
 receiptsOf g (issue c ∷ cs) =
@@ -128,7 +132,7 @@ pub record Period : Type 0 where
   pub serial : Name
   pub receipts : List Receipt
 
--- the periods that the calls make which are not refused: the last one takes receipts, or a new serial ends it
+-- the periods that the calls make: the last one takes the receipts that are issued, or a new serial ends it
 unfoldable pub periodsFrom : Register → Period → List Call → List Period
 periodsFrom g x [] = x ∷ []
 periodsFrom g x (issue c ∷ cs) =

@@ -227,7 +227,7 @@ fn counter_field(
     }
 }
 
-// What is handed on is parts of the state: each copy of a whole state lies on the stack.
+// The fields of a receipt. `counter_field` takes parts of the state: a copy of a whole state takes stack.
 pub(crate) fn fields_of(st: State, d: Details) -> PayloadFields
     ensures { λ r. ⌜ r ≡ fieldsOf st d ⌝ }
 {

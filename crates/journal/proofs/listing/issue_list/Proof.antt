@@ -57,7 +57,7 @@ use Rattle.journal.specs.declared.state.State.{State}
 use Rattle.journal.specs.declared.state.Issued.{Issued}
 use Rattle.journal.specs.declared.state.IssuedList.{IssuedList}
 use Rattle.journal.proofs.Again.{LentAgain, lends-again, comes-back}
-use Rattle.journal.proofs.ListTurns.{none, Turn, less, left, begins, goes-on, stops, done-all}
+use Rattle.journal.proofs.ListTurns.{blank, Turn, less, left, begins, goes-on, stops, done-all}
 use Rattle.journal.proofs.state.State as S
 use Rattle.journal.proofs.state.State.Laws as S′
 use Rattle.journal.proofs.state.Issued as O
@@ -256,7 +256,7 @@ module _ {M : Type 1} (𝓤 : URA M) (H : Heap 𝓤) (A : Atoms 𝓤) (W : Given
       abbrev Then : Tn → Kit.Post 𝓤 H
       Then t = anyQ (afterSeq 𝓤 H (Wp 𝓤 H C Λ E bump (afterTurn 𝓤 H (Below 𝓤 H A Fewer Ctx t) Left)) (afterTurn 𝓤 H (Below 𝓤 H A Fewer Ctx t) Left))
 
-      module _ (t : Tn) (l : t .i < n) (r : Issued) (w : Val) (ws : List ℕ) (er : r ≡ issued (t .s) (getD xs (t .i) none) [] (length (t .zs))) (eb : ws ≡ issueBuffer (t .s) (getD xs (t .i) none) [] (t .zs)) (long : length ws ≡ length (t .zs)) (is : Is O.the-row r (w ∷ [])) where
+      module _ (t : Tn) (l : t .i < n) (r : Issued) (w : Val) (ws : List ℕ) (er : r ≡ issued (t .s) (getD xs (t .i) blank) [] (length (t .zs))) (eb : ws ≡ issueBuffer (t .s) (getD xs (t .i) blank) [] (t .zs)) (long : length ws ≡ length (t .zs)) (is : Is O.the-row r (w ∷ [])) where
         at-fits : t .i < 2 ^ 64
         at-fits = omega (arith, l, room₁ .0)
 
@@ -293,9 +293,9 @@ module _ {M : Type 1} (𝓤 : URA M) (H : Heap 𝓤) (A : Atoms 𝓤) (W : Given
           assigns ! (bin ! (load ! (from ! (fld ! refl (stop !))) (look-in ! 25 (sub ! 0 refl (whole !)))) (load ! (from ! (stop !)) (look ! 15 refl)) tt) (from ! (stop !)) (init ! 11 refl (tt, tt)) $
           rewrite ! 11 (λ (p : ℕ). ‵ (fat fullShare tyPtr l₉ 0 (vptr b₁ p))) (sym (place-is 80 o₁ (t .i))) refl $
           move ! (2 ∷ 3 ∷ []) $ looks-slice ! tt R (Is R) (shows 𝓤 H A R) (LL.vals D.the-type D′.the-laws) (LL.tells D.the-type D′.the-laws) (LL.copy D.the-type D′.the-copy 𝓤 H A W) xs b₁ o₁ (λ q′.
-          elem-out ! R (Is R) (shows 𝓤 H A R) (LL.vals D.the-type D′.the-laws) (LL.tells D.the-type D′.the-laws) q′ xs (t .i) none b₁ o₁ l (λ g.
+          elem-out ! R (Is R) (shows 𝓤 H A R) (LL.vals D.the-type D′.the-laws) (LL.tells D.the-type D′.the-laws) q′ xs (t .i) blank b₁ o₁ l (λ g.
           assigns ! (of-opd ! (load ! (from ! (hop ! (look ! 14 refl) (stop !))) (look-raw ! 0 refl))) (from ! (stop !)) (init ! 12 refl (LL.lawful D.the-type D′.the-laws 𝓤 H A W .typed d _ g .0)) $
-          elem-back ! R q′ xs (t .i) none (Dv d ∷ []) b₁ o₁ l $ shuts-slice ! tt R q′ xs b₁ o₁ $
+          elem-back ! R q′ xs (t .i) blank (Dv d ∷ []) b₁ o₁ l $ shuts-slice ! tt R q′ xs b₁ o₁ $
           -- [the list's token; the fractured borrow; what the buffer owns; its token; what the list owns; _12; …]
           assigns ! (addr ! (from ! (fld ! refl (hop ! (look-in ! 23 (sub ! 0 refl (whole !))) (stop !))))) (from ! (stop !)) (init ! 7 refl (tt, tt)) $
           assigns ! (agg ! (and-then ! (load ! (from ! (stop !)) (look ! 7 refl)) (and-then ! (load ! (from ! (fld ! refl (stop !))) (look-in ! 23 (sub ! 1 refl (whole !)))) (no-more !)))) (from ! (stop !)) (init ! 5 refl (tt, (tt, (record { fits = room .0 }, tt)))) $
@@ -324,7 +324,7 @@ module _ {M : Type 1} (𝓤 : URA M) (H : Heap 𝓤) (A : Atoms 𝓤) (W : Given
           first ! $ branches ! (load ! (from ! (stop !)) (look ! 13 refl)) (λ h. forget ! 13 refl $ refuses t l r w (ws .1 .1 .0) (both .0) (both .1) long is (is-no (eqb (r .number) 0) h)) (λ h. forget ! 13 refl $ goes t l r w (ws .1 .1 .0) (both .0) (both .1) long is (is-yes (eqb (r .number) 0) h))))))))))))
         where
           d : Details
-          d = getD xs (t .i) none
+          d = getD xs (t .i) blank
 
           l : t .i < n
           l = ltb-true _ _ e

@@ -1,20 +1,23 @@
--- An Issue that is not refused leaves a sound state, so only the first receipt of a list can get 6.
+-- Numbers that a list does not give: 12 to none of its receipts, and 6 to none but the first, since an Issue that is not refused leaves a sound state.
 use Prim.Native.Nat.{ℕ, zero, suc, _≤_}
 use mathlib.Core.Path.{_≡_, refl, sym, ap, _∙_, subst}
-use mathlib.Core.Bool.{true}
+use mathlib.Core.Bool.{Bool, true, false}
 use mathlib.Core.List.{List, [], _∷_}
 use native.Mathlib.Omega.{arith}
 use borrow.Author.Tests.{le-leb}
 use lib.ListN.{length}
 use Rattle.primitives.specs.Counter.{counterFits}
+use Rattle.primitives.specs.Questions.{ask}
 use Rattle.primitives.proofs.Rows.{true-is-not-false, ifZero-yes}
 use Rattle.receipt.specs.Amount.{amountLimit}
+use Rattle.receipt.specs.DateTime.{dateGood}
+use Rattle.receipt.specs.Details.{amountsWithin}
 use Rattle.receipt.specs.declared.details.Details.{Details}
 use Rattle.receipt.specs.declared.details.After.{After}
-use Rattle.journal.specs.Step.{sound, next}
-use Rattle.journal.specs.Issuing.{textOf, issueNumber, issued, issuedWithin, issueBuffer}
+use Rattle.journal.specs.Step.{sound, next, numberAbove, firstGood, newCounter, detailsNumberWithin}
+use Rattle.journal.specs.Issuing.{signatureSized, textOf, entryFits, issueNumber, issueNumberWithin, issued, issuedWithin, issueBuffer}
 use Rattle.journal.specs.Listing.{issuedList}
-use Rattle.journal.specs.Lists.{SixIssuesNone}
+use Rattle.journal.specs.Lists.{SixIssuesNone, ListNeverGets12}
 use Rattle.journal.specs.declared.state.State.{State}
 use Rattle.journal.specs.declared.state.IssuedList.{IssuedList}
 use Rattle.journal.proofs.Answers.{Sound, sound-yes, issue-zero}
@@ -46,7 +49,7 @@ module _ (st : State) (d : Details) (sig buf : List ℕ) (z : issueNumber st d s
         head = omega (arith, s .head);
       }
 
-  pub issued-sound : sound (issued st d sig (length buf) .state) (length (issueBuffer st d sig buf)) ≡ true
+  issued-sound : sound (issued st d sig (length buf) .state) (length (issueBuffer st d sig buf)) ≡ true
   unfolding issuedWithin
   issued-sound =
       let a = issue-zero st d sig (length buf) z in
@@ -80,3 +83,34 @@ six-none (d ∷ ds) st buf e = go (issueNumber st d [] (length buf)) refl
 
 pub six-issues-none : SixIssuesNone
 six-issues-none st ds buf e = six-none ds st buf e
+
+-- ---- 12
+
+-- in Issue's row the signature is good
+no-twelve : (a b c d e f h : Bool) → ask a 6 (ask b 7 (ask c 8 (ask d 9 (ask e 10 (ask f 11 (ask h 13 0)))))) ≡ 12 → ⊥
+unfolding ask
+no-twelve false b c d e f h z = omega (arith, z)
+no-twelve true false c d e f h z = omega (arith, z)
+no-twelve true true false d e f h z = omega (arith, z)
+no-twelve true true true false e f h z = omega (arith, z)
+no-twelve true true true true false f h z = omega (arith, z)
+no-twelve true true true true true false h z = omega (arith, z)
+no-twelve true true true true true true false z = omega (arith, z)
+no-twelve true true true true true true true z = omega (arith, z)
+
+not-twelve : (st : State) (d : Details) (room : ℕ) → issueNumber st d [] room ≡ 12 → ⊥
+unfolding issueNumberWithin detailsNumberWithin signatureSized ask
+not-twelve st d room z =
+    no-twelve (sound st room) (numberAbove st d) (dateGood (d .date)) (amountsWithin amountLimit (d .amounts)) (firstGood st d) (newCounter st d .fits)
+    (entryFits st (textOf st d []) room) z
+
+never-twelve : (ds : List Details) (st : State) (buf : List ℕ) → issuedList st ds buf .number ≡ 12 → ⊥
+never-twelve [] st buf e = omega (arith, ap (λ (r : IssuedList). r .number) (answer-none amountLimit st buf), e)
+never-twelve (d ∷ ds) st buf e = go (issueNumber st d [] (length buf)) refl (never-twelve ds (issued st d [] (length buf) .state) (issueBuffer st d [] buf))
+  where
+    go : (k : ℕ) → issueNumber st d [] (length buf) ≡ k → (issuedList (issued st d [] (length buf) .state) ds (issueBuffer st d [] buf) .number ≡ 12 → ⊥) → ⊥
+    go zero z f = f (sym (ap (λ (r : IssuedList). r .number) (answer-yes amountLimit st d ds buf z)) ∙ e)
+    go (suc k) z f = not-twelve st d (length buf) (sym (ap (λ (r : IssuedList). r .number) (answer-no amountLimit st d ds buf (λ q. omega (arith, z, q)))) ∙ e)
+
+pub list-never-gets-12 : ListNeverGets12
+list-never-gets-12 st ds buf e = never-twelve ds st buf e
