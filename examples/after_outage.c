@@ -1,5 +1,5 @@
 /* A restaurant whose signature device was down for an evening. The orders of each table were keyed all the same, and one call now issues
- * them together. Two lists are not issued to the end at once: in one an order has a wrong number, in the other the buffer gets full.
+ * them together. Two lists are not issued to the end at once: in one an order has a wrong number, in the other the buffer fills up.
  * `issued` says where to go on. The last field of each code is "Sicherheitseinrichtung ausgefallen" in BASE64, not a signature.
  *
  *     cc -Iinclude examples/after_outage.c target/staticlib/libdevice.a -o after_outage
@@ -37,12 +37,13 @@ static uint32_t signed_zero(uint32_t number, uint32_t minute)
     return ditgrux_issue_details(state, sizeof state, &details, signature, sizeof signature, journal, journal_size);
 }
 
-/* Issues these orders by one call, and prints the codes of those that were issued. The new entries lie one after the other, from the old
+/* Issues these orders in one call, and prints the codes of those that were issued. The new entries lie one after the other, from the old
  * length of the journal on. */
 static uint32_t issue(const struct ditgrux_details *orders, size_t count, size_t *issued)
 {
     uint8_t list[ORDERS * DITGRUX_DETAILS], code[DITGRUX_LONGEST_CODE];
-    size_t i, length, form_length, entry = ditgrux_journal_length(state, sizeof state);
+    size_t i, length, form_length;
+    size_t entry = ditgrux_journal_length(state, sizeof state); /* before the call: afterwards the state has the new length */
     uint32_t refused;
     for (i = 0; i < count; i++)
         ditgrux_pack_details(&orders[i], list + i * DITGRUX_DETAILS);
@@ -87,11 +88,11 @@ int main(void)
     if (issue(table_6 + first, ORDERS - first, &issued))
         return 1;
 
-    printf("table 7, while the buffer gets full: ");
+    printf("table 7, while the buffer fills up: ");
     if (issue(table_7, ORDERS, &issued) != DITGRUX_NO_ROOM)
         return 1;
     first = issued;
-    memcpy(large, journal, ditgrux_journal_length(state, sizeof state));
+    memcpy(large, journal, ditgrux_journal_length(state, sizeof state)); /* the length after the call: the issued orders are in it */
     journal = large;
     journal_size = sizeof large;
     printf("from there on, in a larger buffer: ");

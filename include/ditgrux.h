@@ -26,16 +26,16 @@
  * Return values. A function returns DITGRUX_DONE (0), or the number of the first check that failed (enum ditgrux_number). The
  * checks run in the order in which the function lists them. A refused call changes no byte of a journal, a text or an output. It
  * sets every out parameter: lengths and indexes are 0 unless the function says otherwise. What happens to the state differs, so
- * each function says it. (ditgrux_issue_list can return a number after it has issued a part of its list: see there.)
+ * each function says it. One exception: a number from ditgrux_issue_list does not say that nothing changed. Look at *issued.
  *
  * Pointers. These rules are not checked; a call that breaks them is undefined, as with memcpy.
  *   - No pointer is NULL, not even where its length is 0: pass any valid address. (The wrapper ditgrux_issue_details is the one
  *     exception.)
  *   - A pointer points to at least as many bytes as its length says.
  *   - The out pointers `length`, `start`, `index` and `issued` are not NULL and are aligned like any size_t or uint32_t. A NULL
- *     `index` crashes.
+ *     `index` or `issued` crashes.
  *   - No buffer that a call writes overlaps another buffer or out parameter of that call. So do not pass the settings or the
- *     serial as a part of a state that the same call writes.
+ *     serial as a part of a state that the same call writes, nor a list that lies in the journal's buffer.
  *
  * Threads. The functions share no data. Calls on different buffers may run at the same time. Make one call at a time for a state
  * and its journal.
@@ -101,7 +101,7 @@ enum ditgrux_number {
     DITGRUX_NO_START = 10,        /* the first receipt is not a standard one with five zeros */
     DITGRUX_COUNTER_FULL = 11,    /* the turnover counter would not fit its width */
     DITGRUX_BAD_SIGNATURE = 12,   /* signature is neither 64 bytes long nor empty */
-    DITGRUX_NO_ROOM = 13,         /* issue, change: no room in the journal's buffer; prepare: none for the text in the output */
+    DITGRUX_NO_ROOM = 13,         /* issue, issue_list, change: no room in the journal's buffer; prepare: none in the output */
     DITGRUX_BAD_HEAD = 14,        /* the head of the journal is cut off, or its CSP, ID or serial is bad */
     DITGRUX_ENTRY_CUT = 15,       /* the entry is cut off, or missing though its section counts it */
     DITGRUX_ENTRY_MISSPELLED = 16, /* the entry is not a receipt of this register and serial, spelled as the ordinance has it */
@@ -202,13 +202,13 @@ enum ditgrux_number {
  *    439      8  place of their count in the journal
  *
  * Any 447 bytes decode to a state; each state has exactly one encoding. Keep the state in flash, and keep it secret: it holds the
- * key. It is not trusted. Prepare, Issue, a list that is not empty, and Change check it first and return DITGRUX_BAD_STATE if it
- * is inconsistent: bad CSP, ID or width; not one to eight good serials with zeros after them; a counter that does not fit the
- * width; more receipts than the last number, or more in the last pair than in all; a journal shorter than its head, or than the
- * end of the last pair's count, or (but for Prepare) longer than its buffer. They cannot see that a bit of the key, the counter
- * or the chain value has changed, nor that a state is old: with a state from before the last receipt or change, Issue, a list and
- * Change write over what came after it, for they read nothing of the journal. Compare the state with what ditgrux_take_over gives
- * when the device starts.
+ * key. It is not trusted. Prepare, Issue, Issue list and Change check it first (an empty list does not) and return
+ * DITGRUX_BAD_STATE if it is inconsistent: bad CSP, ID or width; not one to eight good serials with zeros after them; a counter
+ * that does not fit the width; more receipts than the last number, or more in the last pair than in all; a journal shorter than
+ * its head, or than the end of the last pair's count, or, except in Prepare, longer than its buffer. They cannot see that a bit of
+ * the key, the counter or the chain value has changed, nor that a state is old: with a state from before the last receipt or
+ * change, Issue, Issue list and Change write over what came after it, for they read nothing of the journal. Compare the state with
+ * what ditgrux_take_over gives when the device starts.
  *
  * After DITGRUX_BAD_STATE the state's bytes are as they were before the call, in every function.
  *
@@ -406,17 +406,20 @@ uint32_t ditgrux_issue(uint8_t *state, size_t state_length, uint32_t number, uin
  * It does what ditgrux_issue does with each of the details and a signature of length 0, up to the first that is refused. That one and
  * those after it are not issued. An empty list issues nothing and returns DITGRUX_DONE, whatever the state is.
  *
- * After the call the new entries lie in the journal one after the other, from its old length up to the new one.
+ * *issued is the number of receipts issued, whatever the call returns. `state` and `journal` are as the last issued one left them; where
+ * none was issued, they are unchanged. The new entries lie in the journal one after the other, from its old length up to the new one:
+ * read ditgrux_journal_length before the call to know where they begin.
  *
- * *issued is the number of receipts issued, also where a later one is refused: it is then the place of the refused one in the list,
- * from 0. `state` and `journal` are as the last issued one left them; where none was issued, they are unchanged. So after a refusal
- * store the journal and the state, correct the one at *issued, and call again with the list from there on.
+ * Whenever *issued is not 0, store the journal and the state. Where a receipt was refused, it is the one at place *issued of the list,
+ * from 0: correct it or leave it out (or, if there was no room, pass a larger buffer), and call again with the rest of the list, that is
+ * from list + 72 * *issued on, with 72 * *issued bytes less. Never issue the receipts before it again under new numbers.
  *
  * Returns DITGRUX_DONE (all were issued), or the number with which ditgrux_issue refuses the first one that it refuses:
  * DITGRUX_BAD_STATE (then none was issued), DITGRUX_NUMBER_NOT_ABOVE (also if the kind is unknown), DITGRUX_BAD_DATE,
  * DITGRUX_BAD_AMOUNT, DITGRUX_NO_START, DITGRUX_COUNTER_FULL, or DITGRUX_NO_ROOM (the entry does not fit after the journal).
- * If list_length is not a multiple of 72, none is issued: it returns DITGRUX_BAD_STATE for a state that ditgrux_issue refuses so, and
- * for any other DITGRUX_NUMBER_NOT_ABOVE. */
+ * If list_length is not a multiple of 72, none is issued: it returns DITGRUX_BAD_STATE if ditgrux_issue would, otherwise
+ * DITGRUX_NUMBER_NOT_ABOVE.
+ * Refused, with none issued: `state` and `journal` are unchanged and *issued is 0. */
 uint32_t ditgrux_issue_list(uint8_t *state, size_t state_length, const uint8_t *list, size_t list_length, uint8_t *journal,
                             size_t journal_size, size_t *issued);
 

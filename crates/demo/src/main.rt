@@ -260,7 +260,7 @@ fn closing_time(st: State, buf: &mut [u8]) -> State {
         buf,
     );
     issue_together(
-        b"three more, two of them with one number\n",
+        b"three more, two of them with the same number\n",
         a,
         details(10, 55, [0, 360, 0, 0, 0], Kind::Standard),
         details(10, 56, [0, 240, 0, 0, 0], Kind::Standard),
