@@ -1190,12 +1190,31 @@ static void make_orders(void)
     CHECK(ditgrux_last_number(states[ORDERS], DITGRUX_STATE) == UINT32_MAX);
 }
 
+/* Two orders are wrong: the first of them decides, whichever number is the smaller. */
+static void two_wrong(void)
+{
+    struct ditgrux_details list[ORDERS];
+    size_t issued;
+    memcpy(list, orders, sizeof list);
+    list[1].zero = largest + 1;
+    list[3].month = 13;
+    go_to(0);
+    CHECK(listed(list, ORDERS, sizeof journal, &issued) == DITGRUX_BAD_AMOUNT && issued == 1 && is_at(1));
+    list[1] = orders[1];
+    list[1].day = 32;
+    list[3] = orders[3];
+    list[3].special = -largest - 1;
+    go_to(0);
+    CHECK(listed(list, ORDERS, sizeof journal, &issued) == DITGRUX_BAD_DATE && issued == 1 && is_at(1));
+}
+
 static void lists(void)
 {
     size_t place;
     make_orders();
     parts();
     entries();
+    two_wrong();
     for (place = 0; place < ORDERS; place++) {
         refused_ways(place);
         one_after_the_other(place);
@@ -1352,6 +1371,52 @@ static void power_cut_in_list(int changed)
     CHECK(number_at(journal + place, 4) == (changed ? 1 : before + 1) && gives_state());
 }
 
+/* Where power fails after a list of which the third order was refused, by its number or because the buffer is full: the two before it are
+ * issued, and what is stored of them counts. */
+static void power_cut_in_part(uint32_t number)
+{
+    struct ditgrux_details list[ORDERS];
+    size_t issued, forms, room;
+    uint32_t index;
+    fresh();
+    issues(1);
+    numbered_from(2);
+    one_by_one();
+    memcpy(list, orders, sizeof list);
+    room = number == DITGRUX_NO_ROOM ? length_at(3) - 1 : sizeof journal;
+    if (number != DITGRUX_NO_ROOM)
+        list[2].number = list[1].number;
+    CHECK(listed(list, ORDERS, room, &issued) == number && issued == 2 && is_at(2));
+    /* the entries are stored: the journal without them */
+    memcpy(twin, journals[0], sizeof journal);
+    memcpy(twin + length_at(0), journal + length_at(0), length_at(2) - length_at(0));
+    CHECK(taken_over(twin, length_at(0), &index) == DITGRUX_DONE && memcmp(other, states[0], sizeof other) == 0);
+    /* and the count: 15 at the first of them, and the walk finds the new length */
+    CHECK(taken_over(journal, length_at(0), &index) == DITGRUX_ENTRY_CUT && index == 1);
+    CHECK(walk(journal, length_at(0), &forms) == length_at(2) && forms == 3);
+    /* and the length: the state after the two */
+    CHECK(taken_over(journal, length_at(2), &index) == DITGRUX_DONE && memcmp(other, states[2], sizeof other) == 0);
+    /* orders whose number is not above the last one of that state are issued; the list goes on with the first one above it */
+    CHECK(ditgrux_last_number(other, sizeof other) == orders[1].number);
+    CHECK(listed(orders + 2, ORDERS - 2, sizeof journal, &issued) == DITGRUX_DONE && issued == ORDERS - 2 && is_at(ORDERS));
+}
+
+/* A list with a state from before a change writes over the new serial. */
+static void list_with_old_state(void)
+{
+    uint8_t old[DITGRUX_STATE];
+    size_t issued, length;
+    fresh();
+    issues(1);
+    memcpy(old, state, sizeof state);
+    length = journal_length();
+    changes_to("1a2c");
+    memcpy(state, old, sizeof state);
+    numbered_from(2);
+    CHECK(listed(orders, 1, sizeof journal, &issued) == DITGRUX_DONE && issued == 1);
+    CHECK(ditgrux_serials(state, sizeof state) == 1 && number_at(journal + length, 4) != 4 && gives_state());
+}
+
 /* The values of the fields in turn `i`: in as many turns as there are values each field has each of them. */
 #define NUMBER(field) numbers[(i + (field)) % NUMBERS]
 #define AMOUNT(field) amounts[(i + (field)) % AMOUNTS]
@@ -1420,5 +1485,8 @@ int main(void)
     long_list();
     power_cut_in_list(0);
     power_cut_in_list(1);
+    power_cut_in_part(DITGRUX_NUMBER_NOT_ABOVE);
+    power_cut_in_part(DITGRUX_NO_ROOM);
+    list_with_old_state();
     return failures ? 1 : 0;
 }
