@@ -18,6 +18,7 @@
  *     ditgrux_issue_list, for receipts that were keyed while the signature device was down: appends them all in one call
  *     ditgrux_change, when the signature device gets a new certificate: the receipts after it name the new serial
  *     ditgrux_take_over, after each start and whenever you like: checks the whole journal and gives the state back
+ *     ditgrux_check_head and then ditgrux_check_steps, again and again: the same check in parts, for a long journal
  *     ditgrux_read_details, to print a receipt again: gives its details and its signature back
  *
  * CSP stands for certification service provider, which issued the certificate of the signature device. It is written as two
@@ -458,6 +459,56 @@ uint32_t ditgrux_change(uint8_t *state, size_t state_length, const uint8_t *seri
  * Refused: with DITGRUX_BAD_STATE `state` is unchanged; with any other number it is 447 zeros. The journal is only read. */
 uint32_t ditgrux_take_over(const uint8_t *journal, size_t journal_length, const uint8_t *key, size_t key_length, size_t width,
                            uint8_t *state, size_t state_length, uint32_t *index);
+
+/* Checks the head of a journal and nothing after it, and writes the state that the first ditgrux_check_steps starts from: that of a
+ * register without receipts, as ditgrux_open gives it, however many receipts the journal counts.
+ *
+ *     journal, journal_length     the journal, and its exact length (not the size of its buffer)
+ *     key, key_length             the AES-256 key, 32 bytes
+ *     width                       bytes of the turnover counter, 5 to 8
+ *     state, state_length         output: exactly 447 bytes
+ *
+ * Returns DITGRUX_DONE, DITGRUX_BAD_STATE (state_length is not 447), DITGRUX_BAD_WIDTH (the width, or the key is not 32 bytes long),
+ * or DITGRUX_BAD_HEAD.
+ * Refused: with DITGRUX_BAD_STATE `state` is unchanged; with the other two it is 447 zeros. The journal is only read. */
+uint32_t ditgrux_check_head(const uint8_t *journal, size_t journal_length, const uint8_t *key, size_t key_length, size_t width,
+                            uint8_t *state, size_t state_length);
+
+/* Checks the next part of a journal: goes on where the state ends, takes the given number of steps, and writes the state after them.
+ *
+ *     state, state_length         447 bytes, in and out: from ditgrux_check_head, or from the ditgrux_check_steps before
+ *     journal, journal_length     the whole journal, and its exact length, the same in all these calls
+ *     steps                       how many steps to take; any number
+ *     index                       output: where the journal is refused, see below
+ *
+ * A step checks one entry, or the start of a pair after the first. It asks what ditgrux_take_over asks there, under the key and the
+ * width of the state. Where the last pair has all its entries and no byte follows, a step changes nothing. So the call returns at the
+ * end of the journal, however many steps are left. A call with 0 steps checks the state and nothing else.
+ *
+ * ditgrux_check_head and then ditgrux_check_steps, up to the first call that is refused, give what ditgrux_take_over gives: the same
+ * state, or the same number and index. This holds for every list of steps, with or without 0 among them, that adds up to at least
+ * journal_length. To see the end sooner: the whole journal is accepted as soon as a call with 1 or more steps has returned DITGRUX_DONE
+ * and left ditgrux_journal_length as it was.
+ *
+ *     number = ditgrux_check_head(journal, journal_length, key, sizeof key, width, state, sizeof state);
+ *     for (before = 0; number == DITGRUX_DONE && before != ditgrux_journal_length(state, sizeof state);) {
+ *         before = ditgrux_journal_length(state, sizeof state);
+ *         show_progress(before, journal_length);
+ *         number = ditgrux_check_steps(state, sizeof state, journal, journal_length, 1000, &index);
+ *     }
+ *
+ * Of the journal before the state's length the call reads only the four bytes of the last pair's count. So it trusts what was checked
+ * before, and the state: let nobody change either between the calls.
+ *
+ * Returns DITGRUX_DONE, DITGRUX_BAD_STATE (the state is bad, its journal is longer than journal_length, or the journal counts fewer
+ * receipts in the state's last pair than the state does), or what ditgrux_take_over returns for an entry or the start of a pair:
+ * DITGRUX_ENTRY_CUT, DITGRUX_ENTRY_MISSPELLED, DITGRUX_ENTRY_NUMBER, DITGRUX_ENTRY_NO_START, DITGRUX_ENTRY_CHAIN,
+ * DITGRUX_ENTRY_COUNTER, DITGRUX_BYTES_LEFT, DITGRUX_SERIAL_USED or DITGRUX_SERIALS_FULL.
+ * *index is that of ditgrux_take_over: the number of receipts before the place where the journal is refused, in all pairs, and not in
+ * this call alone. It is 0 with DITGRUX_DONE and DITGRUX_BAD_STATE.
+ * Refused: `state` is unchanged, so it is the state before the steps of this call. The journal is only read. */
+uint32_t ditgrux_check_steps(uint8_t *state, size_t state_length, const uint8_t *journal, size_t journal_length, size_t steps,
+                             uint32_t *index);
 
 /* Reads a receipt back: gives the details and the signature of one compact form. You will want ditgrux_read_details below, which
  * gives the details by name.
