@@ -16,7 +16,8 @@ use Rattle.journal.specs.Issuing.{issued, issueBuffer}
 use Rattle.journal.specs.Listing.{issuedList, listBuffer}
 use Rattle.journal.specs.Changing.{changed, changeBuffer}
 use Rattle.journal.specs.Calls.{Order}
-use Rattle.journal.specs.Checking.{takeOver}
+use Rattle.journal.specs.Checking.{checkHead, takeOver}
+use Rattle.journal.specs.Parts.{checkSteps}
 use Rattle.journal.specs.declared.state.Opened.{Opened}
 use Rattle.journal.specs.declared.state.State.{State}
 use Rattle.journal.specs.declared.state.Issued.{Issued}
@@ -194,3 +195,14 @@ changedSlices g serial =
 unfoldable pub takeOverAnswer : List ℕ → List ℕ → ℕ → ℕ → TakenOver
 takeOverAnswer journal key n size =
     cond (eqb size 447) (takeOver journal (arrayOf 32 key) (widthWith key n)) (record { number = 6; index = 0; state = unopened })
+
+-- ---- a check in parts
+
+-- the answer for a state's slice of this length: 6, and then questions 4 and 14
+unfoldable pub headAnswer : List ℕ → List ℕ → ℕ → ℕ → TakenOver
+headAnswer journal key n size =
+    cond (eqb size 447) (checkHead journal (arrayOf 32 key) (widthWith key n)) (record { number = 6; index = 0; state = unopened })
+
+-- the answer for the state that these bytes stand for: questions 6, 15 to 21, 30 and 31
+unfoldable pub stepsAnswer : List ℕ → List ℕ → ℕ → TakenOver
+stepsAnswer state journal steps = checkSteps (stateOf state) journal steps

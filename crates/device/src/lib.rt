@@ -2,12 +2,15 @@
 mod details;
 mod layout;
 mod listing;
+mod parts;
 mod read_back;
 mod register;
 mod text;
 
 pub use layout::ditgrux_version;
 pub use listing::ditgrux_issue_list;
+pub use parts::ditgrux_check_head;
+pub use parts::ditgrux_check_steps;
 pub use read_back::ditgrux_read;
 pub use register::ditgrux_change;
 pub use register::ditgrux_counter;

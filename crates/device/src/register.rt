@@ -52,7 +52,7 @@ fn settings_from(csp: &[u8], id: &[u8], serial: &[u8]) -> Settings
 }
 
 // The key of 32 bytes; zeros if the slice has another length.
-fn key_from(key: &[u8]) -> [u8; 32]
+pub(crate) fn key_from(key: &[u8]) -> [u8; 32]
     ensures { λ r. ⌜ r ≡ arrayOf 32 (now (key .entry)) ⌝ }
 {
     if key.len() != 32 {
@@ -62,7 +62,7 @@ fn key_from(key: &[u8]) -> [u8; 32]
 }
 
 // The width to use with a key: 0, which is not a valid width, if the key is not 32 bytes long.
-fn width_with(key: &[u8], n: usize) -> usize
+pub(crate) fn width_with(key: &[u8], n: usize) -> usize
     ensures { λ r. ⌜ r ≡ widthWith (now (key .entry)) n ⌝ }
 {
     if key.len() != 32 {

@@ -1,5 +1,5 @@
 -- What the functions of a take-over show at their returns, over plain variables.
-use Prim.Native.Nat.{ℕ, suc, _+_, _-_, _≤_, _<_}
+use Prim.Native.Nat.{ℕ, zero, suc, _+_, _-_, _≤_, _<_}
 use mathlib.Core.Path.{_≡_, refl, sym, ap, _∙_, subst}
 use mathlib.Core.Bool.{Bool, true, false, not}
 use mathlib.Core.List.{List, [], _∷_}
@@ -29,7 +29,7 @@ use Rattle.primitives.specs.Questions.{ask, ifZero}
 use Rattle.primitives.specs.Number.{countAt}
 use Rattle.journal.specs.Head.{headSettings, headGood, lengthAt, there, textAt, headLength, countPlace, entryText, serialAt, startThere}
 use Rattle.journal.proofs.Stepping.{start-within, steady-step, passed-step, stays}
-use Rattle.journal.specs.Checking.{headNumber, found, equal, counterRight, contextNumber, textNumber, after, entryNumber, refused, accepted, takeOver, checked, stopped, textChecked, placeChecked, startNumber, startChecked, endChecked, oneStep, Steady, steps, lastAnswer, entryReady, entryChecked, stepChecked, full}
+use Rattle.journal.specs.Checking.{headNumber, checkHead, found, equal, counterRight, contextNumber, textNumber, after, entryNumber, refused, accepted, takeOver, checked, stopped, textChecked, placeChecked, startNumber, startChecked, endChecked, oneStep, Steady, steps, lastAnswer, entryReady, entryChecked, stepChecked, full}
 use Rattle.journal.specs.declared.state.State.{State}
 use Rattle.journal.proofs.Equal.{equal-true, equal-refl}
 use Rattle.journal.specs.declared.state.TakenOver.{TakenOver}
@@ -41,6 +41,8 @@ use Rattle.receipt.specs.Settings.{settingsGood}
 use Rattle.journal.proofs.Answers.{sound-true, serial-zero}
 use Rattle.journal.proofs.OpenCalls.{head-least}
 use Rattle.journal.proofs.Serials.{eight-good}
+use Rattle.journal.proofs.Heads.{good-head, read-length}
+use Rattle.primitives.specs.Bytes.{AllBytes}
 use Rattle.journal.specs.State.{used, allGood, settingsNow}
 use Rattle.receipt.proofs.Entries.{settings-all}
 
@@ -261,44 +263,112 @@ pub answer-refused : (s : Step) {r : TakenOver} → (s .number ≡ 0 → ⊥) �
 unfolding lastAnswer
 answer-refused s h q = q ∙ sym (ifZero-no (s .number) _ _ h)
 
-pub answer-accepted : (s : Step) → s .number ≡ 0 → record { number = 0; index = 0; state = s .state } ≡ lastAnswer s
-unfolding lastAnswer accepted
-answer-accepted s z = sym (ifZero-yes _ _ z)
+pub answer-accepted : (s : Step) {r : TakenOver} → s .number ≡ 0 → r ≡ accepted (s .state) → r ≡ lastAnswer s
+unfolding lastAnswer
+answer-accepted s z q = q ∙ sym (ifZero-yes _ _ z)
+
+-- ---- the head
+
+pub fresh-steady : (s : Settings) (j key : List ℕ) (n : ℕ) → settingsGood s ≡ true → headLength s ≤ length j → Steady (fresh s n key) j
+unfolding fresh countPlace allGood
+fresh-steady s j key n g h =
+    let l : 19 ≤ headLength s = head-least s in
+    record {
+      serials = eight-good (s .serial ∷ []) (omega arith) (rw (settings-all s g .serial));
+      issued = omega arith;
+      since = omega arith;
+      place = omega arith;
+    }
+
+pub accepted-is : (st : State) → record { number = 0; index = 0; state = st } ≡ accepted st
+unfolding accepted
+accepted-is st = refl
 
 module _ (j key : List ℕ) (n : ℕ) where
-  pub over-width : widthGood n ≡ false → takeOver j key n ≡ refused 4 0
-  unfolding takeOver headNumber ask ifZero
-  over-width w = rw w
+  pub head-width : widthGood n ≡ false → checkHead j key n ≡ refused 4 0
+  unfolding checkHead headNumber ask ifZero
+  head-width w = rw w
 
   module _ (w : widthGood n ≡ true) where
-    pub over-head : headGood j ≡ false → takeOver j key n ≡ refused 14 0
-    unfolding takeOver headNumber ask ifZero
-    over-head h = rw (w, h)
+    pub head-bad : headGood j ≡ false → checkHead j key n ≡ refused 14 0
+    unfolding checkHead headNumber ask ifZero
+    head-bad h = rw (w, h)
 
-    over-yes : headGood j ≡ true → takeOver j key n ≡ lastAnswer (steps (keySchedule key) (length j) (fresh (headSettings j) n key) j)
-    unfolding takeOver headNumber ask ifZero
-    over-yes h = rw (w, h)
+    head-good : headGood j ≡ true → checkHead j key n ≡ accepted (fresh (headSettings j) n key)
+    unfolding checkHead headNumber ask ifZero
+    head-good h = rw (w, h)
 
--- what is called, one after the other
-module _ (j key : List ℕ) (n : ℕ) (s : Settings) {st : State} (e : st ≡ fresh s n key) where
-  pub over-read : {schedule : List (List ℕ)} {x : Step} {r : TakenOver} → widthGood n ≡ true → headGood j ≡ true → s ≡ headSettings j → schedule ≡ keySchedule key
-      → x ≡ steps schedule (length j) st j → r ≡ lastAnswer x → r ≡ takeOver j key n
-  over-read w h es ek ex er =
-      er ∙ ap lastAnswer (ex ∙ (λ i. steps (ek i) (length j) ((e ∙ ap (λ (y : Settings). fresh y n key) es) i) j)) ∙ sym (over-yes j key n w h)
+    pub head-fresh : {s : Settings} {st : State} {r : TakenOver} → headGood j ≡ true → s ≡ headSettings j → st ≡ fresh s n key → r ≡ accepted st → r ≡ checkHead j key n
+    head-fresh h p q e = e ∙ (ap accepted (q ∙ ap (λ (y : Settings). fresh y n key) p) ∙ sym (head-good h))
 
-  fresh-keeps : settingsGood s ≡ true → headLength s ≤ length j → Steady (fresh s n key) j
-  unfolding fresh countPlace allGood
-  fresh-keeps g h =
-      let l : 19 ≤ headLength s = head-least s in
-      record {
-        serials = eight-good (s .serial ∷ []) (omega arith) (rw (settings-all s g .serial));
-        issued = omega arith;
-        since = omega arith;
-        place = omega arith;
-      }
+  -- ---- the whole journal
 
-  pub fresh-starts : settingsGood s ≡ true → headLength s ≤ length j → Steady st j
-  fresh-starts g h = subst (λ (x : State). Steady x j) (sym e) (fresh-keeps g h)
+  -- the questions of the head, and what the two calls make of them
+  pub record Passed : Type 0 where
+    pub width : widthGood n ≡ true
+    pub good : headGood j ≡ true
+    pub head : checkHead j key n ≡ accepted (fresh (headSettings j) n key)
+    pub whole : takeOver j key n ≡ lastAnswer (steps (keySchedule key) (length j) (fresh (headSettings j) n key) j)
+
+  pub record Stopped : Type 0 where
+    pub number : headNumber j n ≡ 0 → ⊥
+    pub head : checkHead j key n ≡ refused (headNumber j n) 0
+    pub whole : takeOver j key n ≡ refused (headNumber j n) 0
+
+  pub passed : headNumber j n ≡ 0 → Passed
+  unfolding headNumber checkHead takeOver
+  passed z =
+      let p = ask-zero _ _ _ z in
+      record { width = p .0; good = ask-zero _ _ _ (p .1) .0; head = ifZero-yes _ _ z; whole = ifZero-yes _ _ z }
+
+  pub stopped-at : (headNumber j n ≡ 0 → ⊥) → Stopped
+  unfolding checkHead takeOver
+  stopped-at h = record { number = h; head = ifZero-no (headNumber j n) _ _ h; whole = ifZero-no (headNumber j n) _ _ h }
+
+  accepted-zero : (st : State) → accepted st .number ≡ 0
+  unfolding accepted
+  accepted-zero st = refl
+
+  refused-number : (m i : ℕ) → refused m i .number ≡ m
+  unfolding refused
+  refused-number m i = refl
+
+  module _ {f : TakenOver} (e : f ≡ checkHead j key n) where
+    pub head-passed : f .number ≡ 0 → Passed
+    head-passed z = go (headNumber j n) refl
+      where
+        go : (m : ℕ) → headNumber j n ≡ m → Passed
+        go zero q = passed q
+        go (suc m) q =
+            let s = stopped-at (λ y. omega (arith, y, q)) in
+            absurd (omega (arith, z, ap (λ (t : TakenOver). t .number) (e ∙ s .head), refused-number (headNumber j n) 0, q))
+
+    pub head-stopped : (f .number ≡ 0 → ⊥) → Stopped
+    head-stopped h =
+        stopped-at (λ q. h (ap (λ (t : TakenOver). t .number) (e ∙ passed q .head) ∙ accepted-zero (fresh (headSettings j) n key)))
+
+    pub over-refused : (f .number ≡ 0 → ⊥) → f ≡ takeOver j key n
+    over-refused h = let s = head-stopped h in e ∙ (s .head ∙ sym (s .whole))
+
+    module _ (z : f .number ≡ 0) where
+      pub state-fresh : f .state ≡ fresh (headSettings j) n key
+      unfolding accepted
+      state-fresh = ap (λ (t : TakenOver). t .state) (e ∙ head-passed z .head)
+
+      key-fresh : fresh (headSettings j) n key .key ≡ key
+      unfolding fresh
+      key-fresh = refl
+
+      pub over-read : {x : Step} {r : TakenOver} → x ≡ steps (keySchedule (f .state .key)) (length j) (f .state) j → r ≡ lastAnswer x → r ≡ takeOver j key n
+      over-read ex er =
+          let k : f .state .key ≡ key = ap (λ (y : State). y .key) state-fresh ∙ key-fresh in
+          er ∙ (ap lastAnswer (ex ∙ (λ i. steps (keySchedule (k i)) (length j) (state-fresh i) j)) ∙ sym (head-passed z .whole))
+
+      pub over-steady : AllBytes j → Steady (f .state) j
+      over-steady b =
+          let g = head-passed z .good in
+          let h = good-head j b g in
+          subst (λ (x : State). Steady x j) (sym state-fresh) (fresh-steady (headSettings j) j key n (h .good) (omega (arith, h .room, read-length j b g)))
 
 -- ---- steps for other readers
 

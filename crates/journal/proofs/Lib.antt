@@ -26,6 +26,7 @@ pub mod Pairs
 pub mod Passing
 pub mod Places
 pub mod Placing
+pub mod PartCalls
 pub mod PreparedTexts
 pub mod ReadBySteps
 pub mod Readings

@@ -127,6 +127,10 @@ lastAnswer s = ifZero (s .number) (accepted (s .state)) (refused (s .number) (s 
 unfoldable pub headNumber : List ℕ → ℕ → ℕ
 headNumber j n = ask (widthGood n) 4 (ask (headGood j) 14 0)
 
+-- "A first call reads the head alone and answers 4, 14 or the fresh state.", whatever the journal's count says
+unfoldable pub checkHead : List ℕ → List ℕ → ℕ → TakenOver
+checkHead j key n = ifZero (headNumber j n) (accepted (fresh (headSettings j) n key)) (refused (headNumber j n) 0)
+
 -- an entry takes at least two bytes and the start of a pair nine, so as many steps as the journal has bytes cover all of it
 unfoldable pub takeOver : List ℕ → List ℕ → ℕ → TakenOver
 takeOver j key n =

@@ -24,8 +24,9 @@ ghost use mathlib.Core.Bool.{true, false};
 ghost use Prim.Native.Nat.{_+_, _≤_, _<_};
 ghost use lib.ListN.{length};
 ghost use Rattle.primitives.specs.Bytes.{same};
+ghost use Rattle.primitives.specs.Aes.{keySchedule};
 ghost use Rattle.receipt.specs.Chain.{decryptedCounter};
-ghost use Rattle.journal.specs.Checking.{equal, counterRight, contextNumber, full, stopped, textChecked, placeChecked, startChecked, endChecked, Steady, oneStep, steps, refused, lastAnswer, takeOver, entryReady, entryChecked, stepChecked};
+ghost use Rattle.journal.specs.Checking.{equal, counterRight, contextNumber, full, stopped, textChecked, placeChecked, startChecked, endChecked, Steady, oneStep, steps, refused, accepted, lastAnswer, checkHead, takeOver, entryReady, entryChecked, stepChecked};
 ghost use Rattle.journal.specs.State.{serialsGood};
 
 // ---- one entry
@@ -198,9 +199,9 @@ fn take_step(schedule: &[[u8; 4]; 60], st: State, j: &[u8]) -> Checked
 // ---- all steps
 
 // The number of a refused step and the state before it; or 0 and the state after the last step.
-struct Step {
-    number: u32,
-    state: State,
+pub(crate) struct Step {
+    pub(crate) number: u32,
+    pub(crate) state: State,
 }
 
 // Takes n steps, up to the first that is refused. Once a step leaves the length as it was, so does every step after it.
@@ -234,6 +235,16 @@ fn steps(schedule: &[[u8; 4]; 60], n: usize, start: State, j: &[u8]) -> Step
     }
 }
 
+// Takes n steps from a state on, under its key.
+pub(crate) fn steps_from(st: State, n: usize, j: &[u8]) -> Step
+    requires { ⌜ Steady st (now j) ⌝ }
+    ensures { λ r. ⌜ r ≡ steps (keySchedule (st .key)) n st (now (j .entry)) ⌝ }
+{
+    let key = st.key;
+    let schedule = receipt::counter_key(key);
+    steps(&schedule, n, st, j)
+}
+
 // ---- the journal
 
 fn refused(number: u32, index: u32) -> TakenOver
@@ -247,13 +258,10 @@ fn refused(number: u32, index: u32) -> TakenOver
     }
 }
 
-fn last_answer(s: Step) -> TakenOver
-    ensures { λ r. ⌜ r ≡ lastAnswer s ⌝ }
+// The paper leaves the index of an accepted journal open; here it is 0.
+pub(crate) fn accepted(st: State) -> TakenOver
+    ensures { λ r. ⌜ r ≡ accepted st ⌝ }
 {
-    let st = s.state;
-    if s.number != 0 {
-        return refused(s.number, st.issued);
-    }
     TakenOver {
         number: 0,
         index: 0,
@@ -261,9 +269,19 @@ fn last_answer(s: Step) -> TakenOver
     }
 }
 
-// The state after a journal; or the number of the first question answered no, the number of receipts before it and the unopened state.
-pub fn take_over(j: &[u8], key: [u8; 32], n: usize) -> TakenOver
-    ensures { λ r. ⌜ r ≡ takeOver (now (j .entry)) key n ⌝ }
+fn last_answer(s: Step) -> TakenOver
+    ensures { λ r. ⌜ r ≡ lastAnswer s ⌝ }
+{
+    let st = s.state;
+    if s.number != 0 {
+        return refused(s.number, st.issued);
+    }
+    accepted(st)
+}
+
+// The head alone: 4, 14, or the state of a register without receipts, whatever the journal's count says.
+pub fn check_head(j: &[u8], key: [u8; 32], n: usize) -> TakenOver
+    ensures { λ r. ⌜ r ≡ checkHead (now (j .entry)) key n ⌝ }
 {
     if !receipt::width_good(n) {
         return refused(4, 0);
@@ -275,9 +293,21 @@ pub fn take_over(j: &[u8], key: [u8; 32], n: usize) -> TakenOver
     if !receipt::settings_good(settings) {
         return refused(14, 0);
     }
-    let schedule = receipt::counter_key(key);
     let st = fresh(settings, n, key);
-    last_answer(steps(&schedule, j.len(), st, j))
+    accepted(st)
+}
+
+// The state after a journal; or the number of the first question answered no, the number of receipts before it and the unopened state.
+// An entry takes at least two bytes and the start of a pair nine, so as many steps as the journal has bytes cover all of it.
+pub fn take_over(j: &[u8], key: [u8; 32], n: usize) -> TakenOver
+    ensures { λ r. ⌜ r ≡ takeOver (now (j .entry)) key n ⌝ }
+{
+    let first = check_head(j, key, n);
+    if first.number != 0 {
+        return first;
+    }
+    let st = first.state;
+    last_answer(steps_from(st, j.len(), j))
 }
 
 // ---- steps for other readers

@@ -1,10 +1,11 @@
-// The journal of a register: opened, written by Issue, by lists of receipts and by Change, and taken over.
+// The journal of a register: opened, written by Issue, by lists of receipts and by Change, and taken over, whole or in parts.
 mod changing;
 mod checking;
 mod head;
 mod issuing;
 mod listing;
 mod opening;
+mod parts;
 mod preparing;
 mod state;
 mod step;
@@ -12,12 +13,14 @@ mod step;
 pub use changing::change;
 pub use checking::Checked;
 pub use checking::check_entry;
+pub use checking::check_head;
 pub use checking::check_step;
 pub use checking::take_over;
 pub use issuing::issue;
 pub use issuing::issue_failed;
 pub use listing::issue_list;
 pub use opening::open;
+pub use parts::check_steps;
 pub use preparing::prepare;
 pub use state::Changed;
 pub use state::Issued;

@@ -251,26 +251,16 @@ pub(crate) fn next(st: State, d: Details, text: &[u8]) -> State
     requires { ⌜ (st .issued + 1 < 4294967296) × (st .since + 1 < 4294967296) × (st .length + 2 + length (now text) < 18446744073709551616) ⌝ }
     ensures { λ r. ⌜ r ≡ next st d (now (text .entry)) ⌝ }
 {
-    let csp = st.csp;
-    let id = st.id;
-    let serials = st.serials;
-    let key = st.key;
     let after = new_counter(st, d);
     let chain = receipt::chain_value(text);
-    State {
-        csp: csp,
-        id: id,
-        serials: serials,
-        width: st.width,
-        key: key,
-        counter: after.counter,
-        last: d.number,
-        issued: st.issued + 1,
-        chain: chain,
-        length: st.length + 2 + text.len(),
-        since: st.since + 1,
-        place: st.place,
-    }
+    let mut s = st;
+    s.counter = after.counter;
+    s.last = d.number;
+    s.issued = st.issued + 1;
+    s.chain = chain;
+    s.length = st.length + 2 + text.len();
+    s.since = st.since + 1;
+    s
 }
 
 // ---- the start of a pair
@@ -294,24 +284,12 @@ pub(crate) fn renewed(st: State, serial: Name) -> State
     requires { ⌜ (serialsGood (st .serials) ≡ true) × (length (used (st .serials)) < 8) × (st .length + 8 + serial .len < 18446744073709551616) ⌝ }
     ensures { λ r. ⌜ r ≡ renewed st serial ⌝ }
 {
-    let csp = st.csp;
-    let id = st.id;
     let slots = st.serials;
     let serials = added(slots, serial);
-    let key = st.key;
-    let chain = st.chain;
-    State {
-        csp: csp,
-        id: id,
-        serials: serials,
-        width: st.width,
-        key: key,
-        counter: st.counter,
-        last: st.last,
-        issued: st.issued,
-        chain: chain,
-        length: st.length + 8 + serial.len,
-        since: 0,
-        place: st.length + 4 + serial.len,
-    }
+    let mut s = st;
+    s.serials = serials;
+    s.length = st.length + 8 + serial.len;
+    s.since = 0;
+    s.place = st.length + 4 + serial.len;
+    s
 }

@@ -1,7 +1,4 @@
 -- `step::renewed` meets its contract.
-use mir.Syntax.{w64}
-use mir.Val.{SFits}
-use mir.ValLaws.{toZ-ofZ}
 use Rattle.journal.specs.Step.{renewed}
 use borrow.Author.Needs.{needs}
 use Rattle.journal.proofs.step.renewed.Statement.{statement}
@@ -10,24 +7,21 @@ use Rattle.journal.proofs.step.renewed.Tie as tie
 added-requires : tie.Need-added-requires
 added-requires c κs = search needs
 
-add-t9 : tie.Need-add-t9
-add-t9 c = search needs
+add-s : tie.Need-add-s
+add-s c = search needs
 
-add-t10 : tie.Need-add-t10
-add-t10 c = search needs
+add-s-2 : tie.Need-add-s-2
+add-s-2 c = search needs
 
-add-t11 : tie.Need-add-t11
-add-t11 c = search needs
+add-s-3 : tie.Need-add-s-3
+add-s-3 c = search needs
 
-add-t12 : tie.Need-add-t12
-add-t12 c = search needs
+add-s-4 : tie.Need-add-s-4
+add-s-4 c = search needs
 
 returns : tie.Need-returns
 unfolding renewed
-returns c =
-    let z = c .before .before .before .before .before .before .before .before .before .before .before .args .st .counter in
-    let f : SFits w64 z = search needs in
-    rw (c .before .before .before .before .before .before .before .added .ensures, toZ-ofZ w64 z f)
+returns c = rw (c .before .before .before .before .added .ensures)
 
 pub renewed-spec : {M : Type 1} → statement M
-renewed-spec = tie.close (tie.spec added-requires add-t9 add-t10 add-t11 add-t12 returns)
+renewed-spec = tie.close (tie.spec added-requires add-s add-s-2 add-s-3 add-s-4 returns)

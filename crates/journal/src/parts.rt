@@ -1,0 +1,50 @@
+// A journal checked in parts: from a state on, so many steps.
+use super::checking::Step;
+use super::checking::accepted;
+use super::checking::steps_from;
+use super::head::count_at;
+use super::state::State;
+use super::state::TakenOver;
+use super::step::sound;
+ghost use mathlib.Core.Path.{_≡_};
+ghost use Rattle.journal.specs.Parts.{ready, partAnswer, checkSteps};
+
+// Question 6: the state is sound for the journal as its buffer, and has no more receipts in the open section than the journal's count there.
+fn ready(st: State, j: &[u8]) -> bool
+    ensures { λ r. ⌜ r ≡ ready st (now (j .entry)) ⌝ }
+{
+    if !sound(st, j.len()) {
+        return false;
+    }
+    st.since as usize <= count_at(j, st.place, 4)
+}
+
+// The answer of so many steps from a state on: a refused check hands back the state that it was given.
+fn part_answer(st: State, s: Step) -> TakenOver
+    ensures { λ r. ⌜ r ≡ partAnswer st s ⌝ }
+{
+    let after = s.state;
+    if s.number != 0 {
+        return TakenOver {
+            number: s.number,
+            index: after.issued,
+            state: st,
+        };
+    }
+    accepted(after)
+}
+
+// Goes on from a state through n steps of Take over, under the key and the width of the state. 6, and then what the steps ask. Returns the
+// state after them; or the number, the receipts before that place and the state as given.
+pub fn check_steps(st: State, j: &[u8], n: usize) -> TakenOver
+    ensures { λ r. ⌜ r ≡ checkSteps st (now (j .entry)) n ⌝ }
+{
+    if !ready(st, j) {
+        return TakenOver {
+            number: 6,
+            index: 0,
+            state: st,
+        };
+    }
+    part_answer(st, steps_from(st, n, j))
+}
