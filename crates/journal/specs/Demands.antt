@@ -22,7 +22,8 @@ use Rattle.journal.specs.Issuing.{textOf, issueNumber, issued, issueBuff
 use Rattle.journal.specs.Listing.{issuedList, listBuffer}
 use Rattle.journal.specs.Changing.{changed, changeBuffer}
 use Rattle.journal.specs.Preparing.{preparedText, prepareNumber, prepareAnswer, prepareBuffer}
-use Rattle.journal.specs.Checking.{refused, accepted, takeOver, full, stepChecked, entryChecked, readBySteps}
+use Rattle.journal.specs.Checking.{refused, accepted, checkHead, takeOver, full, stepChecked, entryChecked, readBySteps}
+use Rattle.journal.specs.Parts.{checkSteps}
 use Rattle.journal.specs.Receipts.{receiptsIn, sum}
 use Rattle.journal.specs.Valid.{Owner, Pair, Placed, pairTexts, ownerText, journalText, allPlaced, entriesIn, stateAfter, Valid, headOf}
 use Rattle.journal.specs.FirstNo.{NoAt}
@@ -139,7 +140,7 @@ FormIsAppended =
 
 -- ---- refused calls
 
--- a refused call leaves buffer and state unchanged; a refused Open or Take over returns the unopened state
+-- a refused call leaves buffer and state unchanged; a refused Open, Take over or check of the head returns the unopened state
 pub record RefusedChangesNothing : Type 0 where
   pub opens : (s : Settings) (key : List ℕ) (shared : Bool) (n : ℕ) (buf : List ℕ) → (opened s key shared n (length buf) .number ≡ 0 → ⊥)
       → (opened s key shared n (length buf) .state ≡ unopened) × (openBuffer s shared n buf ≡ buf)
@@ -153,6 +154,8 @@ pub record RefusedChangesNothing : Type 0 where
   pub prepares : (st : State) (d : Details) (out : List ℕ) → (prepareAnswer st d (length out) .number ≡ 0 → ⊥)
       → (prepareAnswer st d (length out) .length ≡ 0) × (prepareBuffer st d out ≡ out)
   pub takes : (j key : List ℕ) (n : ℕ) → (takeOver j key n .number ≡ 0 → ⊥) → takeOver j key n .state ≡ unopened
+  pub heads : (j key : List ℕ) (n : ℕ) → (checkHead j key n .number ≡ 0 → ⊥) → checkHead j key n .state ≡ unopened
+  pub checks : (st : State) (j : List ℕ) (n : ℕ) → (checkSteps st j n .number ≡ 0 → ⊥) → checkSteps st j n .state ≡ st
 
 -- ---- Prepare
 

@@ -10,6 +10,7 @@ pub mod Issuing
 pub mod Listing
 pub mod Lists
 pub mod Opening
+pub mod PartLaws
 pub mod Parts
 pub mod Preparing
 pub mod Receipts
