@@ -69,7 +69,7 @@ unfolding added
 first-stays slots s g =
     first-of (used slots) s (drop (length (used slots)) slots) (serials-used slots g .some) ∙ ap (λ (l : List Name). getD l 0 noName) (sym (used-prefix slots))
 
-sound-renewed : (st : State) (s : Name) → serialGood s ≡ true → Sound st → Sound (renewed st s)
+pub sound-renewed : (st : State) (s : Name) → serialGood s ≡ true → Sound st → Sound (renewed st s)
 unfolding renewed headLength
 sound-renewed st s g x =
     record {
@@ -84,7 +84,7 @@ sound-renewed st s g x =
       head = omega (arith, ap (λ (n : Name). n .len) (first-stays (st .serials) s (x .serials)), x .head);
     }
 
-sound-here : (st : State) (j : List ℕ) → Sound st → st .length ≤ length j → sound st (length j) ≡ true
+pub sound-here : (st : State) (j : List ℕ) → Sound st → st .length ≤ length j → sound st (length j) ≡ true
 unfolding sound
 sound-here st j s l = rw (sound-yes st s, le-leb (st .length) (length j) l)
 
@@ -178,7 +178,7 @@ read-pairs {st} {o} {k} {n} {s} {c} {us} (x ∷ ps) es m p j a y at h (placing.m
 
 -- ---- a whole journal
 
-fresh-sound : (o : Owner) (k : List ℕ) (n : ℕ) (s : Name) → Work k n o (emptyPair s ∷ []) → Sound (fresh (settingsFor o s) n k)
+pub fresh-sound : (o : Owner) (k : List ℕ) (n : ℕ) (s : Name) → Work k n o (emptyPair s ∷ []) → Sound (fresh (settingsFor o s) n k)
 fresh-sound o k n s w = subst Sound (sym (fresh-holds o k n s)) (run-sound k n o [] (emptyPair s) w)
 
 read-first : (o : Owner) (k : List ℕ) (n : ℕ) (p : Pair) (ps : List Pair) (j : List ℕ) (m : ℕ) → widthGood n ≡ true → GoodOwner o → AllRight k n (startCore o) (allPlaced o (p ∷ ps)) → Begun [] p

@@ -67,7 +67,7 @@ StateAfterSteps =
 -- from any state on, checks one after the other answer what one check of all their steps answers
 abbrev pub ChecksAdd : Type 0
 ChecksAdd =
-    (st : State) (j : List ℕ) → AllBytes j → (n : ℕ) (ns : List ℕ) → SameAnswer (checksAfter (checkSteps st j n) j ns) (checkSteps st j (n + total ns))
+    (st : State) (j : List ℕ) (n : ℕ) (ns : List ℕ) → SameAnswer (checksAfter (checkSteps st j n) j ns) (checkSteps st j (n + total ns))
 
 -- "a check of no steps only asks 6"
 abbrev pub NoStepsAskSix : Type 0
@@ -81,7 +81,7 @@ SixIsNotReady =
 
 -- a check that is not refused ends with a state that the next check takes
 abbrev pub CheckedIsReady : Type 0
-CheckedIsReady = (st : State) (j : List ℕ) → AllBytes j → (n : ℕ) → checkSteps st j n .number ≡ 0 → ready (checkSteps st j n .state) j ≡ true
+CheckedIsReady = (st : State) (j : List ℕ) (n : ℕ) → checkSteps st j n .number ≡ 0 → ready (checkSteps st j n .state) j ≡ true
 
 -- "behind the last one a step only asks 21"
 pub record AfterTheLast (st : State) (j : List ℕ) : Type 0 where
