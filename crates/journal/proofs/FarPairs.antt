@@ -19,7 +19,7 @@ use Rattle.receipt.specs.Compact.{compact}
 use Rattle.receipt.specs.declared.settings.Name.{Name}
 use Rattle.receipt.specs.declared.settings.Settings.{Settings}
 use Rattle.receipt.specs.declared.entry.Entry.{Entry}
-use Rattle.journal.specs.Head.{section, head, headLength, entryText, pairStart}
+use Rattle.journal.specs.Head.{section, head, headLength, headSettings, headGood, entryText, pairStart}
 use Rattle.journal.specs.State.{used, isIn}
 use Rattle.journal.specs.Step.{fresh, renewed}
 use Rattle.journal.specs.Checking.{stopped, oneStep, steps, refused, lastAnswer, takeOver}
@@ -30,7 +30,7 @@ use Rattle.journal.specs.Demands.{beforeCount}
 use Rattle.journal.specs.declared.state.State.{State}
 use Rattle.journal.specs.declared.checking.Checked.{Checked}
 use Rattle.journal.proofs.Sections.{length-start}
-use Rattle.journal.proofs.Heads.{length-head, read-count-at}
+use Rattle.journal.proofs.Heads.{length-head, head-good, read-settings, read-count-at}
 use Rattle.journal.proofs.Starting.{StartAt}
 use Rattle.journal.proofs.Check.{step}
 use Rattle.journal.proofs.Stepping.{passed-step, refused-step, answer-no}
@@ -135,12 +135,17 @@ stands {j} {key} {n} {o} {ps} {p} {m} {rest} f =
 
 -- ---- the steps lead there
 
-pub record Reach (j key : List ℕ) (n : ℕ) (st : State) : Type 0 where
+-- after so many entries and starts of pairs
+pub record Reach (j key : List ℕ) (n : ℕ) (count : ℕ) (st : State) : Type 0 where
   -- a good head
   pub settings : Settings
+  pub width : widthGood n ≡ true
+  pub good : headGood j ≡ true
+  pub read : headSettings j ≡ settings
   pub taken : takeOver j key n ≡ lastAnswer (steps (keySchedule key) (length j) (fresh settings n key) j)
   -- so many steps, and a byte is left for one more
   pub fuel : ℕ
+  pub counted : fuel ≡ count
   pub left : fuel < length j
   pub run : (m : ℕ) → steps (keySchedule key) (fuel + m) (fresh settings n key) j ≡ steps (keySchedule key) m st j
 
@@ -161,8 +166,9 @@ head-some : (s : Settings) → 0 < headLength s
 unfolding headLength
 head-some s = omega arith
 
-reach-first : (j key : List ℕ) (n : ℕ) (o : Owner) (p : Pair) (m : ℕ) (rest : List ℕ) → Far j key n o [] p m rest → Begun [] p → Reach j key n (stateThere o key n [] p)
-unfolding pairTexts allPlaced
+reach-first : (j key : List ℕ) (n : ℕ) (o : Owner) (p : Pair) (m : ℕ) (rest : List ℕ) → Far j key n o [] p m rest → Begun [] p
+    → Reach j key n (stepsOf [] + length (p .entries)) (stateThere o key n [] p)
+unfolding pairTexts allPlaced stepsOf
 reach-first j key n o p m rest f b =
     let s = p .serial in
     let es = p .entries in
@@ -180,8 +186,12 @@ reach-first j key n o p m rest f b =
     (λ i. countAt (q i) (fresh-place o key n s i) 4) ∙ read-count-at sf ts gs m (f .few) t in
     record {
       settings = sf;
+      width = f .work .width;
+      good = ap headGood q ∙ head-good sf ts gs m (f .few) t;
+      read = ap headSettings q ∙ read-settings sf ts gs m (f .few) t;
       taken = ap (λ (l : List ℕ). takeOver l key n) q ∙ (takes-head o key n s m t (f .work .width) g (b .typed) (b .good) (f .few) ∙ ap (λ (l : List ℕ). lastAnswer (steps (keySchedule key) (length l) st l)) (sym q));
       fuel = length es;
+      counted = omega arith;
       left = omega (arith, ap length q, length-append pre t, length-append (texts sf n es) rest, entries-size sf n es, lh, head-some sf);
       run = λ x.
           passed es x pre rest j (fresh-at o key n s g (b .typed) (b .good)) (lh ∙ sym (fresh-length o key n s)) r q (omega (arith, c, f .within, fresh-section o key n s))
@@ -189,8 +199,8 @@ reach-first j key n o p m rest f b =
     }
 
 reach-later : (j key : List ℕ) (n : ℕ) (o : Owner) (x : Pair) (qs : List Pair) (p : Pair) (m : ℕ) (rest : List ℕ) → Far j key n o (x ∷ qs) p m rest → Begun [] x → Names (x .serial ∷ []) qs
-    → Names [] (x ∷ qs) → Begun (serialsOf (x ∷ qs)) p → Reach j key n (stateThere o key n (x ∷ qs) p)
-unfolding allPlaced pairTexts
+    → Names [] (x ∷ qs) → Begun (serialsOf (x ∷ qs)) p → Reach j key n (stepsOf (x ∷ qs) + length (p .entries)) (stateThere o key n (x ∷ qs) p)
+unfolding allPlaced pairTexts stepsOf
 reach-later j key n o x qs p m rest f bx nx ns b =
     let g = f .work .good in
     let s = p .serial in
@@ -228,8 +238,12 @@ reach-later j key n o x qs p m rest f bx nx ns b =
     (omega (arith, start-count (r .base) s m p₂ rs j l₂ sb q₂, f .within)) in
     record {
       settings = sx;
+      width = f .work .width;
+      good = ap headGood q ∙ head-good sx ts gs n₀ (bx .few) u;
+      read = ap headSettings q ∙ read-settings sx ts gs n₀ (bx .few) u;
       taken = ap (λ (l : List ℕ). takeOver l key n) q ∙ (takes-head o key n (x .serial) n₀ u (f .work .width) g (bx .typed) (bx .good) (bx .few) ∙ ap (λ (l : List ℕ). lastAnswer (steps (keySchedule key) (length l) st l)) (sym q));
       fuel = n₀ + (stepsOf qs + suc (length es));
+      counted = omega arith;
       left =
           omega (
             arith,
@@ -252,14 +266,15 @@ reach-later j key n o x qs p m rest f bx nx ns b =
           ∙ (v i ∙ ap (λ (z : State). steps (keySchedule key) i z j) (sym (run-last (blank o key n) (x ∷ qs) p))))));
     }
 
-pub reach : {j key : List ℕ} {n : ℕ} {o : Owner} {ps : List Pair} {p : Pair} {m : ℕ} {rest : List ℕ} → Far j key n o ps p m rest → Reach j key n (stateThere o key n ps p)
+pub reach : {j key : List ℕ} {n : ℕ} {o : Owner} {ps : List Pair} {p : Pair} {m : ℕ} {rest : List ℕ} → Far j key n o ps p m rest
+    → Reach j key n (stepsOf ps + length (p .entries)) (stateThere o key n ps p)
 unfolding serialsOf
 reach {j} {key} {n} {o} {ps} {p} {m} {rest} f = go ps f
   where
-    later : (x : Pair) (qs : List Pair) → Far j key n o (x ∷ qs) p m rest → Names [] (x ∷ qs) → Names [] (x ∷ qs) → Begun (serialsOf (x ∷ qs)) p → Reach j key n (stateThere o key n (x ∷ qs) p)
+    later : (x : Pair) (qs : List Pair) → Far j key n o (x ∷ qs) p m rest → Names [] (x ∷ qs) → Names [] (x ∷ qs) → Begun (serialsOf (x ∷ qs)) p → Reach j key n (stepsOf (x ∷ qs) + length (p .entries)) (stateThere o key n (x ∷ qs) p)
     later x qs f (placing.more bx nx) ns b = reach-later j key n o x qs p m rest f bx nx ns b
 
-    go : (ps : List Pair) → Far j key n o ps p m rest → Reach j key n (stateThere o key n ps p)
+    go : (ps : List Pair) → Far j key n o ps p m rest → Reach j key n (stepsOf ps + length (p .entries)) (stateThere o key n ps p)
     go [] f = reach-first j key n o p m rest f (last-begun [] p (f .work .names))
     go (x ∷ qs) f =
         let w = names-split [] (x ∷ qs) (p ∷ []) (f .work .names) in

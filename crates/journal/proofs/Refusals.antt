@@ -1,7 +1,7 @@
 -- What a refused call leaves.
 use Prim.Native.Nat.{ℕ, zero, suc}
 use native.Mathlib.Omega.{arith}
-use mathlib.Core.Bool.{Bool}
+use mathlib.Core.Bool.{Bool, true, false, cond}
 use mathlib.Core.Path.{_≡_, refl}
 use mathlib.Core.List.{List, [], _∷_}
 use lib.ListN.{length}
@@ -16,7 +16,8 @@ use Rattle.journal.specs.Issuing.{issueNumber, issued, issuedWithin, iss
 use Rattle.journal.specs.Listing.{issuedList, listBuffer, issuedListWithin, listBufferWithin, countedFrom}
 use Rattle.journal.specs.Changing.{changeNumber, changed, changeBuffer}
 use Rattle.journal.specs.Preparing.{prepareNumber, prepareAnswer, prepareBuffer}
-use Rattle.journal.specs.Checking.{headNumber, refused, accepted, takeOver, lastAnswer, steps}
+use Rattle.journal.specs.Checking.{headNumber, refused, accepted, checkHead, takeOver, lastAnswer, steps}
+use Rattle.journal.specs.Parts.{ready, handedBack, partAnswer, checkSteps}
 use Rattle.journal.specs.Head.{headSettings}
 use Rattle.journal.specs.Demands.{RefusedChangesNothing}
 use Rattle.journal.specs.declared.state.State.{State}
@@ -86,5 +87,32 @@ take-refused j key n =
     let s = steps (keySchedule key) (length j) (fresh (headSettings j) n key) j in
     pick (headNumber j n) 0 (lastAnswer s) (answer-refused s)
 
+head-refused : (j key : List ℕ) (n : ℕ) → (checkHead j key n .number ≡ 0 → ⊥) → checkHead j key n .state ≡ unopened
+unfolding checkHead
+head-refused j key n =
+    let st = fresh (headSettings j) n key in
+    pick (headNumber j n) 0 (accepted st) (λ h. absurd (h (zero-number st)))
+
+keep : (m i : ℕ) (st : State) (x : State) → (ifZero m (accepted x) (handedBack m i st) .number ≡ 0 → ⊥) → ifZero m (accepted x) (handedBack m i st) .state ≡ st
+unfolding ifZero handedBack
+keep zero i st x h = absurd (h (zero-number x))
+keep (suc m) i st x h = refl
+
+given : (m i : ℕ) (st : State) → handedBack m i st .state ≡ st
+unfolding handedBack
+given m i st = refl
+
+check-refused : (st : State) (j : List ℕ) (n : ℕ) → (checkSteps st j n .number ≡ 0 → ⊥) → checkSteps st j n .state ≡ st
+unfolding checkSteps partAnswer
+check-refused st j n = go (ready st j)
+  where
+    s : Step
+    s = steps (keySchedule (st .key)) n st j
+
+    go : (t : Bool) → (cond t (ifZero (s .number) (accepted (s .state)) (handedBack (s .number) (s .state .issued) st)) (handedBack 6 0 st) .number ≡ 0 → ⊥)
+        → cond t (ifZero (s .number) (accepted (s .state)) (handedBack (s .number) (s .state .issued) st)) (handedBack 6 0 st) .state ≡ st
+    go true h = keep (s .number) (s .state .issued) st (s .state) h
+    go false h = given 6 0 st
+
 pub refused-changes-nothing : RefusedChangesNothing
-refused-changes-nothing = record { opens = open-refused; issues = issue-refused; lists = list-refused; changes = change-refused; prepares = prepare-refused; takes = take-refused }
+refused-changes-nothing = record { opens = open-refused; issues = issue-refused; lists = list-refused; changes = change-refused; prepares = prepare-refused; takes = take-refused; heads = head-refused; checks = check-refused }

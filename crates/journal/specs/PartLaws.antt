@@ -3,11 +3,13 @@ use Prim.Native.Nat.{ℕ, suc, _+_, _≤_, _<_}
 use mathlib.Core.Path.{_≡_}
 use mathlib.Core.Bool.{true, false, cond}
 use mathlib.Core.List.{List, [], _∷_, _++_}
-use lib.ListN.{length, replicate}
+use lib.ListN.{length, drop, replicate}
 use Rattle.primitives.specs.Bytes.{AllBytes}
 use Rattle.primitives.specs.Counter.{widthGood}
+use Rattle.primitives.specs.Number.{countAt}
 use Rattle.receipt.specs.declared.settings.Settings.{Settings}
 use Rattle.journal.specs.Head.{startThere}
+use Rattle.journal.specs.State.{countPlaceNow}
 use Rattle.journal.specs.Step.{fresh}
 use Rattle.journal.specs.Opening.{openNumber, opened}
 use Rattle.journal.specs.Checking.{full, refused, accepted, checkHead, takeOver}
@@ -90,6 +92,22 @@ pub record AfterTheLast (st : State) (j : List ℕ) : Type 0 where
 
 abbrev pub OnlyAsks21 : Type 0
 OnlyAsks21 = (st : State) (j : List ℕ) → ready st j ≡ true → full st j ≡ true → AfterTheLast st j
+
+-- "reads the journal behind its length": of what stands before it, the answer depends on the open section's count alone
+abbrev pub ReadsNoOther : Type 0
+ReadsNoOther =
+    (st : State) (j i : List ℕ) (n : ℕ) → length j ≡ length i → drop (st .length) j ≡ drop (st .length) i
+    → countAt j (countPlaceNow st) 4 ≡ countAt i (countPlaceNow st) 4 → checkSteps st j n ≡ checkSteps st i n
+
+-- ---- month by month
+
+-- Take over's state of an accepted journal is one to go on from in a journal that has grown: whose answers are yes up to the same entries, whatever its
+-- count in the open section and whatever follows
+abbrev pub GrownJournalGoesOn : Type 0
+GrownJournalGoesOn =
+    (j key : List ℕ) (n : ℕ) (v : Valid j key n) (ps : List Pair) (p : Pair) → v .pairs ≡ ps ++ (p ∷ []) → (grown : List ℕ) (k : ℕ) (rest : List ℕ)
+    → AllBytes grown → SoFar grown key n (v .owner) ps p k rest → (ns : List ℕ) → length grown ≤ total ns
+    → SameAnswer (checksAfter (takeOver j key n) grown ns) (takeOver grown key n)
 
 -- ---- a lost state, a lost length
 
