@@ -23,12 +23,12 @@ use Rattle.journal.proofs.Registers.{entries-all, length-entries, run-z
 use Rattle.journal.proofs.FarPairs.{core-start}
 
 -- every list of pairs but the empty one has a last pair
-record Last (ps : List Pair) : Type 0 where
-  before : List Pair
-  last : Pair
-  is : ps ≡ before ++ (last ∷ [])
+pub record Last (ps : List Pair) : Type 0 where
+  pub before : List Pair
+  pub last : Pair
+  pub is : ps ≡ before ++ (last ∷ [])
 
-last-of : (p : Pair) (ps : List Pair) → Last (p ∷ ps)
+pub last-of : (p : Pair) (ps : List Pair) → Last (p ∷ ps)
 last-of p [] = record { before = []; last = p; is = refl }
 last-of p (q ∷ qs) = let l = last-of q qs in record { before = p ∷ l .before; last = l .last; is = ap (λ (x : List Pair). p ∷ x) (l .is) }
 
@@ -70,7 +70,7 @@ state-last k n o ps p w =
       place = (place ∙ ap (λ (x : Pair). length (journalText o n qs) - (4 + length (texts (settingsFor o (x .serial)) n (x .entries)))) (sym ol)) i;
     }
 
-state-is : (k : List ℕ) (n : ℕ) (o : Owner) (ps : List Pair) → Work k n o ps → runPairs (blank o k n) ps ≡ stateAfter o k n ps
+pub state-is : (k : List ℕ) (n : ℕ) (o : Owner) (ps : List Pair) → Work k n o ps → runPairs (blank o k n) ps ≡ stateAfter o k n ps
 state-is k n o ps w = go ps w (w .some)
   where
     go : (ps : List Pair) → Work k n o ps → 0 < length ps → runPairs (blank o k n) ps ≡ stateAfter o k n ps

@@ -23,6 +23,7 @@ pub mod Lists
 pub mod OneReading
 pub mod OpenCalls
 pub mod Pairs
+pub mod PartPlaces
 pub mod PartQuestions
 pub mod PartSteps
 pub mod Passing

@@ -107,7 +107,7 @@ six-is-not-ready st j n = (λ e. bool-no (ready st j) (not-six e), check-six st 
 -- ---- after the last entry
 
 -- bytes that start no pair
-no-start : (k : List (List ℕ)) (st : State) (j : List ℕ) → full st j ≡ true → st .length < length j → startThere j (st .length) ≡ false → oneStep k st j ≡ stopped 21 st
+pub no-start : (k : List (List ℕ)) (st : State) (j : List ℕ) → full st j ≡ true → st .length < length j → startThere j (st .length) ≡ false → oneStep k st j ≡ stopped 21 st
 no-start k st j f l h =
     let e = number-21 st j h in
     start-refused k st j f l (λ z. omega (arith, z, e)) ∙ ap (λ (m : ℕ). stopped m st) e

@@ -224,7 +224,7 @@ module _ (k : List (List ℕ)) (j : List ℕ) where
       omega (arith, grown st (w .0), grows n (oneStep k st j .state) (w .1), ap (λ (x : Step). x .state .length) (turn n st (w .0)))
 
   -- the key stays
-  key-step : (st : State) → oneStep k st j .number ≡ 0 → oneStep k st j .state .key ≡ st .key
+  pub key-step : (st : State) → oneStep k st j .number ≡ 0 → oneStep k st j .state .key ≡ st .key
   unfolding stopped after next renewed
   key-step st z = go (step-case k st j z)
     where
@@ -309,11 +309,11 @@ went st j n z = go (ready st j) refl
 
 -- ---- checks one after the other
 
-checks-none : (t : TakenOver) (j : List ℕ) → checksAfter t j [] ≡ t
+pub checks-none : (t : TakenOver) (j : List ℕ) → checksAfter t j [] ≡ t
 unfolding checksAfter
 checks-none t j = refl
 
-checks-on : (t : TakenOver) (j : List ℕ) (n : ℕ) (ns : List ℕ) → t .number ≡ 0 → checksAfter t j (n ∷ ns) ≡ checksAfter (checkSteps (t .state) j n) j ns
+pub checks-on : (t : TakenOver) (j : List ℕ) (n : ℕ) (ns : List ℕ) → t .number ≡ 0 → checksAfter t j (n ∷ ns) ≡ checksAfter (checkSteps (t .state) j n) j ns
 unfolding checksAfter
 checks-on t j n ns z = ifZero-yes _ _ z
 
@@ -326,11 +326,11 @@ pub total-more : (n : ℕ) (ns : List ℕ) → total (n ∷ ns) ≡ n + total ns
 unfolding total
 total-more n ns = refl
 
-total-none : total [] ≡ 0
+pub total-none : total [] ≡ 0
 unfolding total
 total-none = refl
 
-same-refl : (t : TakenOver) → SameAnswer t t
+pub same-refl : (t : TakenOver) → SameAnswer t t
 same-refl t = record { number = refl; index = refl; state = λ z. refl }
 
 -- the answers of two calls to the same steps: handed back, or unopened
@@ -348,7 +348,7 @@ same-answers st x = go (x .number) refl
         subst (λ (t : TakenOver). SameAnswer t (lastAnswer x)) (sym (part-no st x h))
         (subst (SameAnswer (handedBack (x .number) (x .state .issued) st)) (sym (answer-no x h)) (same-no (x .number) (x .state .issued) st h))
 
-same-both : {a b c : TakenOver} → SameAnswer a b → SameAnswer b c → SameAnswer a c
+pub same-both : {a b c : TakenOver} → SameAnswer a b → SameAnswer b c → SameAnswer a c
 same-both p q =
     record { number = p .number ∙ q .number; index = p .index ∙ q .index; state = λ z. p .state (q .number ∙ z) ∙ q .state z }
 

@@ -115,8 +115,8 @@ GrownJournalGoesOn =
 -- nothing follows, else with 21 and all receipts as the index. Other checks may come before them
 abbrev pub LostStateIsFound : Type 0
 LostStateIsFound =
-    (j key : List ℕ) (n : ℕ) → Valid j key n → (rest : List ℕ) → AllBytes rest → startThere (j ++ rest) (length j) ≡ false → (ns : List ℕ)
+    (j key : List ℕ) (n : ℕ) → Valid j key n → (rest : List ℕ) → AllBytes (j ++ rest) → startThere (j ++ rest) (length j) ≡ false → (ns : List ℕ)
     → checkInParts (j ++ rest) key n ns .number ≡ 0 → (m : ℕ) → length j ≤ m
-    → ((rest ≡ []) → checkInParts (j ++ rest) key n (ns ++ replicate m 1) ≡ takeOver j key n)
+    → (rest ≡ [] → checkInParts (j ++ rest) key n (ns ++ replicate m 1) ≡ takeOver j key n)
     × ((rest ≡ [] → ⊥) → checkInParts (j ++ rest) key n (ns ++ replicate m 1)
     ≡ handedBack 21 (takeOver j key n .state .issued) (takeOver j key n .state))
