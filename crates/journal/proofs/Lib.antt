@@ -25,6 +25,7 @@ pub mod OpenCalls
 pub mod Pairs
 pub mod PartPlaces
 pub mod PartQuestions
+pub mod PartReads
 pub mod PartSteps
 pub mod Passing
 pub mod Places
