@@ -2036,37 +2036,55 @@ static void finds_end(size_t place, int byte)
     CHECK(found(twin, way_length(place), 4, &index) == DITGRUX_DONE && index == 0 && is_on_way(place));
 }
 
-/* Power failed in the Issue or the list after this place. The entry or a part of it is stored: the state without it. Its count, too: the
- * state with it. The count without the entry: the state without it, and 15 or 16. */
+/* With the count of its last pair put right, as docs/EMBEDDING.md has it, the journal in `twin` is taken over up to this place. */
+static int is_put_right(size_t place)
+{
+    uint32_t index;
+    memcpy(twin + way_count_at(place), way[place] + OPEN_AT, 4);
+    return taken_over(twin, way_length(place), &index) == DITGRUX_DONE && memcmp(other, way[place], sizeof other) == 0;
+}
+
+/* Power failed in the Issue or the list after this place. The entry or a part of it is stored, the first or the last: the state without it.
+ * Its count, too: the state with it. The count without the entry: the state without it, and 15 or 16. */
 static void finds_entry(size_t place, int byte)
 {
     const size_t entry = way_length(place + 1) - way_length(place);
     size_t written;
     for (written = 0; written <= entry; written++) {
+        filled(place, 0, byte);
+        memcpy(twin + way_length(place), stages[place + 1] + way_length(place + 1) - written, written);
+        CHECK(finds(place, DITGRUX_BYTES_LEFT));
         filled(place, written, byte);
         CHECK(finds(place, DITGRUX_BYTES_LEFT));
     }
     put(twin + way_count_at(place), 4, way_open(place) + 1);
-    CHECK(finds(place + 1, DITGRUX_BYTES_LEFT));
+    CHECK(finds(place + 1, DITGRUX_BYTES_LEFT) && is_put_right(place + 1));
     filled(place, 0, byte);
     put(twin + way_count_at(place), 4, way_open(place) + 1);
-    CHECK(finds(place, byte == 0 ? DITGRUX_ENTRY_MISSPELLED : DITGRUX_ENTRY_CUT));
+    CHECK(finds(place, byte == 0 ? DITGRUX_ENTRY_MISSPELLED : DITGRUX_ENTRY_CUT) && is_put_right(place));
 }
 
 /* Power failed in the Change after this place. A part is stored: the state without the new serial. From the whole serial on, the state with
- * it; a count that is not whole gets 15 where the buffer was not all zeros. */
+ * it; a count that is not whole gets 15 where the buffer was not all zeros. Take over without the pair gives the state before,
+ * and from there the same change can be made again. */
 static void finds_change(size_t place, int byte)
 {
     const size_t pair = way_length(place + 1) - way_length(place);
     size_t written;
+    uint32_t index;
     for (written = 0; written < pair - 4; written++) {
         filled(place, written, byte);
         CHECK(finds(place, DITGRUX_BYTES_LEFT));
     }
     for (; written <= pair; written++) {
         filled(place, written, byte);
-        CHECK(finds(place + 1, byte == 0 || written == pair ? DITGRUX_BYTES_LEFT : DITGRUX_ENTRY_CUT));
+        CHECK(finds(place + 1, byte == 0 || written == pair ? DITGRUX_BYTES_LEFT : DITGRUX_ENTRY_CUT) && is_put_right(place + 1));
     }
+    CHECK(taken_over(twin, journal_length() - pair, &index) == DITGRUX_DONE && memcmp(other, way[place], sizeof other) == 0);
+    memcpy(state, other, sizeof state);
+    CHECK(ditgrux_change(state, sizeof state, way[place + 1] + SERIALS_AT + SLOT * ditgrux_serials(state, sizeof state), pair - 8, twin,
+                         sizeof twin) == DITGRUX_DONE);
+    CHECK(finds(place + 1, DITGRUX_BYTES_LEFT));
 }
 
 /* What is left of a longer entry after a shorter one that was written over it is not taken for a pair. */
