@@ -1,8 +1,9 @@
 /* What include/ditgrux.h says besides the contracts: the wrappers pass every detail to its place and back, an empty signature may be
  * NULL, the walk of the entries ends at the length of the journal, what is left after a refusal, what to do when the buffer is full,
  * where power fails, what every byte of state and journal is after a change of the certificate, what becomes of a state of version 1,
- * which registers a shared key may have, what the optical line is of a code, and what a list of receipts leaves, issued and refused.
- * Prints each line that fails; exit status 1 where one does. Compiles as C99 and as C++11. */
+ * which registers a shared key may have, what the optical line is of a code, what a list of receipts leaves, issued and refused, and that
+ * a journal that is checked in parts comes through the register's own states, up to where it is refused. Prints each line that fails; exit
+ * status 1 where one does. Compiles as C99 and as C++11. */
 #include "ditgrux.h"
 
 #include <stdio.h>
@@ -723,6 +724,18 @@ static void lists_of_bad_state(uint8_t *bytes, size_t length, size_t room)
     CHECK(none_issued(bytes, length, 3, 0, room) == DITGRUX_DONE);
 }
 
+/* Check steps refuses the state, with no steps, with one and with more than there are. The caller looks at its bytes and at the journal. */
+static void not_checked(uint8_t *bytes, size_t length, size_t room)
+{
+    static const size_t steps[] = {0, 1, SIZE_MAX};
+    uint32_t index;
+    int i;
+    for (i = 0; i < 3; i++) {
+        index = 1;
+        CHECK(ditgrux_check_steps(bytes, length, journal, room, steps[i], &index) == DITGRUX_BAD_STATE && index == 0);
+    }
+}
+
 /* A state of this length: every call refuses it and keeps its bytes, and the readers find nothing in it. An empty list is not refused. */
 static void of_length(uint8_t *bytes, size_t length)
 {
@@ -739,6 +752,9 @@ static void of_length(uint8_t *bytes, size_t length)
     CHECK(ditgrux_change(bytes, length, text_of("9"), 1, journal, sizeof journal) == DITGRUX_BAD_STATE);
     lists_of_bad_state(bytes, length, sizeof journal);
     CHECK(ditgrux_take_over(journal, journal_length(), key, sizeof key, 8, bytes, length, &index) == DITGRUX_BAD_STATE && index == 0);
+    CHECK(ditgrux_check_head(journal, journal_length(), key, sizeof key, 8, bytes, length) == DITGRUX_BAD_STATE);
+    CHECK(ditgrux_check_head(journal, 0, key, 0, 4, bytes, length) == DITGRUX_BAD_STATE); /* before 4 and 14 */
+    not_checked(bytes, length, sizeof journal);
     CHECK(ditgrux_counter(bytes, length) == 0 && ditgrux_last_number(bytes, length) == 0 && ditgrux_receipts(bytes, length) == 0);
     CHECK(ditgrux_journal_length(bytes, length) == 0 && ditgrux_serials(bytes, length) == 0);
     wrote = 1;
@@ -776,7 +792,7 @@ static void version_1(void)
 
 /* ---- what a state must be */
 
-/* Prepare, Issue, Change and a list refuse the state with this number at the place, and change nothing. */
+/* Prepare, Issue, Change, a list and Check steps refuse the state with this number at the place, and change nothing. */
 static void is_unsound(size_t at, int count, uint64_t number)
 {
     const struct ditgrux_details sale = details_of(20, DITGRUX_STANDARD, 1);
@@ -789,6 +805,7 @@ static void is_unsound(size_t at, int count, uint64_t number)
     CHECK(ditgrux_issue_details(state, sizeof state, &sale, NULL, 0, journal, sizeof journal) == DITGRUX_BAD_STATE);
     CHECK(ditgrux_change(state, sizeof state, text_of("9"), 1, journal, sizeof journal) == DITGRUX_BAD_STATE);
     lists_of_bad_state(state, sizeof state, sizeof journal);
+    not_checked(state, sizeof state, sizeof journal);
     CHECK(kept());
     memcpy(state, sound, sizeof state);
 }
@@ -838,10 +855,13 @@ static void unsound_states(void)
     CHECK(ditgrux_issue_details(state, sizeof state, &sale, NULL, 0, journal, length - 1) == DITGRUX_BAD_STATE && kept());
     lists_of_bad_state(state, sizeof state, length - 1);
     lists_of_bad_state(state, sizeof state, 0);
+    not_checked(state, sizeof state, length - 1);
+    not_checked(state, sizeof state, 0);
     CHECK(kept());
     memset(state, 0, sizeof state); /* the unopened state */
     keep();
     lists_of_bad_state(state, sizeof state, sizeof journal);
+    not_checked(state, sizeof state, sizeof journal);
     CHECK(kept());
 }
 
@@ -1326,6 +1346,12 @@ static void long_list(void)
     length = journal_length();
     CHECK(taken_over(long_journal, length, &index) == DITGRUX_DONE && memcmp(state, other, sizeof state) == 0);
     CHECK(ditgrux_receipts(state, sizeof state) == MANY && number_at(long_journal + number_at(state + PLACE_AT, 8), 4) == MANY);
+    CHECK(ditgrux_check_head(long_journal, length, key, sizeof key, 8, other, sizeof other) == DITGRUX_DONE);
+    for (i = 0; i < MANY; i += 7) { /* the last call ends before its steps do */
+        CHECK(ditgrux_receipts(other, sizeof other) == i);
+        CHECK(ditgrux_check_steps(other, sizeof other, long_journal, length, 7, &index) == DITGRUX_DONE && index == 0);
+    }
+    CHECK(memcmp(state, other, sizeof state) == 0);
 }
 
 /* Where power fails after a list, be the pair of its receipts new or not. */
@@ -1456,6 +1482,656 @@ static void packing(void)
     }
 }
 
+/* ---- a journal checked in parts */
+
+enum { MOST_CALLS = 11 };
+
+/* The state of a register and its whole buffer after each of its calls. A step checks what one call wrote, so a check comes through these
+ * states: the way. */
+static uint8_t way[MOST_CALLS + 1][DITGRUX_STATE], stages[MOST_CALLS + 1][sizeof journal];
+static size_t calls;
+
+static size_t way_length(size_t place)
+{
+    return ditgrux_journal_length(way[place], DITGRUX_STATE);
+}
+
+static uint32_t way_receipts(size_t place)
+{
+    return ditgrux_receipts(way[place], DITGRUX_STATE);
+}
+
+/* The receipts of the last pair that the state at this place has, and where the journal counts them. */
+static size_t way_open(size_t place)
+{
+    return number_at(way[place] + OPEN_AT, 4);
+}
+
+static size_t way_count_at(size_t place)
+{
+    return number_at(way[place] + PLACE_AT, 8);
+}
+
+static int is_on_way(size_t place)
+{
+    return memcmp(state, way[place], sizeof state) == 0;
+}
+
+/* A receipt for this letter: r, signed; u, an unsigned cancellation; t, training; m, the largest amounts. The numbers are 10, 20, 30. */
+static struct ditgrux_details receipt_of(char letter)
+{
+    const uint32_t before = ditgrux_receipts(state, sizeof state);
+    struct ditgrux_details details = details_of(10 * (before + 1), DITGRUX_STANDARD, before != 0);
+    if (letter == 'u')
+        details = details_of(details.number, DITGRUX_CANCELLATION, -3);
+    if (letter == 't')
+        details.kind = DITGRUX_TRAINING;
+    if (letter == 'm')
+        details.standard = details.reduced_1 = details.reduced_2 = details.zero = details.special = largest;
+    return details;
+}
+
+/* A register of this width that makes these calls: a receipt for each letter above, a change of the certificate for each c. */
+static void live(size_t width, const char *life)
+{
+    static const char *const serials[] = {"0", "0123456789abcdef0123456789abcdef", "00", "f", "1a2", "1a2b0", "fedcba9876543210"};
+    uint8_t own[DITGRUX_SETTINGS];
+    struct ditgrux_details details;
+    memcpy(own, settings, sizeof own);
+    put(own + 83, 8, width);
+    memset(journal, 0xA5, sizeof journal);
+    CHECK(ditgrux_open(own, sizeof own, journal, sizeof journal, state, sizeof state) == DITGRUX_DONE);
+    for (calls = 0;; calls++) {
+        memcpy(way[calls], state, sizeof state);
+        memcpy(stages[calls], journal, sizeof journal);
+        if (life[calls] == 0)
+            break;
+        details = receipt_of(life[calls]);
+        if (life[calls] == 'c')
+            changes_to(serials[ditgrux_serials(state, sizeof state) - 1]);
+        else
+            CHECK(ditgrux_issue_details(state, sizeof state, &details, signature, life[calls] == 'u' ? 0 : sizeof signature, journal,
+                                        sizeof journal) == DITGRUX_DONE);
+        CHECK(journal_length() > way_length(calls));
+    }
+}
+
+/* The number of a check of so many steps from a state. It changes neither the journal's whole buffer nor a byte beside the state; the state
+ * after it is `state`. */
+static uint32_t checked(const uint8_t *from, const uint8_t *bytes, size_t length, size_t steps, uint32_t *index)
+{
+    static uint8_t before[sizeof journal];
+    uint8_t beside[DITGRUX_STATE + 2];
+    uint32_t number;
+    memcpy(before, bytes, sizeof before);
+    memset(beside, 0xA5, sizeof beside);
+    memcpy(beside + 1, from, DITGRUX_STATE);
+    *index = UINT32_MAX;
+    number = ditgrux_check_steps(beside + 1, DITGRUX_STATE, bytes, length, steps, index);
+    CHECK(memcmp(before, bytes, sizeof before) == 0 && beside[0] == 0xA5 && beside[DITGRUX_STATE + 1] == 0xA5);
+    memcpy(state, beside + 1, sizeof state);
+    return number;
+}
+
+/* So many steps from this place lead to that place. */
+static int leads(size_t place, size_t steps, size_t to, const uint8_t *bytes, size_t length)
+{
+    uint32_t index;
+    return checked(way[place], bytes, length, steps, &index) == DITGRUX_DONE && index == 0 && is_on_way(to);
+}
+
+/* So many steps from this place are refused with this number, after the receipts of the place `stop`; the state is as it was. */
+static int stops(size_t place, size_t steps, size_t stop, const uint8_t *bytes, size_t length, uint32_t number)
+{
+    uint32_t index;
+    return checked(way[place], bytes, length, steps, &index) == number && index == way_receipts(stop) && is_on_way(place);
+}
+
+static size_t smaller(size_t a, size_t b)
+{
+    return a < b ? a : b;
+}
+
+/* From this place on the journal is accepted, and ends at the place `end`, however many steps a call has left. */
+static void ends_from(size_t place, size_t end, const uint8_t *bytes, size_t length)
+{
+    size_t steps;
+    for (steps = 0; steps <= end - place + 2; steps++)
+        CHECK(leads(place, steps, smaller(place + steps, end), bytes, length));
+    CHECK(leads(place, SIZE_MAX / 2 + 1, end, bytes, length) && leads(place, SIZE_MAX, end, bytes, length));
+}
+
+/* The head of the journal gives the first state of the way, and Take over this answer. */
+static void begins(const uint8_t *bytes, size_t length, uint32_t number, uint32_t receipts)
+{
+    uint32_t index;
+    memcpy(state, way[0], sizeof state);
+    CHECK(taken_over(bytes, length, &index) == number && index == receipts);
+    memset(state, 0xA5, sizeof state);
+    CHECK(ditgrux_check_head(bytes, length, key, sizeof key, number_at(way[0] + WIDTH_AT, 8), state, sizeof state) == DITGRUX_DONE);
+    CHECK(is_on_way(0));
+}
+
+/* The journal is accepted, from each place on, and by Take over with the same state. */
+static void ends_at(size_t end, const uint8_t *bytes, size_t length)
+{
+    size_t place;
+    begins(bytes, length, DITGRUX_DONE, 0);
+    CHECK(memcmp(other, way[end], sizeof other) == 0);
+    for (place = 0; place <= end; place++)
+        ends_from(place, end, bytes, length);
+}
+
+/* The journal is refused with this number at the place `stop`: by Take over, and by each call that comes to it, from each place before. A
+ * call that does not come to it is accepted. */
+static void stops_at(size_t stop, const uint8_t *bytes, size_t length, uint32_t number)
+{
+    size_t place, steps;
+    begins(bytes, length, number, way_receipts(stop));
+    for (place = 0; place <= stop; place++) {
+        for (steps = 0; steps <= stop - place; steps++)
+            CHECK(leads(place, steps, place + steps, bytes, length));
+        for (; steps <= stop - place + 3; steps++)
+            CHECK(stops(place, steps, stop, bytes, length, number));
+        CHECK(stops(place, SIZE_MAX, stop, bytes, length, number));
+    }
+}
+
+/* Every list of steps from this place on, with a call of no steps before each, leads through the way to its end. */
+static void every_list(size_t place, const uint8_t *from)
+{
+    const size_t length = way_length(calls);
+    uint8_t here[DITGRUX_STATE];
+    size_t steps;
+    uint32_t index;
+    for (steps = 1; place + steps <= calls + 1; steps++) {
+        CHECK(checked(from, stages[calls], length, 0, &index) == DITGRUX_DONE && index == 0 && is_on_way(place));
+        memcpy(here, state, sizeof here);
+        CHECK(checked(here, stages[calls], length, steps, &index) == DITGRUX_DONE && index == 0);
+        CHECK(is_on_way(smaller(place + steps, calls)));
+        memcpy(here, state, sizeof here);
+        if (place + steps < calls)
+            every_list(place + steps, here);
+    }
+}
+
+/* The loop of the header: its number, and how often it called. */
+static uint32_t loop(const uint8_t *bytes, size_t length, size_t steps, size_t *turns, uint32_t *index)
+{
+    size_t before;
+    uint32_t number = ditgrux_check_head(bytes, length, key, sizeof key, number_at(way[0] + WIDTH_AT, 8), state, sizeof state);
+    *turns = 0;
+    for (before = 0; number == DITGRUX_DONE && before != ditgrux_journal_length(state, sizeof state);) {
+        before = ditgrux_journal_length(state, sizeof state);
+        ++*turns;
+        number = ditgrux_check_steps(state, sizeof state, bytes, length, steps, index);
+    }
+    return number;
+}
+
+/* The loop ends with the first call that takes no step, whatever the steps of a call, or at the call that is refused. */
+static void loops(void)
+{
+    size_t steps, turns;
+    uint32_t index = 1;
+    for (steps = 1; steps <= calls + 2; steps++) {
+        CHECK(loop(stages[calls], way_length(calls), steps, &turns, &index) == DITGRUX_DONE && index == 0 && is_on_way(calls));
+        CHECK(turns == calls / steps + (calls % steps != 0) + 1);
+        CHECK(loop(stages[calls], way_length(calls) + 1, steps, &turns, &index) == DITGRUX_BYTES_LEFT && index == way_receipts(calls));
+        CHECK(turns == calls / steps + 1 && is_on_way(calls - calls % steps));
+    }
+    CHECK(loop(stages[calls], way_length(calls), SIZE_MAX, &turns, &index) == DITGRUX_DONE && turns == 1 + (calls > 0) && is_on_way(calls));
+}
+
+/* Every length of the journal. 15 where the last pair counts an entry more, else 21 where a part of a pair follows; the bytes after that
+ * length are there and are not read. */
+static void cut(void)
+{
+    size_t length, stop = 0;
+    for (length = way_length(0); length < way_length(calls); length++) {
+        stop += length == way_length(stop + 1);
+        if (number_at(stages[calls] + way_count_at(stop), 4) > way_open(stop)) {
+            CHECK(stops(stop, 1, stop, stages[calls], length, DITGRUX_ENTRY_CUT));
+            CHECK(stops(0, SIZE_MAX, stop, stages[calls], length, DITGRUX_ENTRY_CUT));
+            if (length - way_length(stop) < 4 || length + 1 == way_length(stop + 1))
+                stops_at(stop, stages[calls], length, DITGRUX_ENTRY_CUT);
+        } else if (length == way_length(stop))
+            ends_at(stop, stages[calls], length);
+        else
+            stops_at(stop, stages[calls], length, DITGRUX_BYTES_LEFT);
+    }
+    CHECK(calls == 0 || stop == calls - 1);
+}
+
+/* The journal at this place, in `twin`, with a receipt that was issued from a state with another number at `at`. Its length. */
+static size_t forged(size_t place, size_t at, int count, uint64_t number, const struct ditgrux_details *details)
+{
+    uint8_t wrong[DITGRUX_STATE];
+    memcpy(twin, stages[place], sizeof twin);
+    memcpy(wrong, way[place], sizeof wrong);
+    put(wrong + at, count, number);
+    CHECK(ditgrux_issue_details(wrong, sizeof wrong, details, signature, sizeof signature, twin, sizeof twin) == DITGRUX_DONE);
+    put(twin + way_count_at(place), 4, way_open(place) + 1);
+    return ditgrux_journal_length(wrong, sizeof wrong);
+}
+
+#define FORGED(at, count, value, details, number) stops_at(place, twin, forged(place, at, count, value, details), number)
+
+/* An entry at this place with one thing wrong in it: 16 to 20. */
+static void wrong_entries(size_t place)
+{
+    enum { ID = 3, COUNTER = 403, LAST = 411, CHAIN = 419, KEY = 371 }; /* places in the state */
+    const uint32_t last = ditgrux_last_number(way[place], DITGRUX_STATE), first = way_receipts(place) == 0;
+    const size_t newest = SERIALS_AT + SLOT * (ditgrux_serials(way[place], DITGRUX_STATE) - 1), width = number_at(way[place] + WIDTH_AT, 8);
+    const struct ditgrux_details good = details_of(last + 5, DITGRUX_STANDARD, !first);
+    struct ditgrux_details details = good;
+    FORGED(ID, 1, 'X', &good, DITGRUX_ENTRY_MISSPELLED);
+    FORGED(newest, 1, 'e', &good, DITGRUX_ENTRY_MISSPELLED);
+    FORGED(WIDTH_AT, 8, width == 8 ? 7 : 8, &good, DITGRUX_ENTRY_MISSPELLED);
+    if (!first) {
+        details.number = last;
+        FORGED(LAST, 4, last - 1, &details, DITGRUX_ENTRY_NUMBER);
+        details.number = last - 1;
+        FORGED(LAST, 4, last - 2, &details, DITGRUX_ENTRY_NUMBER);
+    } else {
+        details = details_of(2, DITGRUX_STANDARD, 1);
+        FORGED(LAST, 8, (uint64_t)1 << 32 | 1, &details, DITGRUX_ENTRY_NO_START);
+        details = details_of(2, DITGRUX_CANCELLATION, 0);
+        FORGED(LAST, 8, (uint64_t)1 << 32 | 1, &details, DITGRUX_ENTRY_NO_START);
+        details.kind = DITGRUX_TRAINING;
+        FORGED(LAST, 8, (uint64_t)1 << 32 | 1, &details, DITGRUX_ENTRY_NO_START);
+    }
+    FORGED(CHAIN, 1, way[place][CHAIN] ^ 1u, &good, DITGRUX_ENTRY_CHAIN);
+    FORGED(CHAIN + 7, 1, way[place][CHAIN + 7] ^ 1u, &good, DITGRUX_ENTRY_CHAIN);
+    FORGED(COUNTER, 8, (uint64_t)ditgrux_counter(way[place], DITGRUX_STATE) + 1, &good, DITGRUX_ENTRY_COUNTER);
+    FORGED(KEY, 1, way[place][KEY] ^ 1u, &good, DITGRUX_ENTRY_COUNTER);
+}
+
+/* Check steps of the journal at this place with these bytes after it. */
+#define THEN(bytes, number)                                                                                                                \
+    (memcpy(twin, stages[place], sizeof twin), memcpy(twin + way_length(place), bytes, sizeof(bytes) - 1),                                 \
+     stops_at(place, twin, way_length(place) + sizeof(bytes) - 1, number))
+
+/* Bytes at this place that do not start a pair: 21, 30 and 31. And an entry that is counted and missing: 15. */
+static void wrong_pairs(size_t place)
+{
+    const int full = ditgrux_serials(way[place], DITGRUX_STATE) == DITGRUX_MOST_SERIALS;
+    size_t length;
+    THEN("\0\0\0\0\0\0\0\0\0\0\0\0", DITGRUX_BYTES_LEFT);
+    THEN("\xFF\xFF\xFF\xFF\xFF\xFF\xFF\xFF", DITGRUX_BYTES_LEFT);
+    THEN(PAIR("\2", "1A"), DITGRUX_BYTES_LEFT);
+    THEN(PAIR("\41", "0123456789abcdef0123456789abcdef0"), DITGRUX_BYTES_LEFT);
+    THEN("\0\0\0\1" "9" "\0\0\0", DITGRUX_BYTES_LEFT);
+    THEN("\0\0\0\4" "1a2b" "\0\0\0", DITGRUX_BYTES_LEFT); /* cut: before 30 */
+    THEN(PAIR("\4", "1a2b"), DITGRUX_SERIAL_USED);        /* the first: before 31 */
+    memcpy(twin, stages[place], sizeof twin);             /* the newest */
+    length = number_at(way[place] + SERIALS_AT + SLOT * ditgrux_serials(way[place], DITGRUX_STATE) - 8, 8);
+    memcpy(twin + way_length(place), twin + way_count_at(place) - length - 4, length + 4);
+    put(twin + way_length(place) + length + 4, 4, 0);
+    stops_at(place, twin, way_length(place) + length + 8, DITGRUX_SERIAL_USED);
+    if (full)
+        THEN(PAIR("\1", "9"), DITGRUX_SERIALS_FULL);
+    memcpy(twin, stages[place], sizeof twin);
+    put(twin + way_count_at(place), 4, way_open(place) + 1);
+    stops_at(place, twin, way_length(place), DITGRUX_ENTRY_CUT);
+    put(twin + way_count_at(place), 4, UINT32_MAX);
+    stops_at(place, twin, way_length(place), DITGRUX_ENTRY_CUT);
+}
+
+/* 6 at this place: the journal is shorter than the state's, or counts fewer receipts in the last pair. Nothing changes. */
+static void not_of_journal(size_t place)
+{
+    size_t length, count;
+    memcpy(journal, stages[calls], sizeof journal);
+    memcpy(state, way[place], sizeof state);
+    keep();
+    for (length = 0; length < way_length(place); length++)
+        not_checked(state, sizeof state, length);
+    CHECK(kept());
+    for (count = 0; count < way_open(place); count++) {
+        put(journal + way_count_at(place), 4, count);
+        keep();
+        not_checked(state, sizeof state, sizeof journal);
+        not_checked(state, sizeof state, way_length(calls));
+        not_checked(state, sizeof state, way_length(place));
+        CHECK(kept());
+    }
+    memcpy(twin, journal, sizeof twin);
+    for (; count < way_open(place) + 3; count++) { /* no steps: not 6, whatever comes */
+        put(twin + way_count_at(place), 4, count);
+        CHECK(leads(place, 0, place, twin, way_length(place)) && leads(place, 0, place, twin, sizeof twin));
+    }
+    put(twin + way_count_at(place), 4, UINT32_MAX);
+    CHECK(leads(place, 0, place, twin, way_length(place)));
+}
+
+/* Before the length of the state at this place only the count of its last pair is read: all other bytes there are changed. */
+static void not_read(size_t place)
+{
+    const size_t count_at = way_count_at(place);
+    size_t i;
+    memcpy(twin, stages[calls], sizeof twin);
+    for (i = 0; i < way_length(place); i++)
+        if (i < count_at || i >= count_at + 4)
+            twin[i] ^= 0xFF;
+    ends_from(place, calls, twin, way_length(calls));
+    CHECK(stops(place, SIZE_MAX, calls, twin, way_length(calls) + 1, DITGRUX_BYTES_LEFT));
+    put(twin + way_count_at(calls), 4, way_open(calls) + 1); /* and that count is read: one receipt more is missing */
+    if (count_at == way_count_at(calls))
+        CHECK(stops(place, SIZE_MAX, calls, twin, way_length(calls), DITGRUX_ENTRY_CUT));
+}
+
+/* The journal has grown between two checks, by any number of calls: the state from the shorter one leads to the end of the longer one. If
+ * it has shrunk, 6. */
+static void grown(void)
+{
+    size_t shorter, longer;
+    for (shorter = 0; shorter <= calls; shorter++) {
+        ends_at(shorter, stages[shorter], way_length(shorter));
+        for (longer = shorter; longer <= calls; longer++)
+            ends_from(shorter, longer, stages[longer], way_length(longer));
+        for (longer = shorter + 1; longer <= calls; longer++) {
+            memcpy(state, way[longer], sizeof state);
+            memcpy(journal, stages[shorter], sizeof journal);
+            keep();
+            not_checked(state, sizeof state, way_length(shorter));
+            CHECK(kept());
+        }
+    }
+}
+
+/* Key and width are those of the state: with another key the next standard receipt gets 20, with another width 16. */
+static void key_and_width(size_t place, const char *life)
+{
+    uint8_t from[DITGRUX_STATE];
+    uint32_t index;
+    if (life[place] != 'r')
+        return;
+    memcpy(from, way[place], sizeof from);
+    from[371 + 31] ^= 1;
+    CHECK(checked(from, stages[calls], way_length(calls), 1, &index) == DITGRUX_ENTRY_COUNTER && index == way_receipts(place));
+    CHECK(memcmp(state, from, sizeof from) == 0);
+    memcpy(from, way[place], sizeof from);
+    from[WIDTH_AT + 7] = from[WIDTH_AT + 7] == 8 ? 7 : 8;
+    CHECK(checked(from, stages[calls], way_length(calls), 1, &index) == DITGRUX_ENTRY_MISSPELLED && index == way_receipts(place));
+    CHECK(memcmp(state, from, sizeof from) == 0);
+}
+
+/* All of this for one register. */
+static void checks(size_t width, const char *life)
+{
+    size_t place;
+    live(width, life);
+    ends_at(calls, stages[calls], way_length(calls));
+    every_list(0, way[0]);
+    loops();
+    cut();
+    grown();
+    for (place = 0; place <= calls; place++) {
+        wrong_entries(place);
+        wrong_pairs(place);
+        not_of_journal(place);
+        not_read(place);
+        key_and_width(place, life);
+    }
+}
+
+/* The sum does not fit the width, in an entry that shows no counter: 20. */
+static void too_large_sums(void)
+{
+    struct ditgrux_details details = details_of(30, DITGRUX_CANCELLATION, 0);
+    const size_t place = 2;
+    uint32_t index;
+    live(5, "rm");
+    details.zero = full_counter - ditgrux_counter(way[2], DITGRUX_STATE) + 1;
+    FORGED(403, 8, 0, &details, DITGRUX_ENTRY_COUNTER);
+    details.zero--; /* a cent less, and it fits */
+    CHECK(checked(way[2], twin, forged(2, 403, 8, 0, &details), 1, &index) == DITGRUX_DONE && index == 0);
+    CHECK(ditgrux_counter(state, sizeof state) == full_counter);
+}
+
+/* The number of a check of the head; its state is `state`. It changes neither the journal nor a byte beside the state. */
+static uint32_t head(size_t length, size_t key_length, size_t width)
+{
+    uint8_t beside[DITGRUX_STATE + 2], longer[2 * DITGRUX_KEY] = {0};
+    uint32_t number;
+    memcpy(longer, key, sizeof key);
+    memset(beside, 0xA5, sizeof beside);
+    memcpy(twin, journal, sizeof twin);
+    number = ditgrux_check_head(journal, length, longer, key_length, width, beside + 1, DITGRUX_STATE);
+    CHECK(memcmp(twin, journal, sizeof twin) == 0 && beside[0] == 0xA5 && beside[DITGRUX_STATE + 1] == 0xA5);
+    memcpy(state, beside + 1, sizeof state);
+    return number;
+}
+
+/* The number of a refused check of the head, which leaves 447 zeros; 0 if it leaves anything else. */
+static uint32_t no_head(size_t length, size_t key_length, size_t width)
+{
+    const uint32_t number = head(length, key_length, width);
+    return is_all(0, state, sizeof state) ? number : 0;
+}
+
+/* A head with one byte changed, to every byte, gets the number of Take over, which here is given nothing but the head. If Take over refuses
+ * what follows a shorter head, the head is good. */
+static void changed_heads(void)
+{
+    uint8_t alone[15 + 6 + 4 + 4];
+    uint32_t number, index;
+    size_t at;
+    int byte;
+    for (at = 0; at < sizeof alone - 4; at++)
+        for (byte = 0; byte < 256; byte++) {
+            memcpy(journal, stages[calls], sizeof journal);
+            journal[at] = (uint8_t)byte;
+            memcpy(alone, journal, sizeof alone);
+            put(alone + sizeof alone - 4, 4, 0);
+            number = ditgrux_take_over(alone, sizeof alone, key, sizeof key, 8, other, sizeof other, &index);
+            if (number == DITGRUX_DONE)
+                CHECK(head(way_length(calls), sizeof key, 8) == DITGRUX_DONE && memcmp(state, other, sizeof state) == 0);
+            else if (number == DITGRUX_BAD_HEAD)
+                CHECK(no_head(sizeof alone, sizeof key, 8) == DITGRUX_BAD_HEAD);
+            else
+                CHECK(number > DITGRUX_BAD_HEAD && head(sizeof alone, sizeof key, 8) == DITGRUX_DONE);
+        }
+    memcpy(journal, stages[calls], sizeof journal);
+}
+
+/* The number for the head with this byte changed. */
+static uint32_t head_with(size_t at, uint8_t byte)
+{
+    uint32_t number;
+    memcpy(journal, stages[calls], sizeof journal);
+    journal[at] = byte;
+    number = no_head(way_length(calls), sizeof key, 8);
+    memcpy(journal, stages[calls], sizeof journal);
+    return number;
+}
+
+/* The check of the head: 4, then 14, then the state of a register without receipts, though the journal has two of them and goes on. */
+static void heads(void)
+{
+    static const size_t widths[] = {0, 4, 9, 255, 256 + 8, (size_t)1 << 32 | 5, SIZE_MAX}, keys[] = {0, 16, 31, 33, 64};
+    enum { CSP = 4, ID = 11, SERIAL = 15 + 6, COUNT = SERIAL + 4, HEAD = COUNT + 4 };
+    size_t i, width;
+    live(8, "rrcr");
+    CHECK(number_at(journal + COUNT, 4) == 2);
+    for (i = 0; i < HEAD; i++)
+        CHECK(no_head(i, sizeof key, 8) == DITGRUX_BAD_HEAD);
+    for (; i <= sizeof journal; i++)
+        CHECK(head(i, sizeof key, 8) == DITGRUX_DONE && is_on_way(0));
+    for (i = 0; i < sizeof widths / sizeof widths[0]; i++)
+        CHECK(no_head(way_length(3), sizeof key, widths[i]) == DITGRUX_BAD_WIDTH && no_head(0, sizeof key, widths[i]) == DITGRUX_BAD_WIDTH);
+    for (i = 0; i < sizeof keys / sizeof keys[0]; i++)
+        CHECK(no_head(way_length(3), keys[i], 8) == DITGRUX_BAD_WIDTH && no_head(0, keys[i], 8) == DITGRUX_BAD_WIDTH);
+    CHECK(head_with(3, 2) == DITGRUX_BAD_HEAD && head_with(3, 4) == DITGRUX_BAD_HEAD && head_with(0, 1) == DITGRUX_BAD_HEAD);
+    CHECK(head_with(CSP, 'a') == DITGRUX_BAD_HEAD && head_with(CSP + 2, 'T') == DITGRUX_BAD_HEAD);
+    CHECK(head_with(ID - 1, 0) == DITGRUX_BAD_HEAD && head_with(ID - 1, 33) == DITGRUX_BAD_HEAD);
+    CHECK(head_with(ID, '_') == DITGRUX_BAD_HEAD && head_with(ID + 5, ' ') == DITGRUX_BAD_HEAD);
+    CHECK(head_with(SERIAL - 1, 0) == DITGRUX_BAD_HEAD && head_with(SERIAL - 1, 33) == DITGRUX_BAD_HEAD);
+    CHECK(head_with(SERIAL, 'G') == DITGRUX_BAD_HEAD && head_with(SERIAL + 3, 'A') == DITGRUX_BAD_HEAD);
+    changed_heads();
+    for (i = COUNT; i < sizeof journal; i++) /* neither the count nor what follows is read */
+        journal[i] ^= 0xFF;
+    CHECK(head(way_length(3), sizeof key, 8) == DITGRUX_DONE && is_on_way(0));
+    for (width = 5; width <= 8; width++) { /* what Open gives */
+        live(width, "rr");
+        CHECK(head(way_length(2), sizeof key, width) == DITGRUX_DONE && is_on_way(0));
+        CHECK(number_at(state + WIDTH_AT, 8) == width && ditgrux_receipts(state, sizeof state) == 0 && journal_length() == HEAD);
+    }
+}
+
+/* ---- a state and a length that were lost */
+
+/* Goes on from `state`, up to the end or to the first call that is refused. */
+static uint32_t go_on(const uint8_t *bytes, size_t length, size_t steps, uint32_t *index)
+{
+    size_t before;
+    uint32_t number;
+    do {
+        before = journal_length();
+        number = ditgrux_check_steps(state, sizeof state, bytes, length, steps, index);
+    } while (number == DITGRUX_DONE && before != journal_length());
+    return number;
+}
+
+/* Finds the state in the buffer as docs/EMBEDDING.md has it, with so many steps a call and then one by one. The number of the step that is
+ * refused, 0 where the journal fills the buffer. */
+static uint32_t found(const uint8_t *buffer, size_t size, size_t steps, uint32_t *index)
+{
+    uint32_t number = ditgrux_check_head(buffer, size, key, sizeof key, number_at(way[0] + WIDTH_AT, 8), state, sizeof state);
+    if (number == DITGRUX_DONE && go_on(buffer, size, steps, index) != DITGRUX_DONE)
+        number = go_on(buffer, size, 1, index);
+    return number;
+}
+
+/* The buffer at this place, in `twin`: after the journal first so many bytes of what the next call writes there, then these. */
+static void filled(size_t place, size_t written, int byte)
+{
+    memcpy(twin, stages[place], sizeof twin);
+    memset(twin + way_length(place), byte, sizeof twin - way_length(place));
+    if (written > 0)
+        memcpy(twin + way_length(place), stages[place + 1] + way_length(place), written);
+}
+
+/* In the buffer that `filled` made the state of this place is found, and the next step gets this number. */
+static int finds(size_t place, uint32_t number)
+{
+    uint32_t index = UINT32_MAX;
+    size_t steps;
+    for (steps = 1; steps < 8; steps += 3)
+        if (found(twin, sizeof twin, steps, &index) != number || index != way_receipts(place) || !is_on_way(place))
+            return 0;
+    return 1;
+}
+
+/* The journal ends at this place; the rest of the buffer is one byte, over and over. */
+static void finds_end(size_t place, int byte)
+{
+    size_t size;
+    uint32_t index = UINT32_MAX;
+    filled(place, 0, byte);
+    CHECK(finds(place, DITGRUX_BYTES_LEFT));
+    for (size = way_length(place) + 1; size < way_length(place) + 9; size++)
+        CHECK(found(twin, size, 4, &index) == DITGRUX_BYTES_LEFT && index == way_receipts(place) && is_on_way(place));
+    CHECK(found(twin, way_length(place), 4, &index) == DITGRUX_DONE && index == 0 && is_on_way(place));
+}
+
+/* With the count of its last pair put right, as docs/EMBEDDING.md has it, the journal in `twin` is taken over up to this place. */
+static int is_put_right(size_t place)
+{
+    uint32_t index;
+    memcpy(twin + way_count_at(place), way[place] + OPEN_AT, 4);
+    return taken_over(twin, way_length(place), &index) == DITGRUX_DONE && memcmp(other, way[place], sizeof other) == 0;
+}
+
+/* Power failed in the Issue or the list after this place. The entry or a part of it is stored, the first or the last: the state without it.
+ * Its count, too: the state with it. The count without the entry: the state without it, and 15 or 16. */
+static void finds_entry(size_t place, int byte)
+{
+    const size_t entry = way_length(place + 1) - way_length(place);
+    size_t written;
+    for (written = 0; written <= entry; written++) {
+        filled(place, 0, byte);
+        memcpy(twin + way_length(place), stages[place + 1] + way_length(place + 1) - written, written);
+        CHECK(finds(place, DITGRUX_BYTES_LEFT));
+        filled(place, written, byte);
+        CHECK(finds(place, DITGRUX_BYTES_LEFT));
+    }
+    put(twin + way_count_at(place), 4, way_open(place) + 1);
+    CHECK(finds(place + 1, DITGRUX_BYTES_LEFT) && is_put_right(place + 1));
+    filled(place, 0, byte);
+    put(twin + way_count_at(place), 4, way_open(place) + 1);
+    CHECK(finds(place, byte == 0 ? DITGRUX_ENTRY_MISSPELLED : DITGRUX_ENTRY_CUT) && is_put_right(place));
+}
+
+/* Power failed in the Change after this place. A part is stored: the state without the new serial. From the whole serial on, the state with
+ * it; a count that is not whole gets 15 where the buffer was not all zeros. Take over without the pair gives the state before,
+ * and from there the same change can be made again. */
+static void finds_change(size_t place, int byte)
+{
+    const size_t pair = way_length(place + 1) - way_length(place);
+    size_t written;
+    uint32_t index;
+    for (written = 0; written < pair - 4; written++) {
+        filled(place, written, byte);
+        CHECK(finds(place, DITGRUX_BYTES_LEFT));
+    }
+    for (; written <= pair; written++) {
+        filled(place, written, byte);
+        CHECK(finds(place + 1, byte == 0 || written == pair ? DITGRUX_BYTES_LEFT : DITGRUX_ENTRY_CUT) && is_put_right(place + 1));
+    }
+    CHECK(taken_over(twin, journal_length() - pair, &index) == DITGRUX_DONE && memcmp(other, way[place], sizeof other) == 0);
+    memcpy(state, other, sizeof state);
+    CHECK(ditgrux_change(state, sizeof state, way[place + 1] + SERIALS_AT + SLOT * ditgrux_serials(state, sizeof state), pair - 8, twin,
+                         sizeof twin) == DITGRUX_DONE);
+    CHECK(finds(place + 1, DITGRUX_BYTES_LEFT));
+}
+
+/* What is left of a longer entry after a shorter one that was written over it is not taken for a pair. */
+static void finds_end_over_rest(size_t place)
+{
+    const struct ditgrux_details small = details_of(ditgrux_last_number(way[place], DITGRUX_STATE) + 1, DITGRUX_STANDARD, 0);
+    uint8_t last[DITGRUX_STATE];
+    uint32_t index;
+    filled(place, way_length(place + 1) - way_length(place), 0);
+    memcpy(last, way[place], sizeof last);
+    CHECK(ditgrux_issue_details(last, sizeof last, &small, NULL, 0, twin, sizeof twin) == DITGRUX_DONE);
+    CHECK(ditgrux_journal_length(last, sizeof last) < way_length(place + 1));
+    CHECK(found(twin, sizeof twin, 4, &index) == DITGRUX_BYTES_LEFT && memcmp(state, last, sizeof last) == 0);
+}
+
+static void lost(const char *life)
+{
+    static const int bytes[] = {0, 0xFF};
+    size_t place, i;
+    live(8, life);
+    for (place = 0; place <= calls; place++)
+        for (i = 0; i < 2; i++) {
+            finds_end(place, bytes[i]);
+            if (life[place] == 'c')
+                finds_change(place, bytes[i]);
+            else if (life[place] != 0)
+                finds_entry(place, bytes[i]);
+            if (life[place] == 'r')
+                finds_end_over_rest(place);
+        }
+}
+
+static void checks_in_parts(void)
+{
+    checks(8, "");
+    checks(5, "r");
+    checks(6, "c");
+    checks(7, "rrutrr");
+    checks(8, "crrccutcr");
+    checks(5, "rcccccccr");
+    checks(8, "rrcuccc");
+    too_large_sums();
+    heads();
+    lost("rrurctrcccr");
+    lost("ccrrc");
+}
+
 int main(void)
 {
     CHECK(make_settings(sizeof key, sizeof settings, settings) == DITGRUX_DONE);
@@ -1488,5 +2164,6 @@ int main(void)
     power_cut_in_part(DITGRUX_NUMBER_NOT_ABOVE);
     power_cut_in_part(DITGRUX_NO_ROOM);
     list_with_old_state();
+    checks_in_parts();
     return failures ? 1 : 0;
 }

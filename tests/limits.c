@@ -12,13 +12,14 @@
 enum { STACK = 1 << 18, LIMIT = 6500, PATTERN = 0xA5, RECEIPTS = 20, ID_END = 3 + 31 /* the last byte of the ID in the settings */ };
 
 static uint8_t stack[STACK], journal[1 << 16], state[DITGRUX_STATE], again[DITGRUX_STATE], settings[DITGRUX_SETTINGS], output[512];
+static uint8_t checked[DITGRUX_STATE];
 static uint8_t optical[DITGRUX_LONGEST_ANY_LINE];
 static const uint8_t key[DITGRUX_KEY] = "a key of thirty-two plain bytes";
 static const uint8_t signature[DITGRUX_SIGNATURE] = "no signature of any device, only sixty-four bytes to be spelled";
 static const uint8_t name[DITGRUX_LONGEST_NAME + 1] = "0123456789abcdef0123456789abcdef";
 static ucontext_t home, away;
 static uint32_t number, answer, index_;
-static size_t length, start, form_start, form_length, code_length, line_length, list_length, issued, room, cut, more;
+static size_t length, start, form_start, form_length, code_length, line_length, list_length, issued, room, cut, more, steps;
 static uint8_t serial[DITGRUX_LONGEST_NAME], list[RECEIPTS * DITGRUX_DETAILS];
 static uint8_t hash[DITGRUX_HASH], given[DITGRUX_SIGNATURE], form[DITGRUX_LONGEST_COMPACT], text[1024];
 
@@ -64,6 +65,16 @@ static void issue_list(void)
 static void take_over(void)
 {
     answer = ditgrux_take_over(journal, ditgrux_journal_length(state, sizeof state) + more - cut, key, sizeof key, 8, again, sizeof again, &index_);
+}
+
+static void check_head(void)
+{
+    answer = ditgrux_check_head(journal, ditgrux_journal_length(state, sizeof state) + more - cut, key, sizeof key, 8, checked, sizeof checked);
+}
+
+static void check_steps(void)
+{
+    answer = ditgrux_check_steps(checked, sizeof checked, journal, ditgrux_journal_length(state, sizeof state) + more - cut, steps, &index_);
 }
 
 static void change(void)
@@ -180,14 +191,44 @@ static int measure(const char *title, void (*call)(void), uint32_t expected)
     return (bytes > LIMIT) + (answer != expected);
 }
 
-/* Take over of the journal with one byte changed at the place. */
+/* Take over of the journal, and the same check in parts: the head, then all steps in one call. */
+static int check(uint32_t expected)
+{
+    int bad = measure("take over", take_over, expected);
+    if (expected == DITGRUX_BAD_HEAD)
+        return bad + measure("check head", check_head, expected);
+    steps = SIZE_MAX;
+    return bad + measure("check head", check_head, 0) + measure("check steps", check_steps, expected);
+}
+
+/* The check of the journal with one byte changed at the place. */
 static int damaged(size_t at, uint32_t expected)
 {
     int bad;
     journal[at] ^= 1;
-    bad = measure("take over", take_over, expected);
+    bad = check(expected);
     journal[at] ^= 1;
     return bad;
+}
+
+/* Check steps with so many steps. */
+static int measure_steps(size_t count, uint32_t expected)
+{
+    steps = count;
+    return measure("check steps", check_steps, expected);
+}
+
+/* The check in parts: one entry, all that are left, none, and those after the end use the same stack, or less. A state that is all zero. */
+static int parts(void)
+{
+    size_t single;
+    int bad = measure("check head", check_head, 0) + measure_steps(0, 0) + measure_steps(1, 0);
+    single = last_used;
+    bad += (ditgrux_receipts(checked, sizeof checked) != 1) + measure_steps(RECEIPTS, 0) + (last_used != single);
+    bad += memcmp(checked, state, sizeof state) != 0;
+    bad += measure_steps(SIZE_MAX, 0) + (last_used > single) + (memcmp(checked, state, sizeof state) != 0);
+    memset(checked, 0, sizeof checked);
+    return bad + measure_steps(0, DITGRUX_BAD_STATE) + measure_steps(1, DITGRUX_BAD_STATE);
 }
 
 /* The longest register, and its longest receipts. */
@@ -308,9 +349,9 @@ static int lines(void)
 /* What is left of the refused calls on a whole journal: each stops at another question. */
 static int refusals(void)
 {
-    int bad = measure("take over", take_over, 0) + damaged(0, DITGRUX_BAD_HEAD) + damaged(form_start, DITGRUX_ENTRY_MISSPELLED);
+    int bad = check(0) + parts() + damaged(0, DITGRUX_BAD_HEAD) + damaged(form_start, DITGRUX_ENTRY_MISSPELLED);
     cut = 1;
-    bad += measure("take over", take_over, DITGRUX_ENTRY_CUT) + measure("settings", make_settings, DITGRUX_OUTPUT_SHORT);
+    bad += check(DITGRUX_ENTRY_CUT) + measure("settings", make_settings, DITGRUX_OUTPUT_SHORT);
     cut = sizeof output;
     number = UINT32_MAX;
     bad += measure("prepare", prepare, DITGRUX_NUMBER_NOT_ABOVE) + measure("issue", issue, DITGRUX_NUMBER_NOT_ABOVE);
@@ -378,7 +419,7 @@ static int lists(void)
     cut = 0;
     make_list();
     bad += measure_list(0, RECEIPTS) + (last_used != single) + (ditgrux_journal_length(state, sizeof state) != before + RECEIPTS * UNSIGNED);
-    return bad + measure("take over", take_over, 0);
+    return bad + check(0);
 }
 
 /* A change to a serial with this first letter. */
@@ -417,27 +458,27 @@ static int readers(void)
     return bad + measure("settings in", newest_settings, DITGRUX_OUTPUT_SHORT);
 }
 
-/* Changes of the certificate, answered and refused, and take over of several pairs. */
+/* Changes of the certificate, answered and refused, and the check of several pairs. */
 static int changes(void)
 {
     size_t end;
     int bad = eight_serials();
     end = ditgrux_journal_length(state, sizeof state);
-    bad += measure("take over", take_over, 0) + readers();
+    bad += check(0) + readers();
     room = sizeof journal;
     bad += change_to('G', DITGRUX_BAD_SERIAL) + change_to('0', DITGRUX_SERIAL_USED) + change_to('9', DITGRUX_SERIALS_FULL);
     room = end - 1;
     bad += change_to('9', DITGRUX_BAD_STATE);
     memcpy(journal + end, "\0\0\0\1" "a" "\0\0\0\0", 9); /* a ninth pair */
     more = 8;
-    bad += measure("take over", take_over, DITGRUX_BYTES_LEFT);
+    bad += check(DITGRUX_BYTES_LEFT);
     more = 9;
-    bad += measure("take over", take_over, DITGRUX_SERIALS_FULL);
+    bad += check(DITGRUX_SERIALS_FULL);
     memcpy(journal + end, "\0\0\0\40", 4); /* the first serial again */
     memcpy(journal + end + 4, name, 32);
     memset(journal + end + 36, 0, 4);
     more = DITGRUX_LONGEST_CHANGE;
-    bad += measure("take over", take_over, DITGRUX_SERIAL_USED);
+    bad += check(DITGRUX_SERIAL_USED);
     more = 0;
     memcpy(state, again, sizeof state); /* all zero */
     bad += change_to('9', DITGRUX_BAD_STATE);
