@@ -94,7 +94,8 @@ enum ditgrux_number {
     DITGRUX_BAD_SERIAL = 3,       /* serial is not 1 to 32 characters of 0-9 a-f */
     DITGRUX_BAD_WIDTH = 4,        /* width is not 5 to 8; ALSO: the key is not 32 bytes long */
     DITGRUX_HEAD_TOO_LONG = 5,    /* the journal's buffer is too small for the head */
-    DITGRUX_BAD_STATE = 6,        /* state is not 447 bytes long, holds bad settings, or contradicts itself or the buffer's size */
+    DITGRUX_BAD_STATE = 6,        /* state is not 447 bytes long, holds bad settings, or contradicts itself or the buffer's size;
+                                   * check_steps: or counts more receipts in its last pair than the journal does */
     DITGRUX_NUMBER_NOT_ABOVE = 7, /* receipt number is not above the last one (0 never is); ALSO: the kind is not 0, 1 or 2;
                                    * issue_list: the list is not a whole number of details */
     DITGRUX_BAD_DATE = 8,         /* no date of the years 2000 to 2099, or no time from 0:00:00 to 23:59:59 */
@@ -116,8 +117,8 @@ enum ditgrux_number {
     DITGRUX_BAD_CODE = 24,        /* not a machine-readable code; fields: or one without a register ID */
     DITGRUX_BAD_FIELDS = 26,      /* a code without twelve fields, or whose counter or chain field is not canonical BASE64 */
     DITGRUX_BAD_LINE = 27,        /* not the optical line of a machine-readable code */
-    DITGRUX_SERIAL_USED = 30,     /* change, take over: the register has had this serial; asked after 3 and 21 */
-    DITGRUX_SERIALS_FULL = 31,    /* change, take over: a ninth serial */
+    DITGRUX_SERIAL_USED = 30,     /* change, take_over, check_steps: the register has had this serial; asked after 3 and 21 */
+    DITGRUX_SERIALS_FULL = 31,    /* change, take_over, check_steps: a ninth serial */
     DITGRUX_ID_ENDS_IN_DIGIT = 32 /* open_shared: the register ID ends in a digit; asked between DITGRUX_BAD_ID and DITGRUX_BAD_SERIAL */
 };
 
@@ -203,22 +204,25 @@ enum ditgrux_number {
  *    439      8  place of their count in the journal
  *
  * Any 447 bytes decode to a state; each state has exactly one encoding. Keep the state in flash, and keep it secret: it holds the
- * key. It is not trusted. Prepare, Issue, Issue list and Change check it first (an empty list does not) and return
+ * key. It is not trusted. Prepare, Issue, Issue list, Change and Check steps check it first (an empty list does not) and return
  * DITGRUX_BAD_STATE if it is inconsistent: bad CSP, ID or width; not one to eight good serials with zeros after them; a counter
  * that does not fit the width; more receipts than the last number, or more in the last pair than in all; a journal shorter than
  * its head, or than the end of the last pair's count, or, except in Prepare, longer than its buffer. They cannot see that a bit of
  * the key, the counter or the chain value has changed, nor that a state is old: with a state from before the last receipt or
- * change, Issue, Issue list and Change write over what came after it, for they read nothing of the journal. Compare the state with
- * what ditgrux_take_over gives when the device starts.
+ * change, Issue, Issue list and Change write over what came after it, for they read nothing of the journal. A state that Check
+ * steps gives before the end of the journal is such a state. Compare the state with what ditgrux_take_over gives when the device
+ * starts.
  *
  * After DITGRUX_BAD_STATE the state's bytes are as they were before the call, in every function.
  *
- * The unopened state is 447 zeros. A refused ditgrux_open, ditgrux_open_shared or ditgrux_take_over writes it, so do not pass the
- * live state to these three: pass a second array, and copy it when the call has returned DITGRUX_DONE.
+ * The unopened state is 447 zeros. A refused ditgrux_open, ditgrux_open_shared, ditgrux_take_over or ditgrux_check_head writes it, so
+ * do not pass the live state to these four: pass a second array, and copy it when the call has returned DITGRUX_DONE (after
+ * ditgrux_check_head, when the whole journal is checked).
  *
  * A lost state comes back by ditgrux_take_over, byte for byte, from the journal, the key and the width. It needs exactly the bytes
- * of the journal, and not its whole buffer. The length of the journal is a number of the state alone, so store it beside the
- * journal as well.
+ * of the journal, and not its whole buffer, so store the length beside the journal as well. If the length is lost, too,
+ * ditgrux_check_head and ditgrux_check_steps find both in the whole buffer, where the bytes after the journal are all 0 or all 0xFF:
+ * docs/EMBEDDING.md, "A lost state or a lost length".
  *
  * States of version 1 were 155 bytes long. No function takes them: a device that kept one calls ditgrux_take_over with the journal,
  * whose length stands in the last eight of those 155 bytes, and stores the 447 bytes that it writes.
@@ -463,7 +467,7 @@ uint32_t ditgrux_take_over(const uint8_t *journal, size_t journal_length, const 
 /* Checks the head of a journal and nothing after it, and writes the state that the first ditgrux_check_steps starts from: that of a
  * register without receipts, as ditgrux_open gives it, however many receipts the journal counts.
  *
- *     journal, journal_length     the journal, and its exact length (not the size of its buffer)
+ *     journal, journal_length     the journal, and its exact length; or its whole buffer, to find a length that was lost
  *     key, key_length             the AES-256 key, 32 bytes
  *     width                       bytes of the turnover counter, 5 to 8
  *     state, state_length         output: exactly 447 bytes
@@ -477,7 +481,7 @@ uint32_t ditgrux_check_head(const uint8_t *journal, size_t journal_length, const
 /* Checks the next part of a journal: goes on where the state ends, takes the given number of steps, and writes the state after them.
  *
  *     state, state_length         447 bytes, in and out: from ditgrux_check_head, or from the ditgrux_check_steps before
- *     journal, journal_length     the whole journal, and its exact length, the same in all these calls
+ *     journal, journal_length     the whole journal from its first byte, and its length, as in ditgrux_check_head
  *     steps                       how many steps to take; any number
  *     index                       output: where the journal is refused, see below
  *
@@ -494,11 +498,15 @@ uint32_t ditgrux_check_head(const uint8_t *journal, size_t journal_length, const
  *     for (before = 0; number == DITGRUX_DONE && before != ditgrux_journal_length(state, sizeof state);) {
  *         before = ditgrux_journal_length(state, sizeof state);
  *         show_progress(before, journal_length);
- *         number = ditgrux_check_steps(state, sizeof state, journal, journal_length, 1000, &index);
+ *         number = ditgrux_check_steps(state, sizeof state, journal, journal_length, 1000, &index);    // never 0 steps here
  *     }
  *
  * Of the journal before the state's length the call reads only the four bytes of the last pair's count. So it trusts what was checked
- * before, and the state: let nobody change either between the calls.
+ * before, and the state: let nobody change either between the calls. The journal may grow in between by receipts and changes that a
+ * register appends: pass its new length then.
+ *
+ * Until the end is reached, the state is that of a shorter journal. Never pass it to Issue, Issue list or Change: they would write over
+ * the receipts after it.
  *
  * Returns DITGRUX_DONE, DITGRUX_BAD_STATE (the state is bad, its journal is longer than journal_length, or the journal counts fewer
  * receipts in the state's last pair than the state does), or what ditgrux_take_over returns for an entry or the start of a pair:
