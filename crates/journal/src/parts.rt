@@ -7,7 +7,7 @@ use super::state::State;
 use super::state::TakenOver;
 use super::step::sound;
 ghost use mathlib.Core.Path.{_≡_};
-ghost use Rattle.journal.specs.Parts.{ready, partAnswer, checkSteps};
+ghost use Rattle.journal.specs.Parts.{ready, handedBack, partAnswer, checkSteps};
 
 // Question 6: the state is sound for the journal as its buffer, and has no more receipts in the open section than the journal's count there.
 fn ready(st: State, j: &[u8]) -> bool
@@ -19,17 +19,24 @@ fn ready(st: State, j: &[u8]) -> bool
     st.since as usize <= count_at(j, st.place, 4)
 }
 
-// The answer of so many steps from a state on: a refused check hands back the state that it was given.
+// A refused check hands back the state that it was given.
+fn handed_back(number: u32, index: u32, st: State) -> TakenOver
+    ensures { λ r. ⌜ r ≡ handedBack number index st ⌝ }
+{
+    TakenOver {
+        number,
+        index,
+        state: st,
+    }
+}
+
+// The answer of so many steps from a state on.
 fn part_answer(st: State, s: Step) -> TakenOver
     ensures { λ r. ⌜ r ≡ partAnswer st s ⌝ }
 {
     let after = s.state;
     if s.number != 0 {
-        return TakenOver {
-            number: s.number,
-            index: after.issued,
-            state: st,
-        };
+        return handed_back(s.number, after.issued, st);
     }
     accepted(after)
 }
@@ -40,11 +47,7 @@ pub fn check_steps(st: State, j: &[u8], n: usize) -> TakenOver
     ensures { λ r. ⌜ r ≡ checkSteps st (now (j .entry)) n ⌝ }
 {
     if !ready(st, j) {
-        return TakenOver {
-            number: 6,
-            index: 0,
-            state: st,
-        };
+        return handed_back(6, 0, st);
     }
     part_answer(st, steps_from(st, n, j))
 }

@@ -1,5 +1,5 @@
 -- `parts::check_steps` meets its contract.
-use Rattle.journal.proofs.PartCalls.{handed-is, ready-steady, not-ready, when-ready}
+use Rattle.journal.proofs.PartCalls.{ready-steady, not-ready, when-ready}
 use mathlib.Core.Path.{_∙_}
 use Rattle.primitives.proofs.Rows.{not-no, not-yes}
 use borrow.Author.Needs.{needs}
@@ -9,8 +9,11 @@ use Rattle.journal.proofs.parts.check_steps.Tie as tie
 ready-requires : tie.Need-ready-requires
 ready-requires c κs = search needs
 
+handed-back-requires : tie.Need-handed-back-requires
+handed-back-requires c κs = search needs
+
 returns : tie.Need-returns
-returns c = handed-is 6 0 (c .before .before .before .args .st) ∙ not-ready (c .before .before .before .args .st) (c .before .before .before .args .j .now) (c .before .before .before .args .n) (not-no _ _ (c .before .ready .ensures) (c .if1 .taken))
+returns c = c .handed-back .ensures ∙ not-ready (c .before .before .before .before .args .st) (c .before .before .before .before .args .j .now) (c .before .before .before .before .args .n) (not-no _ _ (c .before .before .ready .ensures) (c .before .if1 .taken))
 
 steps-from-requires : tie.Need-steps-from-requires
 steps-from-requires c κs = ready-steady (c .before .before .before .args .st) (c .before .before .before .args .j .now) (not-yes _ _ (c .before .ready .ensures) (c .if1 .left))
@@ -23,4 +26,11 @@ returns-2 c = when-ready (c .before .before .before .before .before .args .st) (
 
 pub check-steps-spec : {M : Type 1} → statement M
 check-steps-spec =
-    tie.close (tie.spec ready-requires returns steps-from-requires part-answer-requires returns-2)
+    tie.close
+    (tie.spec
+    ready-requires
+    handed-back-requires
+    returns
+    steps-from-requires
+    part-answer-requires
+    returns-2)
