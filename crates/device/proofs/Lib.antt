@@ -6,6 +6,7 @@ pub mod DetailLaws
 pub mod ListCalls
 pub mod Lists
 pub mod Opens
+pub mod PartCalls
 pub mod Pieces
 pub mod ReadBackCalls
 pub mod ReadBackLaws
