@@ -7,6 +7,7 @@ pub mod ListCalls
 pub mod Lists
 pub mod Opens
 pub mod PartCalls
+pub mod PartsInC
 pub mod Pieces
 pub mod ReadBackCalls
 pub mod ReadBackLaws
