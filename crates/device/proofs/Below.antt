@@ -1,6 +1,6 @@
 -- Laws of definitions of the lower crates that those crates do not state. Apart from proofs/Zeros.antt, which computes, this is the only
 -- file of the crate that unfolds a definition of a lower one.
-use Prim.Native.Nat.{ℕ, _^_, _<_}
+use Prim.Native.Nat.{ℕ, zero, suc, _^_, _<_}
 use mathlib.Core.Path.{_≡_, refl, sym, ap, _∙_, subst}
 use mathlib.Core.Bool.{Bool, true, cond}
 use mathlib.Core.List.{List, [], _∷_, _++_, map}
@@ -24,14 +24,17 @@ use Rattle.receipt.specs.declared.entry.Entry.{Entry}
 use Rattle.receipt.proofs.Dates.{days-few}
 use Rattle.journal.specs.Opening.{openNumber, opened, openBuffer}
 use Rattle.journal.specs.State.{TypedState}
-use Rattle.journal.specs.Step.{newCounter, next}
+use Rattle.journal.specs.Head.{headSettings}
+use Rattle.journal.specs.Step.{fresh, newCounter, next}
 use Rattle.journal.specs.Issuing.{textOf, issueNumber, issued, issuedWithin, issueBuffer}
 use Rattle.journal.specs.Listing.{issuedList, listBuffer}
-use Rattle.journal.specs.Checking.{accepted}
+use Rattle.journal.specs.Checking.{headNumber, checkHead, refused, accepted}
+use Rattle.journal.specs.Parts.{checkSteps, checksAfter, checkInParts}
 use Rattle.journal.specs.Changing.{changeNumber, changed, changeBuffer}
 use Rattle.journal.specs.Valid.{Owner, Pair, settingsFor, placedUnder, allPlaced, headOf}
 use Rattle.journal.specs.Calls.{Order, failedOrder, TypedOrder, Call, issue, issueList, change, Register, journalOf, opening, numberOf, numbersOf, receiptOfCall, firstReceipts, receiptsOfList, receiptsOf, Period, periodsFrom, call, callWithin, calls, callsWithin, orderOf, issuesOf, laterCalls, callsOf}
 use Rattle.journal.specs.declared.state.State.{State}
+use Rattle.journal.specs.declared.state.TakenOver.{TakenOver}
 use Rattle.journal.proofs.Check.{new-fits, new-is}
 use Rattle.journal.proofs.Answers.{chain-eight, issue-zero}
 
@@ -83,6 +86,29 @@ journal-is g = refl
 pub accepted-is : (st : State) → accepted st ≡ record { number = 0; index = 0; state = st }
 unfolding accepted
 accepted-is st = refl
+
+-- ---- journal: a check in parts
+
+pub head-index : (j key : List ℕ) (n : ℕ) → checkHead j key n .index ≡ 0
+unfolding checkHead accepted refused ifZero
+head-index j key n = go (headNumber j n)
+  where
+    go : (m : ℕ) → ifZero m (accepted (fresh (headSettings j) n key)) (refused m 0) .index ≡ 0
+    go zero = refl
+    go (suc m) = refl
+
+pub in-parts-is : (j key : List ℕ) (n : ℕ) (ns : List ℕ) → checkInParts j key n ns ≡ checksAfter (checkHead j key n) j ns
+unfolding checkInParts
+in-parts-is j key n ns = refl
+
+pub checks-none : (t : TakenOver) (j : List ℕ) → checksAfter t j [] ≡ t
+unfolding checksAfter
+checks-none t j = refl
+
+pub checks-more : (t : TakenOver) (j : List ℕ) (n : ℕ) (ns : List ℕ)
+    → checksAfter t j (n ∷ ns) ≡ ifZero (t .number) (checksAfter (checkSteps (t .state) j n) j ns) t
+unfolding checksAfter
+checks-more t j n ns = refl
 
 -- ---- journal: a call, and lists of calls
 

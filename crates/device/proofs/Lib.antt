@@ -6,6 +6,8 @@ pub mod DetailLaws
 pub mod ListCalls
 pub mod Lists
 pub mod Opens
+pub mod PartCalls
+pub mod PartsInC
 pub mod Pieces
 pub mod ReadBackCalls
 pub mod ReadBackLaws

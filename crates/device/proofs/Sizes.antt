@@ -10,6 +10,7 @@ use lib.ListN.{length, take, drop, replicate, length-replicate}
 use lib.Seq.{take-all}
 use Rattle.primitives.specs.Bytes.{AllBytes}
 use Rattle.primitives.specs.Counter.{widthGood}
+use Rattle.primitives.proofs.ByteLists.{bytes-replicate}
 use Rattle.primitives.proofs.Twos.{width-low, width-true}
 use Rattle.primitives.proofs.Rows.{true-is-not-false}
 use Rattle.receipt.specs.Settings.{settingsGood, SettingsLengths}
@@ -45,6 +46,14 @@ module _ (n : ℕ) (b : List ℕ) where
       go : (t : Bool) → eqb (length b) n ≡ t → length (cond t b (replicate n 0)) ≡ n
       go true e = eqb-true (length b) n e
       go false e = length-replicate n 0
+
+  pub array-bytes : AllBytes b → AllBytes (arrayOf n b)
+  unfolding arrayOf
+  array-bytes a = go (eqb (length b) n)
+    where
+      go : (t : Bool) → AllBytes (cond t b (replicate n 0))
+      go true = a
+      go false = bytes-replicate n (omega arith)
 
 pub width-whole : (key : List ℕ) (n : ℕ) → length key ≡ 32 → widthWith key n ≡ n
 unfolding widthWith

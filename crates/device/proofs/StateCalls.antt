@@ -13,20 +13,22 @@ use Rattle.journal.specs.State.{noName, used, unopened, TypedName, TypedRegiste
 use Rattle.journal.specs.Issuing.{issued}
 use Rattle.journal.specs.Changing.{changed}
 use Rattle.journal.specs.Preparing.{prepareNumber}
+use Rattle.journal.specs.Parts.{checkSteps}
 use Rattle.journal.specs.declared.state.State.{State}
 use Rattle.journal.proofs.Refusals.{refused-changes-nothing}
 use Rattle.journal.proofs.Serials.{used-length}
 use Rattle.journal.proofs.Answers.{issued-number}
 use Rattle.device.specs.Layout.{stateOf, kept}
 use Rattle.device.specs.Details.{noDetails}
-use Rattle.device.specs.Calls.{Slices, serialIn, settingsIn, settingsInBuffer, openedNumber, openedSlices, IssueCall, orderIn, issueAnswer, issuedNumber, issuedSlices, changeAnswer, changedNumber, changedSlices}
+use Rattle.device.specs.Calls.{Slices, serialIn, settingsIn, settingsInBuffer, openedNumber, openedSlices, IssueCall, orderIn, issueAnswer, issuedNumber, issuedSlices, changeAnswer, changedNumber, changedSlices, stepsAnswer}
 use Rattle.device.specs.Laws.{RefusedIssueKeepsSlices, RefusedChangeKeepsSlices, OtherLengthsGetSix, SettingsOfSerial}
 use Rattle.device.proofs.Below.{changed-number}
 use Rattle.device.proofs.Lists.{list-left, list-six}
 use Rattle.device.proofs.Sizes.{state-none, kept-not, take-six}
 use Rattle.device.proofs.Spelling.{settings-are-read, kept-as-it-was}
-use Rattle.device.proofs.Zeros.{unopened-gets-six}
+use Rattle.device.proofs.Zeros.{unopened-checked, unopened-gets-six}
 use Rattle.device.proofs.CallAnswers.{serial-none, serial-some, open-none}
+use Rattle.device.proofs.PartCalls.{head-six}
 
 -- ---- refused
 
@@ -79,6 +81,10 @@ module _ (g : Slices) (not-long : length (g .state) ≡ 447 → ⊥) where
   kept-old : kept (g .state) (stateOf (g .state)) ≡ g .state
   kept-old = kept-not (g .state) (stateOf (g .state)) not-long
 
+check-six : (state j : List ℕ) (n : ℕ) → (length state ≡ 447 → ⊥) → stepsAnswer state j n ≡ record { number = 6; index = 0; state = unopened }
+unfolding stepsAnswer
+check-six state j n h = ap (λ (x : State). checkSteps x j n) (state-none state h) ∙ unopened-checked j n
+
 pub other-lengths-get-six : OtherLengthsGetSix
 other-lengths-get-six =
     record {
@@ -88,6 +94,8 @@ other-lengths-get-six =
       changes = λ g serial e. (change-six g e serial, change-left g serial (λ z. omega (arith, z, change-six g e serial)) (kept-old g e));
       prepares = λ state d room e. ap (λ (x : State). prepareNumber x d room) (state-none state e) ∙ unopened-gets-six d [] noName room .1;
       takes = λ j key n state e. (take-six j key n (length state) e, kept-not state unopened e);
+      heads = λ j key n state e. (head-six j key n (length state) e, kept-not state unopened e);
+      checks = λ state j n e. (check-six state j n e, kept-not state unopened e);
     }
 
 -- ---- the settings with one of the serials

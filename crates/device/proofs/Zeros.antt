@@ -1,6 +1,6 @@
 -- Values that are all zero, and how the questions answer them.
 use Prim.Native.Nat.{ℕ}
-use mathlib.Core.Path.{_≡_, refl, ap}
+use mathlib.Core.Path.{_≡_, refl, sym, ap, _∙_}
 use mathlib.Core.Bool.{false}
 use mathlib.Core.List.{List}
 use native.Mathlib.Omega.{arith}
@@ -17,7 +17,10 @@ use Rattle.journal.specs.Opening.{openNumber}
 use Rattle.journal.specs.Step.{soundAlone, sound, numberAbove, detailsNumberWithin}
 use Rattle.journal.specs.Issuing.{issueNumber, issueNumberWithin}
 use Rattle.journal.specs.Preparing.{prepareNumber}
+use Rattle.journal.specs.Parts.{ready, checkSteps}
 use Rattle.journal.specs.declared.state.State.{State}
+use Rattle.journal.specs.declared.state.TakenOver.{TakenOver}
+use Rattle.journal.proofs.PartCalls.{handed-is, not-ready}
 use Rattle.device.specs.Layout.{namesBytes, registerBytes, figuresBytes, stateBytes}
 use Rattle.device.specs.Details.{noDetails}
 use Rattle.device.specs.Laws.{UnopenedIsZero, NoSettingsGetOne, UnopenedGetsSix, UnknownKindGetsSeven}
@@ -38,9 +41,15 @@ unopened-unsound : soundAlone unopened ≡ false
 unfolding soundAlone unopened
 unopened-unsound = rw csp-bad
 
+-- a check from it
+pub unopened-checked : (j : List ℕ) (n : ℕ) → checkSteps unopened j n ≡ record { number = 6; index = 0; state = unopened }
+unfolding ready sound
+unopened-checked j n = sym (handed-is 6 0 unopened ∙ not-ready unopened j n (rw unopened-unsound))
+
 pub unopened-gets-six : UnopenedGetsSix
 unfolding issueNumberWithin prepareNumber changeNumber sound ask
-unopened-gets-six d sig serial room = (rw unopened-unsound, rw unopened-unsound, rw unopened-unsound)
+unopened-gets-six d sig serial room =
+    (rw unopened-unsound, rw unopened-unsound, rw unopened-unsound, λ j n. ap (λ (x : TakenOver). x .number) (unopened-checked j n))
 
 pub unknown-kind-gets-seven : UnknownKindGetsSeven
 unfolding detailsNumberWithin numberAbove noDetails ask

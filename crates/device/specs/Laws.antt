@@ -18,10 +18,11 @@ use Rattle.journal.specs.Preparing.{prepareNumber}
 use Rattle.journal.specs.Step.{sound, detailsNumber}
 use Rattle.journal.specs.Issuing.{issueNumber}
 use Rattle.journal.specs.Changing.{changeNumber}
+use Rattle.journal.specs.Parts.{checkSteps}
 use Rattle.journal.specs.declared.state.State.{State}
 use Rattle.device.specs.Layout.{settingsBytes, stateBytes, noSettings, settingsOf, widthOf, keyOf, stateOf, kept}
 use Rattle.device.specs.Details.{noDetails, pieces, detailsBytes, detailsIn, listIn}
-use Rattle.device.specs.Calls.{settingsFrom, widthWith, settingsAnswer, settingsBuffer, Slices, openedNumber, openedSlices, IssueCall, issuedNumber, issuedSlices, listedNumber, listedCount, listedSlices, changedNumber, changedSlices, takeOverAnswer, settingsIn, settingsInBuffer}
+use Rattle.device.specs.Calls.{settingsFrom, widthWith, settingsAnswer, settingsBuffer, Slices, openedNumber, openedSlices, IssueCall, issuedNumber, issuedSlices, listedNumber, listedCount, listedSlices, changedNumber, changedSlices, takeOverAnswer, headAnswer, stepsAnswer, settingsIn, settingsInBuffer}
 
 -- ---- reading and writing undo each other
 
@@ -58,7 +59,9 @@ NoSettingsGetOne = (shared : Bool) (n room : ℕ) → openNumber noSettings shar
 
 abbrev pub UnopenedGetsSix : Type 0
 UnopenedGetsSix =
-    (d : Details) (sig : List ℕ) (serial : Name) (room : ℕ) → (issueNumber unopened d sig room ≡ 6) × (prepareNumber unopened d room ≡ 6) × (changeNumber unopened serial room ≡ 6)
+    (d : Details) (sig : List ℕ) (serial : Name) (room : ℕ)
+    → (issueNumber unopened d sig room ≡ 6) × (prepareNumber unopened d room ≡ 6) × (changeNumber unopened serial room ≡ 6)
+    × ((j : List ℕ) (n : ℕ) → checkSteps unopened j n .number ≡ 6)
 
 abbrev pub UnknownKindGetsSeven : Type 0
 UnknownKindGetsSeven = (st : State) (rest : ℕ) → detailsNumber st noDetails rest ≡ 7
@@ -122,7 +125,7 @@ CutListIssuesNone =
 
 -- ---- a state that is not 447 bytes long, such as the 155 bytes of version 1
 
--- it is left as it was: Open, Issue, a list that is not empty, Change, Prepare and Take over get 6 with it
+-- it is left as it was: Open, Issue, a list that is not empty, Change, Prepare, Take over and the two checks get 6 with it
 pub record OtherLengthsGetSix : Type 0 where
   pub opens : (settings : List ℕ) (shared : Bool) (g : Slices) → (length (g .state) ≡ 447 → ⊥)
       → (openedNumber settings shared g ≡ 6) × (openedSlices settings shared g ≡ g)
@@ -133,6 +136,10 @@ pub record OtherLengthsGetSix : Type 0 where
   pub prepares : (state : List ℕ) (d : Details) (room : ℕ) → (length state ≡ 447 → ⊥) → prepareNumber (stateOf state) d room ≡ 6
   pub takes : (j key : List ℕ) (n : ℕ) (state : List ℕ) → (length state ≡ 447 → ⊥)
       → (takeOverAnswer j key n (length state) ≡ record { number = 6; index = 0; state = unopened }) × (kept state unopened ≡ state)
+  pub heads : (j key : List ℕ) (n : ℕ) (state : List ℕ) → (length state ≡ 447 → ⊥)
+      → (headAnswer j key n (length state) ≡ record { number = 6; index = 0; state = unopened }) × (kept state unopened ≡ state)
+  pub checks : (state j : List ℕ) (n : ℕ) → (length state ≡ 447 → ⊥)
+      → (stepsAnswer state j n ≡ record { number = 6; index = 0; state = unopened }) × (kept state unopened ≡ state)
 
 -- ---- the serials of a state
 

@@ -4,6 +4,7 @@ pub mod Details
 pub mod Laws
 pub mod Layout
 pub mod ListLaws
+pub mod PartLaws
 pub mod ReadBack
 pub mod ReadBackLaws
 pub mod Texts

@@ -43,5 +43,6 @@ pub mod SharedKey
 pub mod Starting
 pub mod Stepping
 pub mod Touching
+pub mod TypedChecks
 pub mod TypedStates
 pub mod WrittenIsAccepted

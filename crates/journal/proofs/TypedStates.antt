@@ -28,7 +28,7 @@ use Rattle.journal.proofs.AcceptedIsWritten.{holds-sound}
 none-typed : TypedName noName
 none-typed = record { long = refl; bytes = bytes-replicate 32 (omega arith); small = omega arith }
 
-zeros-typed : (k i : ℕ) → TypedName (getD (replicate k noName) i noName)
+pub zeros-typed : (k i : ℕ) → TypedName (getD (replicate k noName) i noName)
 zeros-typed zero i = none-typed
 zeros-typed (suc k) zero = none-typed
 zeros-typed (suc k) (suc i) = zeros-typed k i
