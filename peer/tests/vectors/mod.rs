@@ -1,5 +1,7 @@
 //! The vectors, published ones and those of the peer, asked of either side through the interface.
 
+pub mod steps;
+
 use peer::calls::{Calls, Listed, TakenOver, Written};
 use peer::code::LONGEST_CODE;
 use peer::crypto::Aes256;
