@@ -118,12 +118,10 @@ impl Round<'_> {
         let stepped = self.stepped(&accepted)?;
         self.every_way(&stepped)?;
         for passed in 0..stepped.steps() {
-            let spoiled = if stepped.entry_after(passed) {
-                self.spoiled_entry(&stepped, passed)
-            } else {
-                self.spoiled_pair(&stepped, passed)
-            };
-            self.refused_there(&stepped, &spoiled)?;
+            for _ in 0..2 {
+                let spoiled = self.spoiled_after(&stepped, passed);
+                self.refused_there(&stepped, &spoiled)?;
+            }
         }
         self.steps_after_the_end(&stepped)?;
         self.counts_beside_the_state(&stepped)?;
@@ -158,6 +156,7 @@ impl Round<'_> {
         self.every_way(&Stepped { settings: state.first(), journal, after })
     }
 
+    /// An accepted journal with the states after its steps.
     fn stepped(&mut self, accepted: &Accepted) -> Compared<Stepped> {
         let after = self.written_again(accepted)?;
         Ok(Stepped { settings: accepted.settings, journal: accepted.journal.clone(), after })
@@ -217,6 +216,15 @@ impl Round<'_> {
             self.checked(held, journal, steps, *answer, held, "a refused check hands back its state")?;
         }
         Ok(())
+    }
+
+    /// Something wrong with the step after so many.
+    fn spoiled_after(&self, stepped: &Stepped, passed: usize) -> Spoiled {
+        if stepped.entry_after(passed) {
+            self.spoiled_entry(stepped, passed)
+        } else {
+            self.spoiled_pair(stepped, passed)
+        }
     }
 
     /// Something wrong with the entry after so many steps: one of 15 to 20.
