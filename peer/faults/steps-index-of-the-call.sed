@@ -1,2 +1,2 @@
 # src/calls.rs: the index counts the receipts of this check alone
-/fn check_steps\(&self, .* -> TakenOver \{/,/^    }/ s/Err\(refused\) => taken_over\(refused\),/Err(refused) => taken_over(Refused { index: refused.index.saturating_sub(state_of(state).receipts), ..refused }),/
+/fn check_steps\(&self, .* -> TakenOver \{/,/^    }/ s/Err\(refused\) => refused\.into\(\),/Err(refused) => (Refused { index: refused.index.saturating_sub(state_of(state).receipts), ..refused }).into(),/

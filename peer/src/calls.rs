@@ -30,6 +30,16 @@ pub struct TakenOver {
     pub index: u32,
 }
 
+impl TakenOver {
+    pub const DONE: TakenOver = TakenOver { number: 0, index: 0 };
+}
+
+impl From<Refused> for TakenOver {
+    fn from(refused: Refused) -> Self {
+        TakenOver { number: refused.number, index: refused.index }
+    }
+}
+
 /// A number, and a place with its length.
 #[derive(Clone, Copy, Debug, PartialEq, Eq)]
 pub struct Part {
@@ -106,10 +116,6 @@ fn with_state(state: &mut [u8], call: impl FnOnce(&mut State) -> Result<(), u32>
     }
 }
 
-fn taken_over(refused: Refused) -> TakenOver {
-    TakenOver { number: refused.number, index: refused.index }
-}
-
 /// A call that reads a journal under a key and writes the state, which is the unopened one where the call is refused.
 fn under_key(key: &[u8], state: &mut [u8], call: impl FnOnce(&[u8; 32]) -> Result<State, Refused>) -> TakenOver {
     if state.len() != STATE {
@@ -118,8 +124,8 @@ fn under_key(key: &[u8], state: &mut [u8], call: impl FnOnce(&[u8; 32]) -> Resul
     // a key of another length is asked with the width
     let answer = key.try_into().map_err(|_| Refused { number: 4, index: 0 }).and_then(call);
     let (taken, held) = match answer {
-        Ok(held) => (TakenOver { number: 0, index: 0 }, held),
-        Err(refused) => (taken_over(refused), State::default()),
+        Ok(held) => (TakenOver::DONE, held),
+        Err(refused) => (refused.into(), State::default()),
     };
     state.copy_from_slice(&state_bytes(&held));
     taken
@@ -246,9 +252,9 @@ impl Calls for Peer {
         match register::check_steps(&state_of(state), journal, steps as u64) {
             Ok(held) => {
                 state.copy_from_slice(&state_bytes(&held));
-                TakenOver { number: 0, index: 0 }
+                TakenOver::DONE
             }
-            Err(refused) => taken_over(refused),
+            Err(refused) => refused.into(),
         }
     }
 

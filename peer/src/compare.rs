@@ -507,7 +507,7 @@ impl Compare {
 
     /// Checks of so many steps, each from the state before it, up to the first that is refused: the last answer.
     fn check_list(&mut self, state: &mut [u8], journal: &[u8], list: &[usize]) -> Compared<TakenOver> {
-        let mut checked = TakenOver { number: 0, index: 0 };
+        let mut checked = TakenOver::DONE;
         for &steps in list {
             checked = self.check_steps(state, journal, steps)?;
             if checked.number != 0 {

@@ -390,8 +390,7 @@ pub fn check_head(journal: &[u8], key: &[u8; 32], width: u64) -> Result<State, N
 }
 
 /// Goes on from a state through so many steps of the journal and returns the state after them. A step is an entry where the
-/// open section has one more, and else the start of a pair. At the end of the journal a step is neither and changes nothing, and
-/// so does each step after it.
+/// open section has one more, and else the start of a pair. At the end of the journal no step changes anything.
 pub fn check_steps(state: &State, journal: &[u8], steps: u64) -> Result<State, Refused> {
     let mut count = state.counted_in(journal).map_err(|number| Refused { number, index: 0 })?;
     let mut state = *state;

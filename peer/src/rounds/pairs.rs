@@ -518,7 +518,7 @@ impl Round<'_> {
         let Settings { key, width, .. } = design.settings;
         let mut state = self.garbage(STATE);
         let taken = self.taken(&bytes, &key, width as usize, &mut state)?;
-        demand(taken == TakenOver { number: 0, index: 0 }, "a journal of pairs is accepted", &bytes)?;
+        demand(taken == TakenOver::DONE, "a journal of pairs is accepted", &bytes)?;
         let held = state_of(&state);
         let last = pair_places(&bytes).pop().expect("a pair");
         let numbers = (held.receipts as usize, held.open_receipts as usize, held.journal_length as usize);

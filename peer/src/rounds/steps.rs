@@ -15,7 +15,6 @@ use crate::settings::{Name, Settings};
 /// Numbers of steps that no journal here has, also in few bits.
 const MANY: [usize; 8] = [1 << 16, 1 << 32, (1 << 32) + 1, 1 << 40, 1 << 63, (1 << 63) + 1, usize::MAX - 1, usize::MAX];
 
-const DONE: TakenOver = TakenOver { number: 0, index: 0 };
 const BAD_STATE: TakenOver = TakenOver { number: 6, index: 0 };
 
 /// A valid journal, and the states that Open and then each Issue or Change left: after no step, and after each.
@@ -184,7 +183,7 @@ impl Round<'_> {
             let left = all - from;
             for steps in [0, 1, left, left + 1, self.random.below(left + 1), self.random.pick(&MANY)] {
                 let (held, after) = (stepped.after(from), stepped.after(from.saturating_add(steps)));
-                self.checked(held, &stepped.journal, steps, DONE, after, "a check goes on by its steps")?;
+                self.checked(held, &stepped.journal, steps, TakenOver::DONE, after, "a check goes on by its steps")?;
             }
         }
         let mut held = stepped.after(0).to_vec();
@@ -210,7 +209,7 @@ impl Round<'_> {
         let (held, left) = (stepped.after(from), passed - from);
         for steps in [0, left, self.random.below(left + 1)] {
             let after = stepped.after(from + steps);
-            self.checked(held, journal, steps, DONE, after, "the steps before a refusal pass")?;
+            self.checked(held, journal, steps, TakenOver::DONE, after, "the steps before a refusal pass")?;
         }
         for steps in [left + 1, left + 2 + self.random.below(4), self.random.pick(&MANY)] {
             self.checked(held, journal, steps, *answer, held, "a refused check hands back its state")?;
@@ -346,7 +345,7 @@ impl Round<'_> {
             return self.refused_there(stepped, &stepped.refused(journal, all, 31));
         }
         let after = state_bytes(&changed_state(&held, &new));
-        self.checked(stepped.after(all), &journal, 1, DONE, &after, "a change after the end is a step")
+        self.checked(stepped.after(all), &journal, 1, TakenOver::DONE, &after, "a change after the end is a step")
     }
 
     // ---- the journal and the state beside each other
@@ -383,7 +382,14 @@ impl Round<'_> {
             journal[place..place + 4].copy_from_slice(&stepped.journal[place..place + 4]);
             let steps = self.random.pick(&[0, 1, self.random.below(6), self.random.pick(&MANY)]);
             let after = stepped.after(from.saturating_add(steps));
-            self.checked(stepped.after(from), &journal, steps, DONE, after, "bytes before the state are not read")?;
+            self.checked(
+                stepped.after(from),
+                &journal,
+                steps,
+                TakenOver::DONE,
+                after,
+                "bytes before the state are not read",
+            )?;
         }
         Ok(())
     }
@@ -438,7 +444,14 @@ impl Round<'_> {
             state_bytes(&State { receipts: held.receipts + 1, ..held })
         };
         let (state, steps) = (more(from), self.random.below(6));
-        self.checked(&state, &stepped.journal, steps, DONE, &more(from + steps), "receipts are those of the state")?;
+        self.checked(
+            &state,
+            &stepped.journal,
+            steps,
+            TakenOver::DONE,
+            &more(from + steps),
+            "receipts are those of the state",
+        )?;
         let journal = [&stepped.journal[..], &[0]].concat();
         let answer = TakenOver { number: 21, index: 1 + stepped.receipts(stepped.steps()) };
         self.checked(&state, &journal, usize::MAX, answer, &state, "an index counts the receipts of the state")

@@ -85,7 +85,7 @@ fn with_count(journal: &[u8], place: usize, count: u32) -> Vec<u8> {
 
 fn assert_checked(side: &dyn Calls, held: &[u8], journal: &[u8], steps: usize, after: &[u8]) {
     let mut state = held.to_vec();
-    assert_eq!(side.check_steps(&mut state, journal, steps), TakenOver { number: 0, index: 0 }, "{steps} steps");
+    assert_eq!(side.check_steps(&mut state, journal, steps), TakenOver::DONE, "{steps} steps");
     assert_eq!(state, after, "{steps} steps");
 }
 
@@ -387,10 +387,7 @@ pub fn month_by_month(side: &dyn Calls) {
         assert_eq!(side.check_steps(&mut good, &journal, 84).number, 0);
         assert_eq!(good, after[1000.min(84 * month)]);
         let answer = side.check_steps(&mut bad, &damaged, 84);
-        assert_eq!(
-            answer,
-            if month < 12 { TakenOver { number: 0, index: 0 } } else { TakenOver { number: 16, index: 990 } }
-        );
+        assert_eq!(answer, if month < 12 { TakenOver::DONE } else { TakenOver { number: 16, index: 990 } });
     }
     assert_eq!(bad, after[84 * 11]);
 }
