@@ -127,7 +127,8 @@ impl Round<'_> {
         self.bytes_not_read(&stepped)?;
         self.states_not_sound(&stepped)?;
         self.states_that_say_otherwise(&stepped)?;
-        self.states_by_chance(&stepped)
+        self.states_by_chance(&stepped)?;
+        self.states_of_another(&stepped)
     }
 
     /// Calls from a state made by hand: a check goes through what they wrote, one step for each.
@@ -484,6 +485,19 @@ impl Round<'_> {
             let count = state.open_receipts.wrapping_add(self.random.pick(&[0, 0, 0, 1, u32::MAX]));
             journal[place..place + 4].copy_from_slice(&count.to_be_bytes());
             self.check_by_chance(&mut state_bytes(&state), &journal)?;
+        }
+        Ok(())
+    }
+
+    /// The states of one register with the journal of another.
+    fn states_of_another(&mut self, stepped: &Stepped) -> Compared<()> {
+        let receipts = self.some_receipts(2);
+        let accepted = self.designed(&receipts).accepted();
+        let another = self.stepped(&accepted)?;
+        for (states, journal) in [(stepped, &another.journal), (&another, &stepped.journal)] {
+            for state in &states.after {
+                self.check_by_chance(&mut state.clone(), journal)?;
+            }
         }
         Ok(())
     }
