@@ -1,2 +1,2 @@
 # src/register.rs: bytes after the last entry of a section asked before that entry
-s/^        let Some\(receipt\) = read_entry/        if state.open_receipts + 1 == count \&\& !reader.rest.is_empty() \&\& (Reader { rest: reader.rest }).pair().is_none() { return Err(Refused { number: 21, index: index + 1 }); }\n&/
+/^(pub )?fn take_section\(/,/^}/ s/^        take_entry\(reader/        let mut after = Reader { rest: reader.rest };\n        if state.open_receipts + 1 == count \&\& after.entry().is_some() \&\& !after.rest.is_empty() \&\& after.pair().is_none() {\n            return Err(Refused { number: 21, index: state.receipts + 1 });\n        }\n&/

@@ -178,6 +178,19 @@ impl Work {
         self.journal.len()
     }
 
+    /// The same in parts: the first call, and checks of a thousand steps up to the end of the journal; its bytes.
+    fn check_steps(&mut self, side: &dyn Calls) -> usize {
+        let mut state = [0; STATE];
+        assert_eq!(side.check_head(&self.journal, &KEY, WIDTH, &mut state), 0);
+        let mut before = 0;
+        while before != side.journal_length(&state) {
+            before = side.journal_length(&state);
+            assert_eq!(side.check_steps(&mut state, &self.journal, 1000).number, 0);
+        }
+        assert_eq!(state, self.state);
+        self.journal.len()
+    }
+
     /// One Code for each receipt; the bytes written.
     fn code(&mut self, side: &dyn Calls) -> usize {
         let mut output = [0; LONGEST_CODE];
@@ -233,6 +246,7 @@ impl Work {
             "issue-list" => Some(self.issue_list(side)),
             "prepare" => Some(self.prepare(side)),
             "take-over" => Some(self.take_over(side)),
+            "check-steps" => Some(self.check_steps(side)),
             "code" => Some(self.code(side)),
             "read" => Some(self.read(side)),
             "line" => Some(self.line(side)),
@@ -314,7 +328,18 @@ pub fn run() {
         let mut work = Work::of(receipts);
         same_answers(&mut work);
         let calls: &[&str] = if receipts == 10_000 {
-            &["issue", "issue-failed", "issue-list", "prepare", "code", "line", "unline", "read", "take-over"]
+            &[
+                "issue",
+                "issue-failed",
+                "issue-list",
+                "prepare",
+                "code",
+                "line",
+                "unline",
+                "read",
+                "check-steps",
+                "take-over",
+            ]
         } else {
             &["take-over"]
         };

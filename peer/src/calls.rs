@@ -5,7 +5,7 @@ use crate::layout::{
     state_of,
 };
 use crate::receipt::{Details, Receipt};
-use crate::register::State;
+use crate::register::{Refused, State};
 use crate::settings::{Name, Settings, csp_good, id_good, serial_good, width_good};
 use crate::{base32, base64, code, crypto, line, register};
 
@@ -28,6 +28,16 @@ pub struct Listed {
 pub struct TakenOver {
     pub number: u32,
     pub index: u32,
+}
+
+impl TakenOver {
+    pub const DONE: TakenOver = TakenOver { number: 0, index: 0 };
+}
+
+impl From<Refused> for TakenOver {
+    fn from(refused: Refused) -> Self {
+        TakenOver { number: refused.number, index: refused.index }
+    }
 }
 
 /// A number, and a place with its length.
@@ -56,6 +66,8 @@ pub trait Calls {
     fn issue_list(&self, state: &mut [u8], list: &[u8], journal: &mut [u8]) -> Listed;
     fn change(&self, state: &mut [u8], serial: &[u8], journal: &mut [u8]) -> u32;
     fn take_over(&self, journal: &[u8], key: &[u8], width: usize, state: &mut [u8]) -> TakenOver;
+    fn check_head(&self, journal: &[u8], key: &[u8], width: usize, state: &mut [u8]) -> u32;
+    fn check_steps(&self, state: &mut [u8], journal: &[u8], steps: usize) -> TakenOver;
     fn read(&self, settings: &[u8], form: &[u8], details: &mut [u8], signature: &mut [u8]) -> Written;
     fn code(&self, form: &[u8], output: &mut [u8]) -> Written;
     fn uncode(&self, code: &[u8], output: &mut [u8]) -> Written;
@@ -102,6 +114,21 @@ fn with_state(state: &mut [u8], call: impl FnOnce(&mut State) -> Result<(), u32>
         }
         Err(number) => number,
     }
+}
+
+/// A call that reads a journal under a key and writes the state, which is the unopened one where the call is refused.
+fn under_key(key: &[u8], state: &mut [u8], call: impl FnOnce(&[u8; 32]) -> Result<State, Refused>) -> TakenOver {
+    if state.len() != STATE {
+        return TakenOver { number: 6, index: 0 };
+    }
+    // a key of another length is asked with the width
+    let answer = key.try_into().map_err(|_| Refused { number: 4, index: 0 }).and_then(call);
+    let (taken, held) = match answer {
+        Ok(held) => (TakenOver::DONE, held),
+        Err(refused) => (refused.into(), State::default()),
+    };
+    state.copy_from_slice(&state_bytes(&held));
+    taken
 }
 
 /// The bytes to the start of the output: their length, or 23.
@@ -213,20 +240,22 @@ impl Calls for Peer {
     }
 
     fn take_over(&self, journal: &[u8], key: &[u8], width: usize, state: &mut [u8]) -> TakenOver {
-        if state.len() != STATE {
-            return TakenOver { number: 6, index: 0 };
+        under_key(key, state, |key| register::take_over(journal, key, width as u64))
+    }
+
+    fn check_head(&self, journal: &[u8], key: &[u8], width: usize, state: &mut [u8]) -> u32 {
+        let head = |key: &[u8; 32]| register::check_head(journal, key, width as u64);
+        under_key(key, state, |key| head(key).map_err(|number| Refused { number, index: 0 })).number
+    }
+
+    fn check_steps(&self, state: &mut [u8], journal: &[u8], steps: usize) -> TakenOver {
+        match register::check_steps(&state_of(state), journal, steps as u64) {
+            Ok(held) => {
+                state.copy_from_slice(&state_bytes(&held));
+                TakenOver::DONE
+            }
+            Err(refused) => refused.into(),
         }
-        let answer = match key.try_into() {
-            Ok(key) => register::take_over(journal, key, width as u64),
-            // a key of another length is asked with the width
-            Err(_) => Err(register::Refused { number: 4, index: 0 }),
-        };
-        let (taken, held) = match answer {
-            Ok(held) => (TakenOver { number: 0, index: 0 }, held),
-            Err(refused) => (TakenOver { number: refused.number, index: refused.index }, State::default()),
-        };
-        state.copy_from_slice(&state_bytes(&held));
-        taken
     }
 
     fn read(&self, settings: &[u8], form: &[u8], details: &mut [u8], signature: &mut [u8]) -> Written {

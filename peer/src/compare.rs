@@ -12,7 +12,7 @@ use crate::receipt::Details;
 use crate::text::hex;
 
 /// The calls in the order of the table, with the numbers that each can return.
-pub const CALLS: [(&str, &[u32]); 23] = [
+pub const CALLS: [(&str, &[u32]); 25] = [
     ("version", &[0]),
     ("settings", &[0, 1, 2, 3, 4, 23]),
     ("figures", &[0]),
@@ -25,6 +25,8 @@ pub const CALLS: [(&str, &[u32]); 23] = [
     ("issue_list", &[0, 6, 7, 8, 9, 10, 11, 13]),
     ("change", &[0, 3, 6, 13, 30, 31]),
     ("take_over", &[0, 4, 6, 14, 15, 16, 17, 18, 19, 20, 21, 30, 31]),
+    ("check_head", &[0, 4, 6, 14]),
+    ("check_steps", &[0, 6, 15, 16, 17, 18, 19, 20, 21, 30, 31]),
     ("read", &[0, 1, 2, 3, 4, 16, 23]),
     ("code", &[0, 22, 23]),
     ("uncode", &[0, 23, 24]),
@@ -333,6 +335,32 @@ impl Compare {
         Ok(taken)
     }
 
+    pub fn check_head(&mut self, journal: &[u8], key: &[u8], width: usize, state: &mut [u8]) -> Compared<u32> {
+        let (number, after) = self.run(
+            "check_head",
+            &format_args!("width {width}"),
+            [("journal", journal), ("key", key), ("state", state)],
+            &[2],
+            |side, [journal, key, state]| side.check_head(journal.get(), key.get(), width, state.get_mut()),
+            |number| number,
+        )?;
+        state.copy_from_slice(after[2].get());
+        Ok(number)
+    }
+
+    pub fn check_steps(&mut self, state: &mut [u8], journal: &[u8], steps: usize) -> Compared<TakenOver> {
+        let (taken, after) = self.run(
+            "check_steps",
+            &format_args!("steps {steps}"),
+            [("state", state), ("journal", journal)],
+            &[],
+            |side, [state, journal]| side.check_steps(state.get_mut(), journal.get(), steps),
+            |taken| taken.number,
+        )?;
+        state.copy_from_slice(after[0].get());
+        Ok(taken)
+    }
+
     /// Read; `details` and `signature` are what lies there before.
     pub fn read(
         &mut self,
@@ -447,6 +475,46 @@ impl Compare {
         self.text_call("unbase32", &format_args!(""), ("text", text), output, |side, text, output| {
             side.unbase32(text, output)
         })
+    }
+
+    /// Take over, and the same in parts: the first call, and checks of so many steps, each from the state before it, up to the
+    /// first that is refused. They must answer as Take over does, where the steps are at least as many as the bytes.
+    pub fn take_over_in_parts(
+        &mut self,
+        journal: &[u8],
+        key: &[u8],
+        width: usize,
+        list: &[usize],
+        state: &mut [u8],
+    ) -> Compared<TakenOver> {
+        let mut held = state.to_vec();
+        let taken = self.take_over(journal, key, width, state)?;
+        let number = self.check_head(journal, key, width, &mut held)?;
+        if number != 0 || matches!(taken.number, 4 | 6 | 14) {
+            let same = taken == TakenOver { number, index: 0 } && held == state;
+            demand(same, "the first call refuses what Take over refuses", journal)?;
+            return Ok(taken);
+        }
+        let checked = self.check_list(&mut held, journal, list)?;
+        let enough = list.iter().fold(0, |sum: usize, &steps| sum.saturating_add(steps)) >= journal.len();
+        if enough || checked.number != 0 {
+            demand(checked == taken, "checks up to the first refusal answer as Take over does", journal)?;
+        }
+        let all = enough && taken.number == 0;
+        demand(!all || held == state, "checks to the end give the state of Take over", journal)?;
+        Ok(taken)
+    }
+
+    /// Checks of so many steps, each from the state before it, up to the first that is refused: the last answer.
+    fn check_list(&mut self, state: &mut [u8], journal: &[u8], list: &[usize]) -> Compared<TakenOver> {
+        let mut checked = TakenOver::DONE;
+        for &steps in list {
+            checked = self.check_steps(state, journal, steps)?;
+            if checked.number != 0 {
+                break;
+            }
+        }
+        Ok(checked)
     }
 
     /// The line of a code, which must give the code back; None where the code is refused.

@@ -38,6 +38,10 @@ unsafe extern "C" {
         journal_length: usize) -> u32;
     fn ditgrux_take_over(journal: *const u8, journal_length: usize, key: *const u8, key_length: usize, width: usize,
         state: *mut u8, state_length: usize, index: *mut u32) -> u32;
+    fn ditgrux_check_head(journal: *const u8, journal_length: usize, key: *const u8, key_length: usize, width: usize,
+        state: *mut u8, state_length: usize) -> u32;
+    fn ditgrux_check_steps(state: *mut u8, state_length: usize, journal: *const u8, journal_length: usize, steps: usize,
+        index: *mut u32) -> u32;
     fn ditgrux_read(settings: *const u8, settings_length: usize, form: *const u8, form_length: usize, details: *mut u8,
         details_length: usize, signature: *mut u8, signature_size: usize, length: *mut usize) -> u32;
     fn ditgrux_code(form: *const u8, form_length: usize, output: *mut u8, output_length: usize,
@@ -244,6 +248,28 @@ impl Calls for Library {
                 state.len(),
                 &mut index,
             )
+        };
+        TakenOver { number, index }
+    }
+
+    fn check_head(&self, journal: &[u8], key: &[u8], width: usize, state: &mut [u8]) -> u32 {
+        unsafe {
+            ditgrux_check_head(
+                journal.as_ptr(),
+                journal.len(),
+                key.as_ptr(),
+                key.len(),
+                width,
+                state.as_mut_ptr(),
+                state.len(),
+            )
+        }
+    }
+
+    fn check_steps(&self, state: &mut [u8], journal: &[u8], steps: usize) -> TakenOver {
+        let mut index = UNWRITTEN;
+        let number = unsafe {
+            ditgrux_check_steps(state.as_mut_ptr(), state.len(), journal.as_ptr(), journal.len(), steps, &mut index)
         };
         TakenOver { number, index }
     }

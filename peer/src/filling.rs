@@ -81,10 +81,12 @@ impl<'a> Filling<'a> {
         &self.journal[..state_of(&self.state).journal_length as usize]
     }
 
-    /// The whole journal gives the state after it.
+    /// The whole journal gives the state after it, also month by month.
     fn take_over(&self, compare: &mut Compare) -> Compared<()> {
         let mut taken = [0; STATE];
-        let answer = compare.take_over(self.whole(), &self.settings.key, self.width(), &mut taken)?;
+        let mut months = [1 + state_of(&self.state).receipts as usize / 12; 13];
+        months[12] = usize::MAX;
+        let answer = compare.take_over_in_parts(self.whole(), &self.settings.key, self.width(), &months, &mut taken)?;
         demand(answer.number == 0 && taken == self.state, "a long journal is accepted", &self.state)
     }
 

@@ -16,7 +16,7 @@ const WIDTH: usize = 5;
 /// Does one input.
 pub fn one_input(compare: &mut Compare, input: &[u8]) -> Compared<()> {
     let Some((choice, rest)) = input.split_first() else { return Ok(()) };
-    match choice % 14 {
+    match choice % 16 {
         0 => take_over(compare, rest),
         1 => edited_journal(compare, rest),
         2 => code(compare, rest),
@@ -30,7 +30,9 @@ pub fn one_input(compare: &mut Compare, input: &[u8]) -> Compared<()> {
         10 => unbase32(compare, rest),
         11 => change(compare, rest),
         12 => edited_pairs(compare, rest),
-        _ => issue_list(compare, rest),
+        13 => issue_list(compare, rest),
+        14 => check_steps(compare, rest),
+        _ => in_parts(compare, rest),
     }
 }
 
@@ -40,6 +42,30 @@ fn take_over(compare: &mut Compare, input: &[u8]) -> Compared<()> {
     let Some((key, journal)) = rest.split_at_checked(32) else { return Ok(()) };
     compare.take_over(journal, key, *width as usize, &mut [0xaa; STATE])?;
     Ok(())
+}
+
+/// 447 bytes of state, the steps in a byte, and a journal.
+fn check_steps(compare: &mut Compare, input: &[u8]) -> Compared<()> {
+    let Some((state, rest)) = input.split_at_checked(STATE) else { return Ok(()) };
+    let Some((steps, journal)) = rest.split_first() else { return Ok(()) };
+    compare.check_steps(&mut state.to_vec(), journal, steps_of(*steps))?;
+    Ok(())
+}
+
+/// Steps of checks: how many checks, and a byte for each. Then the same as for Take over.
+fn in_parts(compare: &mut Compare, input: &[u8]) -> Compared<()> {
+    let Some((checks, rest)) = input.split_first() else { return Ok(()) };
+    let Some((list, rest)) = rest.split_at_checked(*checks as usize) else { return Ok(()) };
+    let Some((width, rest)) = rest.split_first() else { return Ok(()) };
+    let Some((key, journal)) = rest.split_at_checked(32) else { return Ok(()) };
+    let list: Vec<usize> = list.iter().map(|&steps| steps_of(steps)).collect();
+    compare.take_over_in_parts(journal, key, *width as usize, &list, &mut [0xaa; STATE])?;
+    Ok(())
+}
+
+/// So many steps; the last byte says as many as there can be.
+fn steps_of(byte: u8) -> usize {
+    if byte == u8::MAX { usize::MAX } else { byte as usize }
 }
 
 /// Edits of a valid journal: three bytes each (entry, part, length) and the new bytes of that part. Then the chain, or

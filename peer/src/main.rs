@@ -15,7 +15,8 @@ use peer::rounds::round;
 
 const USAGE: &str = "usage: peer [--minutes N | --rounds N | --round R] [--seed S]
        peer --bench
-       peer --work issue|issue-failed|issue-list|prepare|take-over|code|line|unline|read library|peer RECEIPTS [REPEATS]";
+       peer --work CALL library|peer RECEIPTS [REPEATS]
+CALL: issue|issue-failed|issue-list|prepare|take-over|check-steps|code|line|unline|read";
 
 /// How long to compare.
 enum Length {

@@ -1,5 +1,6 @@
-//! A register: open, prepare, issue, a list of receipts, change, take over, and read. The questions stand in the order of the
-//! paper, those of read in that of the C header; `Err` holds the number of the first one that is answered by "no".
+//! A register: open, prepare, issue, a list of receipts, change, take over, the same in parts, and read. The questions stand in
+//! the order of the paper, those of read in that of the C header; `Err` holds the number of the first one that is answered by
+//! "no".
 
 use crate::crypto::Aes256;
 use crate::receipt::{
@@ -104,6 +105,15 @@ impl State {
     /// Question 6 for a journal in this buffer.
     fn sound_in(&self, buffer: &[u8]) -> bool {
         self.sound() && self.journal_length <= buffer.len() as u64
+    }
+
+    /// Question 6 of a check: the count of the open section as the journal has it, which the state does not exceed.
+    fn counted_in(&self, journal: &[u8]) -> Result<u32, Number> {
+        if !self.sound_in(journal) {
+            return Err(6);
+        }
+        let mut reader = Reader { rest: &journal[self.open_place as usize..] };
+        reader.count().filter(|&count| self.open_receipts <= count).ok_or(6)
     }
 
     /// Questions 7 to 11 on a sound state: the kind, and the counter after the receipt.
@@ -298,39 +308,45 @@ impl<'a> Reader<'a> {
     }
 }
 
-/// Reads the entries of one section and adds them to the state, whose newest serial they have: questions 15 to 20.
+/// Reads one entry and adds it to the state: questions 15 to 20. The settings have the serial of its pair.
+fn take_entry(reader: &mut Reader, settings: &Settings, aes: &Aes256, state: &mut State) -> Result<(), Refused> {
+    let index = state.receipts;
+    let no = |number| Err(Refused { number, index });
+    let Some(form) = reader.entry() else { return no(15) };
+    let Some(receipt) = read_entry(settings, form) else { return no(16) };
+    if receipt.number <= state.last_number {
+        return no(17);
+    }
+    if index == 0 && (receipt.kind != Kind::Standard || receipt.amounts != [0; 5]) {
+        return no(18);
+    }
+    if receipt.chain != state.chain {
+        return no(19);
+    }
+    let sum = counter_after(state.counter, receipt.kind, &receipt.amounts);
+    if !counter_fits(sum, settings.width) {
+        return no(20);
+    }
+    state.counter = sum as i64;
+    if receipt.kind == Kind::Standard {
+        let iv = counter_iv(settings.id(), digits(receipt.number as u64).bytes());
+        if decrypt_counter(aes, &iv, &receipt.encrypted, settings.width as usize) != state.counter {
+            return no(20);
+        }
+    }
+    state.last_number = receipt.number;
+    state.chain = chain_value(form);
+    state.receipts += 1;
+    state.open_receipts += 1;
+    state.journal_length += 2 + form.len() as u64;
+    Ok(())
+}
+
+/// Reads the entries of one section, which have the newest serial of the state, and adds them to it.
 fn take_section(reader: &mut Reader, count: u32, aes: &Aes256, state: &mut State) -> Result<(), Refused> {
     let settings = state.newest();
     for _ in 0..count {
-        let index = state.receipts;
-        let no = |number| Err(Refused { number, index });
-        let Some(form) = reader.entry() else { return no(15) };
-        let Some(receipt) = read_entry(&settings, form) else { return no(16) };
-        if receipt.number <= state.last_number {
-            return no(17);
-        }
-        if index == 0 && (receipt.kind != Kind::Standard || receipt.amounts != [0; 5]) {
-            return no(18);
-        }
-        if receipt.chain != state.chain {
-            return no(19);
-        }
-        let sum = counter_after(state.counter, receipt.kind, &receipt.amounts);
-        if !counter_fits(sum, settings.width) {
-            return no(20);
-        }
-        state.counter = sum as i64;
-        if receipt.kind == Kind::Standard {
-            let iv = counter_iv(settings.id(), digits(receipt.number as u64).bytes());
-            if decrypt_counter(aes, &iv, &receipt.encrypted, settings.width as usize) != state.counter {
-                return no(20);
-            }
-        }
-        state.last_number = receipt.number;
-        state.chain = chain_value(form);
-        state.receipts += 1;
-        state.open_receipts += 1;
-        state.journal_length += 2 + form.len() as u64;
+        take_entry(reader, &settings, aes, state)?;
     }
     Ok(())
 }
@@ -360,6 +376,34 @@ pub fn take_over(journal: &[u8], key: &[u8; 32], width: u64) -> Result<State, Re
     while !reader.rest.is_empty() {
         let count = take_pair(&mut reader, &mut state)?;
         take_section(&mut reader, count, &aes, &mut state)?;
+    }
+    Ok(state)
+}
+
+/// Reads the head alone and returns the state of a register without receipts, whatever the head counts.
+pub fn check_head(journal: &[u8], key: &[u8; 32], width: u64) -> Result<State, Number> {
+    if !width_good(width) {
+        return Err(4);
+    }
+    let (settings, _) = Reader { rest: journal }.head(key, width).ok_or(14u32)?;
+    Ok(State::opened(&settings))
+}
+
+/// Goes on from a state through so many steps of the journal and returns the state after them. A step is an entry where the
+/// open section has one more, and else the start of a pair. At the end of the journal no step changes anything.
+pub fn check_steps(state: &State, journal: &[u8], steps: u64) -> Result<State, Refused> {
+    let mut count = state.counted_in(journal).map_err(|number| Refused { number, index: 0 })?;
+    let mut state = *state;
+    let mut reader = Reader { rest: &journal[state.journal_length as usize..] };
+    let aes = Aes256::new(&state.key);
+    for _ in 0..steps {
+        if state.open_receipts < count {
+            take_entry(&mut reader, &state.newest(), &aes, &mut state)?;
+        } else if !reader.rest.is_empty() {
+            count = take_pair(&mut reader, &mut state)?;
+        } else {
+            break;
+        }
     }
     Ok(state)
 }

@@ -5,6 +5,7 @@ mod lines;
 mod lists;
 mod pairs;
 mod shared;
+mod steps;
 
 use std::ops::Range;
 
@@ -97,7 +98,12 @@ pub fn round(compare: &mut Compare, seed: u64, number: u64) -> Compared<()> {
     round.lists_by_design()?;
     round.list_with_the_start()?;
     round.lists_among_calls()?;
-    round.list_by_hand()
+    round.list_by_hand()?;
+    round.heads()?;
+    for _ in 0..8 {
+        round.calls_and_their_steps()?;
+    }
+    round.steps_by_design()
 }
 
 /// A journal that a list of calls wrote, under what, and the receipts in it.
@@ -348,7 +354,7 @@ impl Round<'_> {
     ) -> Compared<Accepted> {
         journal.truncate(state_of(state).journal_length as usize);
         let mut taken = self.garbage(STATE);
-        let answer = self.compare.take_over(&journal, &settings.key, settings.width as usize, &mut taken)?;
+        let answer = self.taken(&journal, &settings.key, settings.width as usize, &mut taken)?;
         demand(answer.number == 0, "the journal of a list is accepted", &journal)?;
         demand(taken == state, "the state taken over is the one of the list", &journal)?;
         let accepted = Accepted { settings, journal, receipts };
@@ -403,16 +409,18 @@ impl Round<'_> {
     }
 
     /// Writes an accepted journal again, pair by pair and entry by entry, as demand 3 says: a twin register changes to each
-    /// later serial and issues what Read gives of each receipt.
-    fn written_again(&mut self, accepted: &Accepted) -> Compared<()> {
+    /// later serial and issues what Read gives of each receipt. Returns the states that Open and each of these calls left.
+    fn written_again(&mut self, accepted: &Accepted) -> Compared<Vec<Vec<u8>>> {
         let mut journal = self.garbage(accepted.journal.len());
         let mut state = [0; STATE];
         self.compare.open(&settings_bytes(&accepted.settings), &mut journal, &mut state)?;
+        let mut after = vec![state.to_vec()];
         let mut receipts = accepted.receipts.iter();
         for (which, (serial, forms)) in accepted.pairs().iter().enumerate() {
             if which > 0 {
                 let number = self.compare.change(&mut state, serial, &mut journal)?;
                 demand(number == 0, "a serial of an accepted journal is changed to", &accepted.journal)?;
+                after.push(state.to_vec());
             }
             let settings = self.settings_said(&state, which)?;
             demand(settings == settings_bytes(&accepted.settings_with(serial)), "a pair has its settings", &state)?;
@@ -420,13 +428,15 @@ impl Round<'_> {
                 let (details, signature) = self.read_back(&settings, form, given)?;
                 let number = self.compare.issue(&mut state, &details, &signature, &mut journal)?;
                 demand(number == 0, "a receipt of an accepted journal is issued", &accepted.journal)?;
+                after.push(state.to_vec());
             }
         }
         demand(accepted.forms().len() == accepted.receipts.len(), "a receipt has one entry", &accepted.journal)?;
         demand(journal == accepted.journal, "the journal written again is the same", &accepted.journal)?;
         let mut taken = self.garbage(STATE);
-        let answer = self.compare.take_over(&journal, &accepted.settings.key, accepted.width(), &mut taken)?;
-        demand(answer.number == 0 && taken == state, "the state after writing again is the same", &journal)
+        let answer = self.taken(&journal, &accepted.settings.key, accepted.width(), &mut taken)?;
+        demand(answer.number == 0 && taken == state, "the state after writing again is the same", &journal)?;
+        Ok(after)
     }
 
     /// What Read gives of a receipt, which must be what Issue was given.
@@ -517,7 +527,7 @@ impl Round<'_> {
 
     fn take_over(&mut self, accepted: &Accepted, journal: &[u8]) -> Compared<()> {
         let mut state = self.garbage(STATE);
-        self.compare.take_over(journal, &accepted.settings.key, accepted.width(), &mut state)?;
+        self.taken(journal, &accepted.settings.key, accepted.width(), &mut state)?;
         Ok(())
     }
 
@@ -527,17 +537,17 @@ impl Round<'_> {
         let key = accepted.settings.key;
         for width in [5, 6, 7, 8, sample::bad_width(&self.random) as usize] {
             let mut state = self.garbage(STATE);
-            self.compare.take_over(journal, &key, width, &mut state)?;
+            self.taken(journal, &key, width, &mut state)?;
         }
         let mut other = key;
         other[self.random.below(32)] ^= 1 << self.random.below(8);
         let mut state = self.garbage(STATE);
-        self.compare.take_over(journal, &other, accepted.width(), &mut state)?;
+        self.taken(journal, &other, accepted.width(), &mut state)?;
         let wrong = self.random.pick(&[0, 1, 31, 33]);
-        self.compare.take_over(journal, &vec![9; wrong], accepted.width(), &mut state)?;
+        self.taken(journal, &vec![9; wrong], accepted.width(), &mut state)?;
         let mut state = self.other_length(&state);
         let width = self.random.pick(&[accepted.width(), 4]);
-        self.compare.take_over(journal, &key, width, &mut state)?;
+        self.taken(journal, &key, width, &mut state)?;
         Ok(())
     }
 

@@ -150,6 +150,51 @@ fn long_list() {
 }
 
 #[test]
+fn steps_accepted() {
+    vectors::steps::steps_accepted(&Library);
+}
+
+#[test]
+fn steps_of_the_vectors() {
+    vectors::steps::steps_of_the_vectors(&Library);
+}
+
+#[test]
+fn steps_refused() {
+    vectors::steps::steps_refused(&Library);
+}
+
+#[test]
+fn steps_under_the_state() {
+    vectors::steps::steps_under_the_state(&Library);
+}
+
+#[test]
+fn steps_by_the_count() {
+    vectors::steps::steps_by_the_count(&Library);
+}
+
+#[test]
+fn steps_read_no_more() {
+    vectors::steps::steps_read_no_more(&Library);
+}
+
+#[test]
+fn steps_from_bad_states() {
+    vectors::steps::steps_from_bad_states(&Library);
+}
+
+#[test]
+fn heads_checked() {
+    vectors::steps::heads_checked(&Library);
+}
+
+#[test]
+fn month_by_month() {
+    vectors::steps::month_by_month(&Library);
+}
+
+#[test]
 fn read_by_hand() {
     vectors::read_by_hand(&Library);
 }

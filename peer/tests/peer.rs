@@ -159,6 +159,51 @@ fn long_list() {
 }
 
 #[test]
+fn steps_accepted() {
+    vectors::steps::steps_accepted(&Peer);
+}
+
+#[test]
+fn steps_of_the_vectors() {
+    vectors::steps::steps_of_the_vectors(&Peer);
+}
+
+#[test]
+fn steps_refused() {
+    vectors::steps::steps_refused(&Peer);
+}
+
+#[test]
+fn steps_under_the_state() {
+    vectors::steps::steps_under_the_state(&Peer);
+}
+
+#[test]
+fn steps_by_the_count() {
+    vectors::steps::steps_by_the_count(&Peer);
+}
+
+#[test]
+fn steps_read_no_more() {
+    vectors::steps::steps_read_no_more(&Peer);
+}
+
+#[test]
+fn steps_from_bad_states() {
+    vectors::steps::steps_from_bad_states(&Peer);
+}
+
+#[test]
+fn heads_checked() {
+    vectors::steps::heads_checked(&Peer);
+}
+
+#[test]
+fn month_by_month() {
+    vectors::steps::month_by_month(&Peer);
+}
+
+#[test]
 fn read_by_hand() {
     vectors::read_by_hand(&Peer);
 }

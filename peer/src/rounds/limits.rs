@@ -53,7 +53,7 @@ impl Round<'_> {
         let mut journal = Journal::with(&settings, &[start, (details, sample::signature(&self.random))]);
 
         let (bytes, number) = (journal.bytes(), if good { 0 } else { 16 });
-        let taken = self.compare.take_over(&bytes, &settings.key, settings.width as usize, &mut [0x5a; STATE])?;
+        let taken = self.taken(&bytes, &settings.key, settings.width as usize, &mut [0x5a; STATE])?;
         demand(taken.number == number, "an amount is taken over up to the limit", &bytes)?;
         let form = journal.entry(1).form();
         let read =
@@ -159,7 +159,7 @@ impl Round<'_> {
         }
         journal.truncate(state_of(&state).journal_length as usize);
         let mut taken = self.garbage(STATE);
-        let answer = self.compare.take_over(&journal, &settings.key, settings.width as usize, &mut taken)?;
+        let answer = self.taken(&journal, &settings.key, settings.width as usize, &mut taken)?;
         demand(answer.number == 0 && taken == state, "the longest receipt is taken over", &journal)?;
         Ok(Accepted { settings, journal, receipts })
     }

@@ -22,12 +22,12 @@ pub(super) fn used_serials(state: &State) -> Vec<Vec<u8>> {
 }
 
 /// What Change appends for a serial: its section, and a receipts count of 0.
-fn pair_bytes(serial: &[u8]) -> Vec<u8> {
+pub(super) fn pair_bytes(serial: &[u8]) -> Vec<u8> {
     [&(serial.len() as u32).to_be_bytes()[..], serial, &[0; 4]].concat()
 }
 
 /// The state that Change leaves.
-fn changed_state(state: &State, serial: &[u8]) -> State {
+pub(super) fn changed_state(state: &State, serial: &[u8]) -> State {
     let mut after = *state;
     after.serials[used_serials(state).len()] = Name::of(serial);
     after.journal_length += pair_bytes(serial).len() as u64;
@@ -38,7 +38,7 @@ fn changed_state(state: &State, serial: &[u8]) -> State {
 
 /// A journal of several pairs, made of parts, its settings, and the receipts that it was made of.
 #[derive(Clone)]
-struct Design {
+pub(super) struct Design {
     settings: Settings,
     journal: Journal,
     given: Vec<Given>,
@@ -65,7 +65,7 @@ impl Design {
     }
 
     /// As a list of calls writes it.
-    fn accepted(&self) -> Accepted {
+    pub(super) fn accepted(&self) -> Accepted {
         Accepted { settings: self.settings, journal: self.journal.bytes(), receipts: self.given.clone() }
     }
 
@@ -447,7 +447,7 @@ impl Round<'_> {
     }
 
     /// A valid journal of so many pairs, with these numbers of receipts in them.
-    fn designed(&self, receipts: &[usize]) -> Design {
+    pub(super) fn designed(&self, receipts: &[usize]) -> Design {
         let settings = sample::settings(&self.random);
         let serials = sample::serials(&self.random, settings.serial(), receipts.len());
         let given = self.receipts_in_a_row(receipts.iter().sum());
@@ -474,14 +474,14 @@ impl Round<'_> {
     }
 
     /// Any numbers of receipts for so many pairs.
-    fn some_receipts(&self, pairs: usize) -> Vec<usize> {
+    pub(super) fn some_receipts(&self, pairs: usize) -> Vec<usize> {
         (0..pairs).map(|_| self.random.pick(&[0, 1, 1, 2])).collect()
     }
 
     fn answered_with(&mut self, design: &Design, bytes: &[u8], number: u32, index: usize, what: &str) -> Compared<()> {
         let Settings { key, width, .. } = design.settings;
         let mut state = self.garbage(STATE);
-        let taken = self.compare.take_over(bytes, &key, width as usize, &mut state)?;
+        let taken = self.taken(bytes, &key, width as usize, &mut state)?;
         demand(taken == TakenOver { number, index: index as u32 }, what, bytes)
     }
 
@@ -517,8 +517,8 @@ impl Round<'_> {
         let bytes = design.journal.bytes();
         let Settings { key, width, .. } = design.settings;
         let mut state = self.garbage(STATE);
-        let taken = self.compare.take_over(&bytes, &key, width as usize, &mut state)?;
-        demand(taken == TakenOver { number: 0, index: 0 }, "a journal of pairs is accepted", &bytes)?;
+        let taken = self.taken(&bytes, &key, width as usize, &mut state)?;
+        demand(taken == TakenOver::DONE, "a journal of pairs is accepted", &bytes)?;
         let held = state_of(&state);
         let last = pair_places(&bytes).pop().expect("a pair");
         let numbers = (held.receipts as usize, held.open_receipts as usize, held.journal_length as usize);
@@ -609,8 +609,7 @@ impl Round<'_> {
         for pair in &pairs {
             for cut in pair.start.saturating_sub(3)..=(pair.count + 8).min(journal.len()) {
                 let mut state = self.garbage(STATE);
-                let taken =
-                    self.compare.take_over(&journal[..cut], &settings.key, settings.width as usize, &mut state)?;
+                let taken = self.taken(&journal[..cut], &settings.key, settings.width as usize, &mut state)?;
                 demand(
                     taken == answer_to_cut(&pairs, cut),
                     "a journal is accepted up to the end of a pair",
@@ -633,7 +632,7 @@ impl Round<'_> {
         }
         let mut shorter = bytes.clone();
         shorter[places.start..places.start + 4].copy_from_slice(&(length - 1).to_be_bytes());
-        self.compare.take_over(&shorter, &design.settings.key, design.settings.width as usize, &mut [0x5a; STATE])?;
+        self.taken(&shorter, &design.settings.key, design.settings.width as usize, &mut [0x5a; STATE])?;
         let mut foreign = bytes.clone();
         foreign[places.start + 4 + self.random.below(length as usize)] = sample::no_serial_byte(&self.random);
         self.answered_with(design, &foreign, 21, index, "a serial with a foreign letter gets 21")

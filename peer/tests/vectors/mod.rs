@@ -1,5 +1,7 @@
 //! The vectors, published ones and those of the peer, asked of either side through the interface.
 
+pub mod steps;
+
 use peer::calls::{Calls, Listed, TakenOver, Written};
 use peer::code::LONGEST_CODE;
 use peer::crypto::Aes256;
@@ -551,7 +553,7 @@ pub fn changes_by_hand(side: &dyn Calls) {
     assert_eq!(held[439..447], (third as u64 - 4).to_be_bytes());
     assert_serials(side, &held, &[b"2a", b"2b", b"c0ffee"]);
     let (journal, mut taken) = (&journal[..side.journal_length(&held)], [0xaa; STATE]);
-    assert_eq!(side.take_over(journal, &by_hand().key, 5, &mut taken), TakenOver { number: 0, index: 0 });
+    assert_eq!(side.take_over(journal, &by_hand().key, 5, &mut taken), TakenOver::DONE);
     assert_eq!(taken, held);
 }
 
@@ -684,7 +686,7 @@ pub fn lists_by_hand(side: &dyn Calls) {
     let next = assert_entries(side, &settings, &second, &journal[length + 10..]);
     assert_eq!(length + 10 + next, side.journal_length(&held));
     let (journal, mut taken) = (&journal[..side.journal_length(&held)], [0xaa; STATE]);
-    assert_eq!(side.take_over(journal, &by_hand().key, 5, &mut taken), TakenOver { number: 0, index: 0 });
+    assert_eq!(side.take_over(journal, &by_hand().key, 5, &mut taken), TakenOver::DONE);
     assert_eq!(taken, held);
 }
 

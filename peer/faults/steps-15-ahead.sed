@@ -1,0 +1,2 @@
+# src/register.rs: a check asks first whether all entries of the open section are there
+/^(pub )?fn check_steps\(/,/^}/ s/^    for _ in 0\.\.steps \{/    let mut ahead = Reader { rest: reader.rest };\n    for more in 0..count - state.open_receipts {\n        if steps > 0 \&\& ahead.entry().is_none() {\n            return Err(Refused { number: 15, index: state.receipts + more });\n        }\n        if steps == 0 || more > 100 {\n            break;\n        }\n    }\n&/

@@ -1,0 +1,2 @@
+# src/register.rs: a change of the certificate is no step
+/^(pub )?fn check_steps\(/,/^}/ { s/^    for _ in 0\.\.steps \{/    let mut left = steps;\n    while left > 0 {\n        left -= 1;/; s/^            count = take_pair\(.*/&\n            left = left.saturating_add(1);/ }

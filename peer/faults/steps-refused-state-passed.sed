@@ -1,0 +1,2 @@
+# src/calls.rs: a refused check returns the state after the steps that passed
+/fn check_steps\(&self, .* -> TakenOver \{/,/^    }/ s/Err\(refused\) => refused\.into\(\),/Err(refused) => {\n                let mut passed = state_of(state);\n                while let Ok(next) = register::check_steps(\&passed, journal, 1) {\n                    passed = next;\n                }\n                if refused.number != 6 {\n                    state.copy_from_slice(\&state_bytes(\&passed));\n                }\n                refused.into()\n            }/
