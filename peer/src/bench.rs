@@ -178,14 +178,14 @@ impl Work {
         self.journal.len()
     }
 
-    /// The same in parts: the first call, and checks of a thousand steps up to the end of the journal; its bytes.
-    fn check_steps(&mut self, side: &dyn Calls) -> usize {
+    /// The same in parts: the first call, and checks of so many steps up to the end of the journal; its bytes.
+    fn check_steps(&mut self, side: &dyn Calls, steps: usize) -> usize {
         let mut state = [0; STATE];
         assert_eq!(side.check_head(&self.journal, &KEY, WIDTH, &mut state), 0);
         let mut before = 0;
         while before != side.journal_length(&state) {
             before = side.journal_length(&state);
-            assert_eq!(side.check_steps(&mut state, &self.journal, 1000).number, 0);
+            assert_eq!(side.check_steps(&mut state, &self.journal, steps).number, 0);
         }
         assert_eq!(state, self.state);
         self.journal.len()
@@ -246,7 +246,10 @@ impl Work {
             "issue-list" => Some(self.issue_list(side)),
             "prepare" => Some(self.prepare(side)),
             "take-over" => Some(self.take_over(side)),
-            "check-steps" => Some(self.check_steps(side)),
+            "check-1" => Some(self.check_steps(side, 1)),
+            "check-10" => Some(self.check_steps(side, 10)),
+            "check-100" => Some(self.check_steps(side, 100)),
+            "check-1000" => Some(self.check_steps(side, 1000)),
             "code" => Some(self.code(side)),
             "read" => Some(self.read(side)),
             "line" => Some(self.line(side)),
@@ -337,7 +340,7 @@ pub fn run() {
                 "line",
                 "unline",
                 "read",
-                "check-steps",
+                "check-1000",
                 "take-over",
             ]
         } else {

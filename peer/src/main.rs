@@ -16,7 +16,7 @@ use peer::rounds::round;
 const USAGE: &str = "usage: peer [--minutes N | --rounds N | --round R] [--seed S]
        peer --bench
        peer --work CALL library|peer RECEIPTS [REPEATS]
-CALL: issue|issue-failed|issue-list|prepare|take-over|check-steps|code|line|unline|read";
+CALL: issue|issue-failed|issue-list|prepare|take-over|check-1|check-10|check-100|check-1000|code|line|unline|read";
 
 /// How long to compare.
 enum Length {
