@@ -23,6 +23,7 @@ pub mod Lists
 pub mod OneReading
 pub mod OpenCalls
 pub mod Pairs
+pub mod PartPassed
 pub mod PartPlaces
 pub mod PartQuestions
 pub mod PartReads

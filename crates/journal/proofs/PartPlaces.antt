@@ -17,7 +17,7 @@ use Rattle.journal.specs.Head.{headSettings, startThere, pairStart}
 use Rattle.journal.specs.Step.{fresh}
 use Rattle.journal.specs.Checking.{stopped, full, oneStep, steps, accepted, headNumber, checkHead, takeOver}
 use Rattle.journal.specs.Parts.{handedBack, partAnswer, checkSteps, checksAfter, checkInParts, total}
-use Rattle.journal.specs.PartLaws.{SameAnswer, StateAfterSteps, GrownJournalGoesOn, LostStateIsFound}
+use Rattle.journal.specs.PartLaws.{SameAnswer, RefusalIsTakeOvers, StateAfterSteps, GrownJournalGoesOn, LostStateIsFound}
 use Rattle.journal.specs.Valid.{Owner, Pair, settingsFor, texts, pairTexts, ownerText, journalText, entriesIn, serialsOf, stateAfter, Valid}
 use Rattle.journal.specs.FirstNo.{SoFar}
 use Rattle.journal.specs.declared.state.State.{State}
@@ -29,7 +29,7 @@ use Rattle.journal.proofs.Accepting.{Work, valid-work, valid-taken, bla
 use Rattle.journal.proofs.Placing.{names-split}
 use Rattle.journal.proofs.Pairs.{pairs-append, last-text, last-begun}
 use Rattle.journal.proofs.FarPairs.{Far, far-of, stateThere, Stands, stands, Reach, reach}
-use Rattle.journal.proofs.JournalStates.{last-of, state-is, state-of-journal}
+use Rattle.journal.proofs.JournalStates.{last-of, state-is}
 use Rattle.journal.proofs.Stepping.{full-yes, end-none, idle, refused-step}
 use Rattle.journal.proofs.CheckCalls.{Passed, passed}
 use Rattle.journal.proofs.PartSteps.{Ready, ready-step, ready-steps, steps-zero, turn, no-steps, steps-add, key-step, key-steps, check-ready, part-yes, part-no, part-number, accepted-number, accepted-state, handed-number, checks-none, checks-on, checks-stuck, checks-steps, total-more, total-none, start-ready, parts-passed, steps-are-take-over}
@@ -41,7 +41,7 @@ count-one : (es : List Entry) → length (es ++ []) ≡ length es
 count-one es = ap length (append-nil es)
 
 -- as many as there are entries, and one for each pair but the first
-steps-counted : (ps : List Pair) (p : Pair) → length (entriesIn (ps ++ (p ∷ []))) + length ps ≡ stepsOf ps + length (p .entries)
+pub steps-counted : (ps : List Pair) (p : Pair) → length (entriesIn (ps ++ (p ∷ []))) + length ps ≡ stepsOf ps + length (p .entries)
 unfolding entriesIn stepsOf
 steps-counted [] p = omega (arith, count-one (p .entries))
 steps-counted (x ∷ ps) p = omega (arith, length-append (x .entries) (entriesIn (ps ++ (p ∷ []))), steps-counted ps p)
@@ -57,7 +57,7 @@ zero-questions : (j : List ℕ) (n : ℕ) {key : List ℕ} {c : ℕ} {st : State
 unfolding headNumber ask
 zero-questions j n r = rw (r .width, r .good)
 
-fresh-key : (j key : List ℕ) (n : ℕ) → fresh (headSettings j) n key .key ≡ key
+pub fresh-key : (j key : List ℕ) (n : ℕ) → fresh (headSettings j) n key .key ≡ key
 unfolding fresh
 fresh-key j key n = refl
 
@@ -91,6 +91,10 @@ state-after-steps j key n o ps p k rest b s ns e =
     let c = stepsOf ps + length (p .entries) in
     parts-there j key n c (stateThere o key n ps p) b (reach f) ns (e ∙ steps-counted ps p) ∙ ap accepted (state-is key n o (ps ++ (p ∷ [])) (f .work))
 
+total-last : (counts : List ℕ) (d : ℕ) → total (counts ++ (d ∷ [])) ≡ total counts + d
+total-last [] d = omega (arith, total-more d [], total-none)
+total-last (c ∷ counts) d = omega (arith, total-more c (counts ++ (d ∷ [])), total-more c counts, total-last counts d)
+
 -- ---- in a journal that has grown
 
 -- a check, and then those after it
@@ -110,15 +114,22 @@ unfolding checkInParts
 checks-parts j key n m ns st e = parts-append (checkHead j key n) j (m ∷ []) ns ∙ ap (λ (t : TakenOver). checksAfter t j ns) e
 
 pub grown-journal-goes-on : GrownJournalGoesOn
-grown-journal-goes-on j key n v ps p q grown k rest b s ns l =
-    let o = v .owner in
+grown-journal-goes-on grown key n o ps p k rest b s counts l =
     let m = length (entriesIn (ps ++ (p ∷ []))) + length ps in
     let e : total (m ∷ []) ≡ m = omega (arith, total-more m [], total-none) in
     let t = state-after-steps grown key n o ps p k rest b s (m ∷ []) e in
-    let a : takeOver j key n ≡ accepted (stateAfter o key n (ps ++ (p ∷ []))) = state-of-journal j key n v ∙ ap (λ (x : List Pair). accepted (stateAfter o key n x)) q in
-    let h : length grown ≤ total (m ∷ ns) = omega (arith, total-more m ns, l) in
-    subst (λ (x : TakenOver). SameAnswer x (takeOver grown key n)) (checks-parts grown key n m ns (stateAfter o key n (ps ++ (p ∷ []))) t ∙ ap (λ (x : TakenOver). checksAfter x grown ns) (sym a))
-    (steps-are-take-over grown key n b (m ∷ ns) h)
+    let h : length grown ≤ total (m ∷ counts) = omega (arith, total-more m counts, l) in
+    subst (λ (x : TakenOver). SameAnswer x (takeOver grown key n)) (checks-parts grown key n m counts (stateAfter o key n (ps ++ (p ∷ []))) t)
+    (steps-are-take-over grown key n b (m ∷ counts) h)
+
+-- ---- a refusal, however few the steps
+
+pub refusal-is-take-overs : RefusalIsTakeOvers
+unfolding checkInParts
+refusal-is-take-overs j key n b counts h =
+    let d = length j in
+    let e = parts-append (checkHead j key n) j counts (d ∷ []) ∙ checks-stuck (checksAfter (checkHead j key n) j counts) j (d ∷ []) h in
+    subst (λ (x : TakenOver). SameAnswer x (takeOver j key n)) e (steps-are-take-over j key n b (counts ++ (d ∷ [])) (omega (arith, total-last counts d)))
 
 -- ---- one step a check
 

@@ -15,11 +15,11 @@ use Rattle.primitives.proofs.Rows.{true-is-not-false, ask-no, ifZero-yes}
 use Rattle.receipt.specs.declared.settings.Settings.{Settings}
 use Rattle.journal.specs.Head.{headSettings, headGood, headLength, startThere, serialAt, textAt}
 use Rattle.journal.specs.State.{unopened}
-use Rattle.journal.specs.Step.{fresh, renewed, renewNumber}
+use Rattle.journal.specs.Step.{fresh, renewed, renewNumber, sound}
 use Rattle.journal.specs.Opening.{openNumber, opened}
-use Rattle.journal.specs.Checking.{contextNumber, textNumber, entryNumber, stopped, startNumber, full, oneStep, steps, refused, accepted, checkHead}
+use Rattle.journal.specs.Checking.{contextNumber, textNumber, entryNumber, stopped, startNumber, full, oneStep, steps, refused, accepted, checkHead, stepChecked}
 use Rattle.journal.specs.Parts.{ready, handedBack, partAnswer, checkSteps}
-use Rattle.journal.specs.PartLaws.{HeadAlone, HeadIsReadAlone, FreshIsOpened, SixIsNotReady, AfterTheLast, OnlyAsks21}
+use Rattle.journal.specs.PartLaws.{HeadAlone, HeadIsReadAlone, FreshIsOpened, OneStepIsCheckStep, SixIsNotReady, AfterTheLast, OnlyAsks21}
 use Rattle.journal.specs.FirstNo.{Headed}
 use Rattle.journal.specs.declared.state.State.{State}
 use Rattle.journal.specs.declared.state.Opened.{Opened}
@@ -31,7 +31,8 @@ use Rattle.journal.proofs.FirstNo.{bool-no}
 use Rattle.journal.proofs.Stepping.{end-none, entry-refused, start-refused, entry-passed, start-passed, idle, refused-step}
 use Rattle.journal.proofs.CheckCalls.{head-width, head-bad, head-fresh}
 use Rattle.journal.proofs.OpenCalls.{open-zero}
-use Rattle.journal.proofs.PartSteps.{ready-true, check-ready, check-six, part-yes, part-no, part-number, handed-number, turn, stuck, no-steps}
+use Rattle.journal.proofs.ReadBySteps.{sound-here}
+use Rattle.journal.proofs.PartSteps.{Ready, ready-true, accepted-number, accepted-state, handed-state, check-ready, check-six, part-yes, part-no, part-number, handed-number, turn, stuck, no-steps}
 
 number-21 : (st : State) (j : List ℕ) → startThere j (st .length) ≡ false → startNumber st j ≡ 21
 unfolding startNumber
@@ -104,6 +105,57 @@ six-is-not-ready st j n = (λ e. bool-no (ready st j) (not-six e), check-six st 
         let x = steps (keySchedule (st .key)) n st j in
         steps-six (keySchedule (st .key)) j n st (sym (part-number st x) ∙ (sym (ap (λ (t : TakenOver). t .number) (check-ready st j n (ready-true st j r))) ∙ e))
 
+-- ---- one step
+
+stopped-state : (k : List (List ℕ)) (st : State) (j : List ℕ) → (oneStep k st j .number ≡ 0 → ⊥) → oneStep k st j .state ≡ st
+unfolding stopped
+stopped-state k st j h = go (full st j) (leb (length j) (st .length)) refl refl
+  where
+    entry : full st j ≡ false → (m : ℕ) → entryNumber k st j ≡ m → oneStep k st j .state ≡ st
+    entry f zero z = absurd (h (ap (λ (c : Checked). c .number) (entry-passed k st j f z)))
+    entry f (suc m) z = ap (λ (c : Checked). c .state) (entry-refused k st j f (λ q. omega (arith, q, z)))
+
+    start : full st j ≡ true → st .length < length j → (m : ℕ) → startNumber st j ≡ m → oneStep k st j .state ≡ st
+    start f l zero z = absurd (h (ap (λ (c : Checked). c .number) (start-passed k st j f l z)))
+    start f l (suc m) z = ap (λ (c : Checked). c .state) (start-refused k st j f l (λ q. omega (arith, q, z)))
+
+    go : (t u : Bool) → full st j ≡ t → leb (length j) (st .length) ≡ u → oneStep k st j .state ≡ st
+    go false u f q = entry f (entryNumber k st j) refl
+    go true true f q = ap (λ (c : Checked). c .state) (end-none k st j f (leb-true _ _ q))
+    go true false f q = start f (leb-false _ _ q) (startNumber st j) refl
+
+step-checked : (k : List (List ℕ)) (st : State) (j : List ℕ) → sound st (length j) ≡ true → stepChecked k st j ≡ oneStep k st j
+unfolding stepChecked
+step-checked k st j h = rw h
+
+pub one-step-is-check-step : OneStepIsCheckStep
+one-step-is-check-step st j h = go (oneStep k st j .number) refl
+  where
+    k : List (List ℕ)
+    k = keySchedule (st .key)
+
+    r : Ready st j
+    r = ready-true st j h
+
+    c : stepChecked k st j ≡ oneStep k st j
+    c = step-checked k st j (sound-here st j (r .alone) (r .inside))
+
+    go : (m : ℕ) → oneStep k st j .number ≡ m → (checkSteps st j 1 .number ≡ stepChecked k st j .number) × (checkSteps st j 1 .state ≡ stepChecked k st j .state)
+    go zero z =
+        let s = oneStep k st j .state in
+        let x = turn k j 0 st z ∙ no-steps k j s in
+        let a = check-ready st j 1 r ∙ (ap (partAnswer st) x ∙ part-yes st (record { number = 0; state = s }) refl) in (
+          ap (λ (t : TakenOver). t .number) a ∙ (accepted-number s ∙ sym (ap (λ (y : Checked). y .number) c ∙ z)),
+          ap (λ (t : TakenOver). t .state) a ∙ (accepted-state s ∙ sym (ap (λ (y : Checked). y .state) c)),
+        )
+    go (suc m) z =
+        let x : Step = record { number = suc m; state = st } in
+        let q : suc m ≡ 0 → ⊥ = λ y. omega (arith, y) in
+        let a = check-ready st j 1 r ∙ (ap (partAnswer st) (stuck k j 0 st z) ∙ part-no st x q) in (
+          ap (λ (t : TakenOver). t .number) a ∙ (handed-number (suc m) (st .issued) st ∙ sym (ap (λ (y : Checked). y .number) c ∙ z)),
+          ap (λ (t : TakenOver). t .state) a ∙ (handed-state (suc m) (st .issued) st ∙ sym (ap (λ (y : Checked). y .state) c ∙ stopped-state k st j (λ y. omega (arith, y, z)))),
+        )
+
 -- ---- after the last entry
 
 -- bytes that start no pair
@@ -131,7 +183,7 @@ only-asks-21 st j r f = record { none-left = none; bytes-left = left }
 -- ---- the head alone
 
 module _ (j key : List ℕ) (n : ℕ) (b : AllBytes j) where
-  headed : headGood j ≡ true → Headed j (headSettings j) (countOf j) (drop (headLength (headSettings j)) j)
+  pub headed : headGood j ≡ true → Headed j (headSettings j) (countOf j) (drop (headLength (headSettings j)) j)
   headed g = record { typed = read-typed j b g; good = good-head j b g .good; few = read-few j b g; bytes = read-back j b g }
 
   good-of : (s : Settings) (k : ℕ) (more : List ℕ) → Headed j s k more → headGood j ≡ true
@@ -151,10 +203,10 @@ head-is-read-alone j key n b =
       good = λ w s k more h. fresh-headed j key n b w s k more h;
     }
 
-opened-fresh : (s : Settings) (key : List ℕ) (n room : ℕ) → openNumber s false n room ≡ 0 → opened s key false n room .state ≡ fresh s n key
+opened-fresh : (s : Settings) (key : List ℕ) (shared : Bool) (n room : ℕ) → openNumber s shared n room ≡ 0 → opened s key shared n room .state ≡ fresh s n key
 unfolding opened
-opened-fresh s key n room z = ifZero-yes _ _ z
+opened-fresh s key shared n room z = ifZero-yes _ _ z
 
 pub fresh-is-opened : FreshIsOpened
-fresh-is-opened j key n b s k more h room z =
-    fresh-headed j key n b (open-zero s false n room z .1) s k more h ∙ ap accepted (sym (opened-fresh s key n room z))
+fresh-is-opened j key n b s k more h shared room z =
+    fresh-headed j key n b (open-zero s shared n room z .1) s k more h ∙ ap accepted (sym (opened-fresh s key shared n room z))

@@ -496,11 +496,11 @@ module _ (j key : List ℕ) (n : ℕ) (b : AllBytes j) (p : Passed j key n) wher
       subst (λ (t : TakenOver). SameAnswer t (takeOver j key n)) (sym (parts-passed ns))
       (subst (SameAnswer (checksAfter (accepted start) j ns)) (sym (p .whole)) (same-both c (same-answers start x)))
 
-refused-number : (m i : ℕ) → refused m i .number ≡ m
+pub refused-number : (m i : ℕ) → refused m i .number ≡ m
 unfolding refused
 refused-number m i = refl
 
-parts-stopped : (j key : List ℕ) (n : ℕ) (ns : List ℕ) → (headNumber j n ≡ 0 → ⊥) → checkInParts j key n ns ≡ takeOver j key n
+pub parts-stopped : (j key : List ℕ) (n : ℕ) (ns : List ℕ) → (headNumber j n ≡ 0 → ⊥) → checkInParts j key n ns ≡ takeOver j key n
 unfolding checkInParts
 parts-stopped j key n ns h =
     let s = stopped-at j key n h in
@@ -532,11 +532,11 @@ unmoved st j m z l =
     go (on a b) g e = absurd (omega (arith, a, g, e, l))
 
 -- checks that were not refused made all their steps
-record Made (st : State) (j : List ℕ) (ns : List ℕ) (end : State) : Type 0 where
-  number : steps (keySchedule (st .key)) (total ns) st j .number ≡ 0
-  state : steps (keySchedule (st .key)) (total ns) st j .state ≡ end
+pub record Made (st : State) (j : List ℕ) (ns : List ℕ) (end : State) : Type 0 where
+  pub number : steps (keySchedule (st .key)) (total ns) st j .number ≡ 0
+  pub state : steps (keySchedule (st .key)) (total ns) st j .state ≡ end
 
-made : (ns : List ℕ) (st end : State) (j : List ℕ) → Ready st j → checksAfter (accepted st) j ns ≡ accepted end → Made st j ns end
+pub made : (ns : List ℕ) (st end : State) (j : List ℕ) → Ready st j → checksAfter (accepted st) j ns ≡ accepted end → Made st j ns end
 made ns st end j r e =
     let x = steps (keySchedule (st .key)) (total ns) st j in
     let a = checks-steps ns st j r in

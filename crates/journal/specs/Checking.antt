@@ -96,7 +96,7 @@ full st j = leb (countAt j (countPlaceNow st) 4) (st .since)
 unfoldable pub oneStep : List (List ℕ) → State → List ℕ → Checked
 oneStep schedule st j = cond (full st j) (endChecked st j) (placeChecked schedule st j)
 
--- what the states of a take-over keep, so that no step traps
+-- what the states of a take-over or a check keep, so that no step traps
 pub record Steady (st : State) (j : List ℕ) : Type 0 where
   pub serials : serialsGood (st .serials) ≡ true
   pub issued : st .issued ≤ st .last
@@ -115,7 +115,7 @@ steps schedule (suc n) st j =
 unfoldable pub refused : ℕ → ℕ → TakenOver
 refused number index = record { number = number; index = index; state = unopened }
 
--- the paper leaves the index of an accepted journal open; here it is 0
+-- an answer without a number; the paper leaves its index open, and here it is 0
 unfoldable pub accepted : State → TakenOver
 accepted st = record { number = 0; index = 0; state = st }
 

@@ -1,5 +1,5 @@
 -- "Checking month by month": the steps of Take over, counted, from a state on.
-use Prim.Native.Nat.{ℕ, _+_, zero, suc}
+use Prim.Native.Nat.{ℕ, _+_}
 use mathlib.Core.Bool.{Bool, cond, _&&_}
 use mathlib.Core.List.{List, [], _∷_}
 use lib.Dec.{leb}
@@ -29,20 +29,20 @@ partAnswer st s = ifZero (s .number) (accepted (s .state)) (handedBack (s .numbe
 -- "A check then starts from a state, reads the journal behind its length through a given number of steps and returns the state after them."
 -- Key and width are the state's
 unfoldable pub checkSteps : State → List ℕ → ℕ → TakenOver
-checkSteps st j n = cond (ready st j) (partAnswer st (steps (keySchedule (st .key)) n st j)) (handedBack 6 0 st)
+checkSteps st j count = cond (ready st j) (partAnswer st (steps (keySchedule (st .key)) count st j)) (handedBack 6 0 st)
 
 -- ---- several checks
 
 -- "all on the same journal and each from the state before it, up to the first refusal", after an answer
 unfoldable pub checksAfter : TakenOver → List ℕ → List ℕ → TakenOver
 checksAfter t j [] = t
-checksAfter t j (n ∷ ns) = ifZero (t .number) (checksAfter (checkSteps (t .state) j n) j ns) t
+checksAfter t j (count ∷ counts) = ifZero (t .number) (checksAfter (checkSteps (t .state) j count) j counts) t
 
 -- "the first call and these checks", with these step counts
 unfoldable pub checkInParts : List ℕ → List ℕ → ℕ → List ℕ → TakenOver
-checkInParts j key n ns = checksAfter (checkHead j key n) j ns
+checkInParts j key n counts = checksAfter (checkHead j key n) j counts
 
 -- the sum of step counts
 unfoldable pub total : List ℕ → ℕ
 total [] = 0
-total (n ∷ ns) = n + total ns
+total (count ∷ counts) = count + total counts

@@ -258,7 +258,7 @@ fn refused(number: u32, index: u32) -> TakenOver
     }
 }
 
-// The paper leaves the index of an accepted journal open; here it is 0.
+// An answer without a number. The paper leaves its index open; here it is 0.
 pub(crate) fn accepted(st: State) -> TakenOver
     ensures { λ r. ⌜ r ≡ accepted st ⌝ }
 {

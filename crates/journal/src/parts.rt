@@ -41,13 +41,13 @@ fn part_answer(st: State, s: Step) -> TakenOver
     accepted(after)
 }
 
-// Goes on from a state through n steps of Take over, under the key and the width of the state. 6, and then what the steps ask. Returns the
-// state after them; or the number, the receipts before that place and the state as given.
-pub fn check_steps(st: State, j: &[u8], n: usize) -> TakenOver
-    ensures { λ r. ⌜ r ≡ checkSteps st (now (j .entry)) n ⌝ }
+// Goes on from a state through so many steps of Take over, under the key and the width of the state. Asks 6, then what the steps ask. Returns
+// the state after them; or the number, the receipts before that place and the state as given.
+pub fn check_steps(st: State, j: &[u8], count: usize) -> TakenOver
+    ensures { λ r. ⌜ r ≡ checkSteps st (now (j .entry)) count ⌝ }
 {
     if !ready(st, j) {
         return handed_back(6, 0, st);
     }
-    part_answer(st, steps_from(st, n, j))
+    part_answer(st, steps_from(st, count, j))
 }

@@ -13,7 +13,7 @@ handed-back-requires : tie.Need-handed-back-requires
 handed-back-requires c κs = search needs
 
 returns : tie.Need-returns
-returns c = c .handed-back .ensures ∙ not-ready (c .before .before .before .before .args .st) (c .before .before .before .before .args .j .now) (c .before .before .before .before .args .n) (not-no _ _ (c .before .before .ready .ensures) (c .before .if1 .taken))
+returns c = c .handed-back .ensures ∙ not-ready (c .before .before .before .before .args .st) (c .before .before .before .before .args .j .now) (c .before .before .before .before .args .count) (not-no _ _ (c .before .before .ready .ensures) (c .before .if1 .taken))
 
 steps-from-requires : tie.Need-steps-from-requires
 steps-from-requires c κs = ready-steady (c .before .before .before .args .st) (c .before .before .before .args .j .now) (not-yes _ _ (c .before .ready .ensures) (c .if1 .left))
@@ -22,7 +22,7 @@ part-answer-requires : tie.Need-part-answer-requires
 part-answer-requires c κs = search needs
 
 returns-2 : tie.Need-returns-2
-returns-2 c = when-ready (c .before .before .before .before .before .args .st) (c .before .before .before .before .before .args .j .now) (c .before .before .before .before .before .args .n) (not-yes _ _ (c .before .before .before .ready .ensures) (c .before .before .if1 .left)) (c .before .steps-from .ensures) (c .part-answer .ensures)
+returns-2 c = when-ready (c .before .before .before .before .before .args .st) (c .before .before .before .before .before .args .j .now) (c .before .before .before .before .before .args .count) (not-yes _ _ (c .before .before .before .ready .ensures) (c .before .before .if1 .left)) (c .before .steps-from .ensures) (c .part-answer .ensures)
 
 pub check-steps-spec : {M : Type 1} → statement M
 check-steps-spec =
