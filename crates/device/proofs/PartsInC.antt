@@ -10,17 +10,19 @@ use lib.ListN.{length}
 use Rattle.primitives.specs.Bytes.{AllBytes}
 use Rattle.primitives.proofs.Rows.{ifZero-yes, ifZero-no}
 use Rattle.journal.specs.State.{unopened, TypedState}
-use Rattle.journal.specs.Checking.{accepted, checkHead}
+use Rattle.journal.specs.Checking.{accepted, checkHead, takeOver}
 use Rattle.journal.specs.Parts.{checkSteps, checksAfter, checkInParts, total}
+use Rattle.journal.specs.PartLaws.{SameAnswer}
 use Rattle.journal.specs.declared.state.State.{State}
 use Rattle.journal.specs.declared.state.TakenOver.{TakenOver}
 use Rattle.journal.proofs.Refusals.{refused-changes-nothing}
 use Rattle.journal.proofs.CheckCalls.{head-passed}
 use Rattle.journal.proofs.PartSteps.{accepted-number, accepted-state, went, checks-stuck, steps-are-take-over, end-is-seen}
+use Rattle.journal.proofs.PartPlaces.{refusal-is-take-overs}
 use Rattle.journal.proofs.TypedChecks.{checked-typed, head-typed}
 use Rattle.device.specs.Layout.{stateBytes, arrayOf, stateOf, kept}
 use Rattle.device.specs.Calls.{widthWith, takeOverAnswer, headAnswer, stepsAnswer}
-use Rattle.device.specs.PartLaws.{CheckedInC, headFromC, stepsFromC, checksFromC, inPartsFromC, TakenOverInC, ChecksAreTakeOverInC, EndIsSeenInC, RefusedCheckKeepsState}
+use Rattle.device.specs.PartLaws.{LeftByCheck, headFromC, stepsFromC, checksFromC, inPartsFromC, SameAsTakeOverInC, ChecksAreTakeOverInC, RefusalIsTakeOversInC, EndIsSeenInC, CheckOfState, StoredStateIsChecked, RefusedCheckKeepsState, RefusedHeadIsUnopened}
 use Rattle.device.proofs.Below.{head-index, in-parts-is, checks-none, checks-more}
 use Rattle.device.proofs.Sizes.{array-long, array-bytes, kept-all, take-six, take-answer}
 use Rattle.device.proofs.Slots.{typed-lengths}
@@ -30,7 +32,7 @@ use Rattle.device.proofs.PartCalls.{head-six, head-answer}
 
 -- ---- checks one after the other
 
-module _ (c : CheckedInC) (j : List ℕ) where
+module _ (c : LeftByCheck) (j : List ℕ) where
   none-left : checksFromC c j [] ≡ c
   unfolding checksFromC
   none-left = refl
@@ -49,7 +51,7 @@ module _ (c : CheckedInC) (j : List ℕ) where
 accepted-whole : {t : TakenOver} (st : State) → t ≡ accepted st → t ≡ accepted (t .state)
 accepted-whole st e = e ∙ ap accepted (sym (ap (λ (x : TakenOver). x .state) e ∙ accepted-state st))
 
-record Same (c : CheckedInC) (t : TakenOver) : Type 0 where
+record Same (c : LeftByCheck) (t : TakenOver) : Type 0 where
   number : c .number ≡ t .number
   index : c .index ≡ t .index
   bytes : c .state ≡ stateBytes (t .state)
@@ -57,11 +59,11 @@ record Same (c : CheckedInC) (t : TakenOver) : Type 0 where
   typed : t .number ≡ 0 → TypedState (t .state)
 
 -- the next call reads that state
-is-read : {c : CheckedInC} {t : TakenOver} → Same c t → t .number ≡ 0 → stateOf (c .state) ≡ t .state
+is-read : {c : LeftByCheck} {t : TakenOver} → Same c t → t .number ≡ 0 → stateOf (c .state) ≡ t .state
 is-read {t = t} s z = ap stateOf (s .bytes) ∙ state-is-read (t .state) (s .typed z)
 
 module _ (j : List ℕ) (b : AllBytes j) (small : length j < 18446744073709551616) where
-  same-steps : (c : CheckedInC) (t : TakenOver) (n : ℕ) → t .number ≡ 0 → Same c t → Same (stepsFromC (c .state) j n) (checkSteps (t .state) j n)
+  same-steps : (c : LeftByCheck) (t : TakenOver) (n : ℕ) → t .number ≡ 0 → Same c t → Same (stepsFromC (c .state) j n) (checkSteps (t .state) j n)
   unfolding stepsFromC stepsAnswer
   same-steps c t n z s =
       let e = is-read s z in
@@ -74,18 +76,18 @@ module _ (j : List ℕ) (b : AllBytes j) (small : length j < 1844674407370955161
         typed = λ q. checked-typed (t .state) j b small (s .typed z) n q;
       }
 
-  same-checks : (ns : List ℕ) (c : CheckedInC) (t : TakenOver) → Same c t → Same (checksFromC c j ns) (checksAfter t j ns)
-  same-checks [] c t s = subst (λ (x : CheckedInC). Same x (checksAfter t j [])) (sym (none-left c j)) (subst (Same c) (sym (checks-none t j)) s)
+  same-checks : (ns : List ℕ) (c : LeftByCheck) (t : TakenOver) → Same c t → Same (checksFromC c j ns) (checksAfter t j ns)
+  same-checks [] c t s = subst (λ (x : LeftByCheck). Same x (checksAfter t j [])) (sym (none-left c j)) (subst (Same c) (sym (checks-none t j)) s)
   same-checks (n ∷ ns) c t s = go (t .number) refl (λ z. same-checks ns (stepsFromC (c .state) j n) (checkSteps (t .state) j n) (same-steps c t n z s))
     where
       go : (m : ℕ) → t .number ≡ m → (t .number ≡ 0 → Same (checksFromC (stepsFromC (c .state) j n) j ns) (checksAfter (checkSteps (t .state) j n) j ns))
           → Same (checksFromC c j (n ∷ ns)) (checksAfter t j (n ∷ ns))
       go zero z rec =
-          subst (λ (x : CheckedInC). Same x (checksAfter t j (n ∷ ns))) (sym (goes-on c j n ns (s .number ∙ z)))
+          subst (λ (x : LeftByCheck). Same x (checksAfter t j (n ∷ ns))) (sym (goes-on c j n ns (s .number ∙ z)))
           (subst (Same (checksFromC (stepsFromC (c .state) j n) j ns)) (sym (checks-more t j n ns ∙ ifZero-yes _ _ z)) (rec z))
       go (suc m) z rec =
           let h : t .number ≡ 0 → ⊥ = λ q. omega (arith, q, z) in
-          subst (λ (x : CheckedInC). Same x (checksAfter t j (n ∷ ns))) (sym (ends c j (n ∷ ns) (λ q. h (sym (s .number) ∙ q))))
+          subst (λ (x : LeftByCheck). Same x (checksAfter t j (n ∷ ns))) (sym (ends c j (n ∷ ns) (λ q. h (sym (s .number) ∙ q))))
           (subst (Same c) (sym (checks-stuck t j (n ∷ ns) h)) s)
 
   -- from the head on, with a state's slice of 447 bytes
@@ -113,10 +115,9 @@ module _ (j : List ℕ) (b : AllBytes j) (small : length j < 1844674407370955161
     unfolding inPartsFromC
     same-parts ns = subst (Same (checksFromC (headFromC j key width state) j ns)) (sym (in-parts-is j k w ns)) (same-checks ns (headFromC j key width state) (checkHead j k w) same-head)
 
-    taken-over : (ns : List ℕ) → length j ≤ total ns → TakenOverInC j key width state ns
-    taken-over ns h =
+    taken-over : (ns : List ℕ) → SameAnswer (checkInParts j k w ns) (takeOver j k w) → SameAsTakeOverInC j key width state ns
+    taken-over ns p =
         let s = same-parts ns in
-        let p = steps-are-take-over j k w b ns h in
         let e = take-answer j key width (length state) l in
         record {
           number = s .number ∙ (p .number ∙ sym (ap (λ (x : TakenOver). x .number) e));
@@ -159,13 +160,13 @@ module _ (j key : List ℕ) (width : ℕ) (state : List ℕ) (h : length state �
   head-alone ns = ends (headFromC j key width state) j ns (λ z. omega (arith, z, six))
 
   parts-six : (ns : List ℕ) → inPartsFromC j key width state ns .number ≡ 6
-  parts-six ns = ap (λ (c : CheckedInC). c .number) (head-alone ns) ∙ six
+  parts-six ns = ap (λ (c : LeftByCheck). c .number) (head-alone ns) ∙ six
 
   parts-first : (ns : List ℕ) → inPartsFromC j key width state ns .index ≡ 0
   unfolding headFromC
-  parts-first ns = ap (λ (c : CheckedInC). c .index) (head-alone ns)
+  parts-first ns = ap (λ (c : LeftByCheck). c .index) (head-alone ns)
 
-  refused-both : (ns : List ℕ) → TakenOverInC j key width state ns
+  refused-both : (ns : List ℕ) → SameAsTakeOverInC j key width state ns
   refused-both ns =
       let e = take-six j key width (length state) h in
       let n = ap (λ (x : TakenOver). x .number) e in
@@ -180,9 +181,31 @@ module _ (j key : List ℕ) (width : ℕ) (state : List ℕ) (h : length state �
 pub checks-are-take-over-in-c : ChecksAreTakeOverInC
 checks-are-take-over-in-c j key width state ns b a small h = go (eqb (length state) 447) refl
   where
-    go : (t : Bool) → eqb (length state) 447 ≡ t → TakenOverInC j key width state ns
-    go true e = taken-over j b small key width state a (eqb-true (length state) 447 e) ns h
+    go : (t : Bool) → eqb (length state) 447 ≡ t → SameAsTakeOverInC j key width state ns
+    go true e = taken-over j b small key width state a (eqb-true (length state) 447 e) ns (steps-are-take-over j (arrayOf 32 key) (widthWith key width) b ns h)
     go false e = refused-both j key width state (eqb-false (length state) 447 e) ns
+
+pub refusal-is-take-overs-in-c : RefusalIsTakeOversInC
+refusal-is-take-overs-in-c j key width state ns b a small h = go (eqb (length state) 447) refl
+  where
+    go : (t : Bool) → eqb (length state) 447 ≡ t → SameAsTakeOverInC j key width state ns
+    go true e =
+        let l = eqb-true (length state) 447 e in
+        let s = same-parts j b small key width state a l ns in
+        taken-over j b small key width state a l ns (refusal-is-take-overs j (arrayOf 32 key) (widthWith key width) b ns (λ z. h (s .number ∙ z)))
+    go false e = refused-both j key width state (eqb-false (length state) 447 e) ns
+
+-- ---- one call
+
+pub stored-state-is-checked : StoredStateIsChecked
+unfolding stepsFromC stepsAnswer
+stored-state-is-checked st j n t =
+    let e = state-is-read st t in
+    record {
+      number = ap (λ (x : State). checkSteps x j n .number) e;
+      index = ap (λ (x : State). checkSteps x j n .index) e;
+      state = kept-all (stateBytes st) (checkSteps (stateOf (stateBytes st)) j n .state) (length-state st (typed-lengths t)) ∙ ap (λ (x : State). stateBytes (checkSteps x j n .state)) e;
+    }
 
 pub end-is-seen-in-c : EndIsSeenInC
 end-is-seen-in-c j key width state ns x m b a small z q y l = go (eqb (length state) 447) refl
@@ -200,13 +223,13 @@ end-is-seen-in-c j key width state ns x m b a small z q y l = go (eqb (length st
 
 -- ---- a refused call
 
-steps-refused : (state j : List ℕ) (n : ℕ) → AllBytes state → (stepsFromC state j n .number ≡ 0 → ⊥) → stepsFromC state j n .state ≡ state
+pub refused-check-keeps-state : RefusedCheckKeepsState
 unfolding stepsFromC stepsAnswer
-steps-refused state j n a h = ap (kept state) (refused-changes-nothing .checks (stateOf state) j n h) ∙ kept-as-it-was state a
+refused-check-keeps-state state j n a h = ap (kept state) (refused-changes-nothing .checks (stateOf state) j n h) ∙ kept-as-it-was state a
 
-head-refused : (j key : List ℕ) (width : ℕ) (state : List ℕ) → (headFromC j key width state .number ≡ 0 → ⊥) → headFromC j key width state .state ≡ kept state unopened
+pub refused-head-is-unopened : RefusedHeadIsUnopened
 unfolding headFromC
-head-refused j key width state h = go (eqb (length state) 447) refl
+refused-head-is-unopened j key width state h = go (eqb (length state) 447) refl
   where
     go : (t : Bool) → eqb (length state) 447 ≡ t → kept state (headAnswer j key width (length state) .state) ≡ kept state unopened
     go true q =
@@ -214,6 +237,3 @@ head-refused j key width state h = go (eqb (length state) 447) refl
         ap (λ (x : TakenOver). kept state (x .state)) e
         ∙ ap (kept state) (refused-changes-nothing .heads j (arrayOf 32 key) (widthWith key width) (λ z. h (ap (λ (x : TakenOver). x .number) e ∙ z)))
     go false q = ap (λ (x : TakenOver). kept state (x .state)) (head-six j key width (length state) (eqb-false (length state) 447 q))
-
-pub refused-check-keeps-state : RefusedCheckKeepsState
-refused-check-keeps-state = record { steps = steps-refused; heads = head-refused }

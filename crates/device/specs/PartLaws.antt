@@ -6,21 +6,22 @@ use mathlib.Core.List.{List, [], _∷_}
 use lib.ListN.{length}
 use Rattle.primitives.specs.Bytes.{AllBytes}
 use Rattle.primitives.specs.Questions.{ifZero}
-use Rattle.journal.specs.State.{unopened}
-use Rattle.journal.specs.Parts.{total}
-use Rattle.device.specs.Layout.{stateOf, kept}
+use Rattle.journal.specs.State.{unopened, TypedState}
+use Rattle.journal.specs.Parts.{checkSteps, total}
+use Rattle.journal.specs.declared.state.State.{State}
+use Rattle.device.specs.Layout.{stateBytes, stateOf, kept}
 use Rattle.device.specs.Calls.{takeOverAnswer, headAnswer, stepsAnswer}
 
 -- ---- what a C program has after a call
 
 -- what was returned, the index, and the bytes of the state
-pub record CheckedInC : Type 0 where
+pub record LeftByCheck : Type 0 where
   pub number : ℕ
   pub index : ℕ
   pub state : List ℕ
 
--- after ditgrux_check_head: it has no index, which is 0 here
-unfoldable pub headFromC : List ℕ → List ℕ → ℕ → List ℕ → CheckedInC
+-- after ditgrux_check_head: it gives no index; 0 stands for it
+unfoldable pub headFromC : List ℕ → List ℕ → ℕ → List ℕ → LeftByCheck
 headFromC journal key width state =
     record {
       number = headAnswer journal key width (length state) .number;
@@ -29,7 +30,7 @@ headFromC journal key width state =
     }
 
 -- after ditgrux_check_steps
-unfoldable pub stepsFromC : List ℕ → List ℕ → ℕ → CheckedInC
+unfoldable pub stepsFromC : List ℕ → List ℕ → ℕ → LeftByCheck
 stepsFromC state journal steps =
     record {
       number = stepsAnswer state journal steps .number;
@@ -38,44 +39,65 @@ stepsFromC state journal steps =
     }
 
 -- after calls of ditgrux_check_steps with these step counts, each from the bytes that the call before it left, up to the first refusal
-unfoldable pub checksFromC : CheckedInC → List ℕ → List ℕ → CheckedInC
+unfoldable pub checksFromC : LeftByCheck → List ℕ → List ℕ → LeftByCheck
 checksFromC c journal [] = c
-checksFromC c journal (n ∷ ns) = ifZero (c .number) (checksFromC (stepsFromC (c .state) journal n) journal ns) c
+checksFromC c journal (count ∷ counts) = ifZero (c .number) (checksFromC (stepsFromC (c .state) journal count) journal counts) c
 
 -- after ditgrux_check_head and these calls, all on the same journal
-unfoldable pub inPartsFromC : List ℕ → List ℕ → ℕ → List ℕ → List ℕ → CheckedInC
-inPartsFromC journal key width state ns = checksFromC (headFromC journal key width state) journal ns
+unfoldable pub inPartsFromC : List ℕ → List ℕ → ℕ → List ℕ → List ℕ → LeftByCheck
+inPartsFromC journal key width state counts = checksFromC (headFromC journal key width state) journal counts
 
 -- ---- the whole journal
 
 -- the calls return and write what ditgrux_take_over returns and writes
-pub record TakenOverInC (journal key : List ℕ) (width : ℕ) (state ns : List ℕ) : Type 0 where
-  pub number : inPartsFromC journal key width state ns .number ≡ takeOverAnswer journal key width (length state) .number
-  pub index : inPartsFromC journal key width state ns .index ≡ takeOverAnswer journal key width (length state) .index
+pub record SameAsTakeOverInC (journal key : List ℕ) (width : ℕ) (state counts : List ℕ) : Type 0 where
+  pub number : inPartsFromC journal key width state counts .number ≡ takeOverAnswer journal key width (length state) .number
+  pub index : inPartsFromC journal key width state counts .index ≡ takeOverAnswer journal key width (length state) .index
   -- where it returns 0, the very bytes that it writes
   pub written : takeOverAnswer journal key width (length state) .number ≡ 0
-      → inPartsFromC journal key width state ns .state ≡ kept state (takeOverAnswer journal key width (length state) .state)
+      → inPartsFromC journal key width state counts .state ≡ kept state (takeOverAnswer journal key width (length state) .state)
 
 -- "For every list of step counts, zeros among them, whose sum is at least the journal's length in bytes"; for keys and states of every length
 abbrev pub ChecksAreTakeOverInC : Type 0
 ChecksAreTakeOverInC =
-    (journal key : List ℕ) (width : ℕ) (state ns : List ℕ) → AllBytes journal → AllBytes key → length journal < 18446744073709551616
-    → length journal ≤ total ns → TakenOverInC journal key width state ns
+    (journal key : List ℕ) (width : ℕ) (state counts : List ℕ) → AllBytes journal → AllBytes key → length journal < 18446744073709551616
+    → length journal ≤ total counts → SameAsTakeOverInC journal key width state counts
 
 -- the end is seen sooner: if a check of one step or more returns 0 and leaves what ditgrux_journal_length returns as it was, ditgrux_take_over returns 0
 -- and writes the bytes from which that check started
 abbrev pub EndIsSeenInC : Type 0
 EndIsSeenInC =
-    (journal key : List ℕ) (width : ℕ) (state ns b : List ℕ) (m : ℕ) → AllBytes journal → AllBytes key → length journal < 18446744073709551616
-    → inPartsFromC journal key width state ns .number ≡ 0 → inPartsFromC journal key width state ns .state ≡ b
+    (journal key : List ℕ) (width : ℕ) (state counts b : List ℕ) (m : ℕ) → AllBytes journal → AllBytes key → length journal < 18446744073709551616
+    → inPartsFromC journal key width state counts .number ≡ 0 → inPartsFromC journal key width state counts .state ≡ b
     → stepsFromC b journal (suc m) .number ≡ 0 → stateOf (stepsFromC b journal (suc m) .state) .length ≡ stateOf b .length
     → (takeOverAnswer journal key width (length state) .number ≡ 0) × (kept state (takeOverAnswer journal key width (length state) .state) ≡ b)
 
+-- a refusal is that of ditgrux_take_over, however few the steps
+abbrev pub RefusalIsTakeOversInC : Type 0
+RefusalIsTakeOversInC =
+    (journal key : List ℕ) (width : ℕ) (state counts : List ℕ) → AllBytes journal → AllBytes key → length journal < 18446744073709551616
+    → (inPartsFromC journal key width state counts .number ≡ 0 → ⊥) → SameAsTakeOverInC journal key width state counts
+
+-- ---- one call
+
+-- from the stored bytes of a state: the journal's check of that state, and the bytes of its state
+pub record CheckOfState (st : State) (journal : List ℕ) (steps : ℕ) : Type 0 where
+  pub number : stepsFromC (stateBytes st) journal steps .number ≡ checkSteps st journal steps .number
+  pub index : stepsFromC (stateBytes st) journal steps .index ≡ checkSteps st journal steps .index
+  pub state : stepsFromC (stateBytes st) journal steps .state ≡ stateBytes (checkSteps st journal steps .state)
+
+abbrev pub StoredStateIsChecked : Type 0
+StoredStateIsChecked = (st : State) (journal : List ℕ) (steps : ℕ) → TypedState st → CheckOfState st journal steps
+
 -- ---- a refused call
 
-pub record RefusedCheckKeepsState : Type 0 where
-  -- ditgrux_check_steps leaves the bytes of the state as they were, also where they are not 447
-  pub steps : (state journal : List ℕ) (n : ℕ) → AllBytes state → (stepsFromC state journal n .number ≡ 0 → ⊥) → stepsFromC state journal n .state ≡ state
-  -- ditgrux_check_head leaves the unopened state; if the state's slice is not 447 bytes long, it is as it was
-  pub heads : (journal key : List ℕ) (width : ℕ) (state : List ℕ) → (headFromC journal key width state .number ≡ 0 → ⊥)
-      → headFromC journal key width state .state ≡ kept state unopened
+-- ditgrux_check_steps leaves the bytes of the state as they were, also where they are not 447
+abbrev pub RefusedCheckKeepsState : Type 0
+RefusedCheckKeepsState =
+    (state journal : List ℕ) (steps : ℕ) → AllBytes state → (stepsFromC state journal steps .number ≡ 0 → ⊥) → stepsFromC state journal steps .state ≡ state
+
+-- ditgrux_check_head leaves the unopened state; if the state's slice is not 447 bytes long, it is as it was
+abbrev pub RefusedHeadIsUnopened : Type 0
+RefusedHeadIsUnopened =
+    (journal key : List ℕ) (width : ℕ) (state : List ℕ) → (headFromC journal key width state .number ≡ 0 → ⊥)
+    → headFromC journal key width state .state ≡ kept state unopened
