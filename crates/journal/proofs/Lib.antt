@@ -11,6 +11,7 @@ pub mod CheckCalls
 pub mod Dropping
 pub mod Earlier
 pub mod Equal
+pub mod ErasedBytes
 pub mod FarPairs
 pub mod FirstNo
 pub mod Heads
