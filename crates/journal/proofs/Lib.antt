@@ -14,6 +14,7 @@ pub mod Equal
 pub mod ErasedBytes
 pub mod FarPairs
 pub mod FirstNo
+pub mod GrownJournals
 pub mod Heads
 pub mod IssueCalls
 pub mod JournalStates
