@@ -274,7 +274,7 @@ redone-more : (k : List ℕ) (n : ℕ) (o : Owner) (g : Register) (c : Call) (cs
 unfolding callsWithin numbersOf
 redone-more k n o g c cs ps z l r = record { holds = r .holds; zeros = λ i. z i ∷ r .zeros i; long = r .long ∙ l }
 
-calls-append : (xs ys : List Call) (g : Register) → calls g (xs ++ ys) ≡ calls (calls g xs) ys
+pub calls-append : (xs ys : List Call) (g : Register) → calls g (xs ++ ys) ≡ calls (calls g xs) ys
 unfolding callsWithin
 calls-append [] ys g = refl
 calls-append (x ∷ xs) ys g = calls-append xs ys (call g x)

@@ -11,8 +11,10 @@ pub mod CheckCalls
 pub mod Dropping
 pub mod Earlier
 pub mod Equal
+pub mod ErasedBytes
 pub mod FarPairs
 pub mod FirstNo
+pub mod GrownJournals
 pub mod Heads
 pub mod IssueCalls
 pub mod JournalStates

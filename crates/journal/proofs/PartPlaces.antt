@@ -49,7 +49,7 @@ steps-counted (x ∷ ps) p = omega (arith, length-append (x .entries) (entriesIn
 -- ---- the state there
 
 -- a whole answer, from its parts
-same-accepted : (t : TakenOver) (st : State) → SameAnswer t (accepted st) → t ≡ accepted st
+pub same-accepted : (t : TakenOver) (st : State) → SameAnswer t (accepted st) → t ≡ accepted st
 unfolding accepted
 same-accepted t st s = λ i. record { number = s .number i; index = s .index i; state = s .state refl i }
 

@@ -18,11 +18,11 @@ use Rattle.journal.proofs.Registers.{Holds, pairsFrom, holds-calls, rec
 pub accepted-is-valid : AcceptedIsValid
 accepted-is-valid j key n b = (accepted-valid j key n b, valid-accepted j key n)
 
-journal-held : (k : List ℕ) (n : ℕ) (o : Owner) (g : Register) (ps : List Pair) → Holds k n o g ps → journalOf g ≡ journalText o n ps
+pub journal-held : (k : List ℕ) (n : ℕ) (o : Owner) (g : Register) (ps : List Pair) → Holds k n o g ps → journalOf g ≡ journalText o n ps
 unfolding journalOf
 journal-held k n o g ps h = h .bytes
 
-held-taken : (k : List ℕ) (n : ℕ) (o : Owner) (g : Register) (ps : List Pair) → Holds k n o g ps → takeOver (journalOf g) k n ≡ accepted (g .state)
+pub held-taken : (k : List ℕ) (n : ℕ) (o : Owner) (g : Register) (ps : List Pair) → Holds k n o g ps → takeOver (journalOf g) k n ≡ accepted (g .state)
 held-taken k n o g ps h = ap (λ (j : List ℕ). takeOver j k n) (journal-held k n o g ps h) ∙ (takes o k n ps (h .work) ∙ ap accepted (sym (h .state)))
 
 pub written-is-accepted : WrittenIsAccepted
