@@ -10,7 +10,7 @@ use Rattle.primitives.proofs.Counts.{part-at, count-is}
 use Rattle.receipt.specs.declared.settings.Letters.the-variants.{Serial}
 use Rattle.receipt.proofs.Names.{good-name}
 use Rattle.journal.specs.Head.{startThere, serialAt}
-use Rattle.journal.specs.GrownLaws.{ErasedStartsNoPair}
+use Rattle.journal.specs.PartLaws.{ErasedStartsNoPair}
 use Rattle.journal.proofs.Readings.{start-section}
 use Rattle.journal.proofs.Stepping.{serial-len, start-within}
 

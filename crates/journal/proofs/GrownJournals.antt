@@ -23,23 +23,23 @@ use Rattle.journal.specs.Head.{section, entryText, pairStart}
 use Rattle.journal.specs.State.{TypedName}
 use Rattle.journal.specs.Checking.{accepted, takeOver}
 use Rattle.journal.specs.Parts.{checksAfter, total}
-use Rattle.journal.specs.PartLaws.{SameAnswer}
-use Rattle.journal.specs.Valid.{Owner, Pair, settingsFor, texts, pairText, pairTexts, ownerText, journalText, serialsOf, GoodOwner, Valid}
+use Rattle.journal.specs.Valid.{Owner, Pair, settingsFor, texts, pairText, pairTexts, ownerText, journalText, serialsOf, GoodOwner, stateAfter}
 use Rattle.journal.specs.Calls.{Call, issue, issueList, change, TypedCalls, failedOrder, Register, journalOf, opening, numberOf, call, calls}
 use Rattle.journal.specs.Lists.{singleCall}
-use Rattle.journal.specs.GrownLaws.{RegisterGoesOn}
+use Rattle.journal.specs.PartLaws.{SameAnswer, RegisterGoesOn}
+use Rattle.journal.specs.declared.state.State.{State}
 use Rattle.journal.specs.declared.state.TakenOver.{TakenOver}
 use Rattle.journal.proofs.Placing.{Begun, Names, names-split}
 use Rattle.journal.proofs.Placing as placing
 use Rattle.journal.proofs.Passing.{pair-split}
-use Rattle.journal.proofs.Accepting.{Work, work-valid, ownerIn}
+use Rattle.journal.proofs.Accepting.{Work, ownerIn}
 use Rattle.journal.proofs.AcceptedIsWritten.{calls-append}
 use Rattle.journal.proofs.OpenCalls.{open-zero}
 use Rattle.journal.proofs.Pairs.{texts-append, pairs-append, wider, emptyPair}
 use Rattle.journal.proofs.Lists.{singleNumber}
 use Rattle.journal.proofs.Registers.{Holds, entryIn, widened, pairsFrom, holds-calls, opening-holds}
 use Rattle.journal.proofs.FarPairs.{Far, so-far-of}
-use Rattle.journal.proofs.JournalStates.{last-of}
+use Rattle.journal.proofs.JournalStates.{last-of, state-is}
 use Rattle.journal.proofs.WrittenIsAccepted.{journal-held, held-taken}
 use Rattle.journal.proofs.PartPlaces.{same-accepted, grown-journal-goes-on}
 
@@ -183,24 +183,22 @@ module _ (o : Owner) (n : ℕ) (ps : List Pair) (p : Pair) (es : List Entry) (la
 module _ (k : List ℕ) (n : ℕ) (o : Owner) (g x : Register) (ps : List Pair) (p : Pair) (h : Holds k n o g (ps ++ (p ∷ []))) where
   -- to a register that holds the same pairs and more
   same-on : (qs : List Pair) → Grows p qs → Holds k n o x (ps ++ qs) → (counts : List ℕ) → length (journalOf x) ≤ total counts
-      → SameAnswer (checksAfter (takeOver (journalOf g) k n) (journalOf x) counts) (takeOver (journalOf x) k n)
-  unfolding work-valid
+      → SameAnswer (checksAfter (accepted (stateAfter o k n (ps ++ (p ∷ [])))) (journalOf x) counts) (takeOver (journalOf x) k n)
   same-on qs gr hx counts l =
       let rs = ps ++ (longer p (gr .further) ∷ gr .later) in
       let e : ps ++ qs ≡ rs = ap (λ (y : List Pair). ps ++ y) (gr .is) in
       let i : Holds k n o x rs = subst (Holds k n o x) e hx in
       let j : journalOf x ≡ journalText o n rs = journal-held k n o x rs i in
-      let v : Valid (journalOf g) k n = work-valid k n o (ps ++ (p ∷ [])) (journalOf g) (h .work) (journal-held k n o g (ps ++ (p ∷ [])) h) in
       let f = far-grown o n ps p (gr .further) (gr .later) (h .work) (i .work) j in
-      grown-journal-goes-on (journalOf g) k n v ps p refl (journalOf x) (length (p .entries ++ gr .further)) (rest o n ps p (gr .further) (gr .later))
+      grown-journal-goes-on (journalOf x) k n o ps p (length (p .entries ++ gr .further)) (rest o n ps p (gr .further) (gr .later))
       (subst AllBytes (sym j) (work-bytes k n o rs (i .work))) (so-far-of f) counts l
 
   goes-on : (qs : List Pair) → Grows p qs → Holds k n o x (ps ++ qs) → (counts : List ℕ) → length (journalOf x) ≤ total counts
       → checksAfter (accepted (g .state)) (journalOf x) counts ≡ accepted (x .state)
   goes-on qs gr hx counts l =
-      let a = held-taken k n o g (ps ++ (p ∷ [])) h in
+      let a : g .state ≡ stateAfter o k n (ps ++ (p ∷ [])) = h .state ∙ state-is k n o (ps ++ (p ∷ [])) (h .work) in
       let b = held-taken k n o x (ps ++ qs) hx in
-      let s = subst (λ (t : TakenOver). SameAnswer (checksAfter t (journalOf x) counts) (takeOver (journalOf x) k n)) a (same-on qs gr hx counts l) in
+      let s = subst (λ (t : State). SameAnswer (checksAfter (accepted t) (journalOf x) counts) (takeOver (journalOf x) k n)) (sym a) (same-on qs gr hx counts l) in
       same-accepted (checksAfter (accepted (g .state)) (journalOf x) counts) (x .state)
       (subst (SameAnswer (checksAfter (accepted (g .state)) (journalOf x) counts)) b s)
 

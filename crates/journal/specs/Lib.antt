@@ -5,7 +5,6 @@ pub mod Checking
 pub mod Demands
 pub mod Earlier
 pub mod FirstNo
-pub mod GrownLaws
 pub mod Head
 pub mod Issuing
 pub mod Listing

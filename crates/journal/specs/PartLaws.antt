@@ -8,6 +8,7 @@ use Rattle.primitives.specs.Bytes.{AllBytes}
 use Rattle.primitives.specs.Counter.{widthGood}
 use Rattle.primitives.specs.Number.{countAt}
 use Rattle.primitives.specs.Aes.{keySchedule}
+use Rattle.receipt.specs.Settings.{TypedSettings}
 use Rattle.receipt.specs.declared.settings.Settings.{Settings}
 use Rattle.journal.specs.Head.{startThere}
 use Rattle.journal.specs.State.{countPlaceNow}
@@ -17,6 +18,7 @@ use Rattle.journal.specs.Checking.{full, refused, accepted, checkHead, t
 use Rattle.journal.specs.Parts.{ready, handedBack, checkSteps, checksAfter, checkInParts, total}
 use Rattle.journal.specs.Valid.{Owner, Pair, entriesIn, stateAfter, Valid}
 use Rattle.journal.specs.FirstNo.{Headed, SoFar}
+use Rattle.journal.specs.Calls.{Call, TypedCalls, journalOf, opening, calls}
 use Rattle.journal.specs.declared.state.State.{State}
 use Rattle.journal.specs.declared.state.TakenOver.{TakenOver}
 
@@ -140,7 +142,22 @@ GrownJournalGoesOn =
     → (counts : List ℕ) → length grown ≤ total counts
     → SameAnswer (checksAfter (accepted (stateAfter o key n (ps ++ (p ∷ [])))) grown counts) (takeOver grown key n)
 
+-- the same of a register: its state after some calls is one to go on from in the journal that further calls leave. "Each Issue gets the state that the call
+-- before it returned and the buffer as that call left it"
+abbrev pub RegisterGoesOn : Type 0
+RegisterGoesOn =
+    (s : Settings) (key : List ℕ) (shared : Bool) (n : ℕ) (buf : List ℕ) → TypedSettings s → AllBytes key → openNumber s shared n (length buf) ≡ 0
+    → (cs ds : List Call) → TypedCalls cs → TypedCalls ds → (counts : List ℕ)
+    → length (journalOf (calls (opening s key shared n buf) (cs ++ ds))) ≤ total counts
+    → checksAfter (accepted (calls (opening s key shared n buf) cs .state)) (journalOf (calls (opening s key shared n buf) (cs ++ ds))) counts
+    ≡ accepted (calls (opening s key shared n buf) (cs ++ ds) .state)
+
 -- ---- a lost state, a lost length
+
+-- zeros after a journal, and the bytes of erased flash, start no pair
+abbrev pub ErasedStartsNoPair : Type 0
+ErasedStartsNoPair =
+    (j : List ℕ) (m : ℕ) → (startThere (j ++ replicate m 0) (length j) ≡ false) × (startThere (j ++ replicate m 255) (length j) ≡ false)
 
 -- Over a buffer that begins with a valid journal, and whose rest starts no pair, checks of one step each end with the state of the journal: with 0 if
 -- nothing follows, else with 21 and all receipts as the index. Other checks may come before them
