@@ -64,7 +64,7 @@ static uint32_t change(uint8_t *state, uint8_t *journal, const char *serial)
     return ditgrux_change(state, DITGRUX_STATE, (const uint8_t *)serial, strlen(serial), journal, SIZE);
 }
 
-/* Opens the register and issues its receipts; after each third of them its certificate changes. */
+/* Opens the register and issues its receipts; after one third and after two thirds of them its certificate changes. */
 static uint32_t fill(uint8_t *state, uint8_t *journal)
 {
     uint8_t settings[DITGRUX_SETTINGS];
@@ -171,7 +171,7 @@ static int check_known(const uint8_t *bytes, const uint8_t *state)
     return refused != DITGRUX_DONE;
 }
 
-/* State and length are lost. */
+/* State and length are lost. That only zeros follow does not say that no receipt is missing: compare the last number before you go on. */
 static int find_lost(const uint8_t *bytes, const uint8_t *lost)
 {
     uint8_t found[DITGRUX_STATE];
@@ -181,7 +181,9 @@ static int find_lost(const uint8_t *bytes, const uint8_t *lost)
            (unsigned long)length, (unsigned long)SIZE);
     if (refused != DITGRUX_BYTES_LEFT || index != ditgrux_receipts(found, sizeof found) || !all_zeros(bytes + length, SIZE - length))
         return 1;
-    printf("only zeros follow, so the journal ends there: %s as the lost one\n", compared(found, lost));
+    printf("only zeros follow; the last number is %u, compare it with the highest number on paper and in copies\n",
+           (unsigned)ditgrux_last_number(found, sizeof found));
+    printf("here it is %s as the lost one\n", compared(found, lost));
     return 0;
 }
 

@@ -35,8 +35,8 @@
  *   - A pointer points to at least as many bytes as its length says.
  *   - The out pointers `length`, `start`, `index` and `issued` are not NULL and are aligned like any size_t or uint32_t. A NULL
  *     `index` or `issued` crashes.
- *   - No buffer that a call writes overlaps another buffer or out parameter of that call. So do not pass the settings or the
- *     serial as a part of a state that the same call writes, nor a list that lies in the journal's buffer.
+ *   - No buffer that a call writes overlaps another buffer or out parameter of that call. So do not pass the settings, the serial
+ *     or the key as a part of a state that the same call writes, nor a list that lies in the journal's buffer.
  *
  * Threads. The functions share no data. Calls on different buffers may run at the same time. Make one call at a time for a state
  * and its journal.
@@ -207,11 +207,13 @@ enum ditgrux_number {
  * key. It is not trusted. Prepare, Issue, Issue list, Change and Check steps check it first (an empty list does not) and return
  * DITGRUX_BAD_STATE if it is inconsistent: bad CSP, ID or width; not one to eight good serials with zeros after them; a counter
  * that does not fit the width; more receipts than the last number, or more in the last pair than in all; a journal shorter than
- * its head, or than the end of the last pair's count, or, except in Prepare, longer than its buffer. They cannot see that a bit of
- * the key, the counter or the chain value has changed, nor that a state is old: with a state from before the last receipt or
+ * its head, or than the end of the last pair's count, or, except in Prepare, longer than its buffer (Check steps: than the journal
+ * that is passed). Check steps also asks for the journal's count, see there. Prepare, Issue, Issue list and Change cannot see that a
+ * bit of the key, the counter or the chain value has changed, nor that a state is old: with a state from before the last receipt or
  * change, Issue, Issue list and Change write over what came after it, for they read nothing of the journal. A state that Check
- * steps gives before the end of the journal is such a state. Compare the state with what ditgrux_take_over gives when the device
- * starts.
+ * steps gives before the end of the journal is such an old state. Check steps finds a changed chain value in the next receipt, and a
+ * changed counter or (almost always) key by the next standard receipt; where none follows, it does not. Compare the state with what
+ * ditgrux_take_over gives when the device starts.
  *
  * After DITGRUX_BAD_STATE the state's bytes are as they were before the call, in every function.
  *
@@ -487,13 +489,15 @@ uint32_t ditgrux_check_head(const uint8_t *journal, size_t journal_length, const
  *
  * A step checks one entry, or the start of a pair after the first. It asks what ditgrux_take_over asks there, under the key and the
  * width of the state. Where the last pair has all its entries and no byte follows, a step changes nothing. So the call returns at the
- * end of the journal, however many steps are left. A call with 0 steps checks the state and nothing else.
+ * end of the journal, however many steps are left. A call with 0 steps only asks DITGRUX_BAD_STATE.
  *
  * ditgrux_check_head and then ditgrux_check_steps, up to the first call that is refused, give what ditgrux_take_over gives: the same
- * state, or the same number and index. This holds for every list of steps, with or without 0 among them, that adds up to at least
- * journal_length. To see the end sooner: the whole journal is accepted as soon as a call with 1 or more steps has returned DITGRUX_DONE
- * and left ditgrux_journal_length as it was.
+ * state, or the same number and index (0 where ditgrux_check_head is refused: set it before). This holds for every list of steps,
+ * with or without 0 among them, that adds up to at least journal_length. To see the end sooner: the whole journal is accepted as
+ * soon as a call with 1 or more steps has returned DITGRUX_DONE and left ditgrux_journal_length as it was. Do not stop where
+ * ditgrux_journal_length reaches journal_length: a journal that lacks its last entries gets DITGRUX_ENTRY_CUT only in the next step.
  *
+ *     index = 0;                // ditgrux_check_head has none: it is 0 with its numbers
  *     number = ditgrux_check_head(journal, journal_length, key, sizeof key, width, state, sizeof state);
  *     for (before = 0; number == DITGRUX_DONE && before != ditgrux_journal_length(state, sizeof state);) {
  *         before = ditgrux_journal_length(state, sizeof state);

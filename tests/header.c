@@ -1683,6 +1683,23 @@ static void loops(void)
     CHECK(loop(stages[calls], way_length(calls), SIZE_MAX, &turns, &index) == DITGRUX_DONE && turns == 1 + (calls > 0) && is_on_way(calls));
 }
 
+/* The journal lacks the entries after this place, and its pair counts them. A loop that ends where the length in the state is that of the
+ * journal does not notice if its calls come to that place: only the next step gets 15, as Take over does. */
+static void ends_too_soon(size_t stop)
+{
+    const size_t length = way_length(stop);
+    size_t steps;
+    uint32_t index, number;
+    for (steps = 1; steps <= stop; steps++) {
+        memcpy(state, way[0], sizeof state);
+        for (number = DITGRUX_DONE; number == DITGRUX_DONE && journal_length() < length;)
+            number = ditgrux_check_steps(state, sizeof state, stages[calls], length, steps, &index);
+        CHECK(number == (stop % steps == 0 ? DITGRUX_DONE : DITGRUX_ENTRY_CUT) && is_on_way(stop - stop % steps));
+    }
+    CHECK(stops(stop, 1, stop, stages[calls], length, DITGRUX_ENTRY_CUT));
+    CHECK(taken_over(stages[calls], length, &index) == DITGRUX_ENTRY_CUT && index == way_receipts(stop));
+}
+
 /* Every length of the journal. 15 where the last pair counts an entry more, else 21 where a part of a pair follows; the bytes after that
  * length are there and are not read. */
 static void cut(void)
@@ -1693,6 +1710,8 @@ static void cut(void)
         if (number_at(stages[calls] + way_count_at(stop), 4) > way_open(stop)) {
             CHECK(stops(stop, 1, stop, stages[calls], length, DITGRUX_ENTRY_CUT));
             CHECK(stops(0, SIZE_MAX, stop, stages[calls], length, DITGRUX_ENTRY_CUT));
+            if (length == way_length(stop))
+                ends_too_soon(stop);
             if (length - way_length(stop) < 4 || length + 1 == way_length(stop + 1))
                 stops_at(stop, stages[calls], length, DITGRUX_ENTRY_CUT);
         } else if (length == way_length(stop))
@@ -2044,7 +2063,7 @@ static int is_put_right(size_t place)
     return taken_over(twin, way_length(place), &index) == DITGRUX_DONE && memcmp(other, way[place], sizeof other) == 0;
 }
 
-/* Power failed in the Issue or the list after this place. The entry or a part of it is stored, the first or the last: the state without it.
+/* Power failed in the Issue after this place. The entry or a part of it is stored, the first or the last: the state without it.
  * Its count, too: the state with it. The count without the entry: the state without it, and 15 or 16. */
 static void finds_entry(size_t place, int byte)
 {
@@ -2100,6 +2119,124 @@ static void finds_end_over_rest(size_t place)
     CHECK(found(twin, sizeof twin, 4, &index) == DITGRUX_BYTES_LEFT && memcmp(state, last, sizeof last) == 0);
 }
 
+/* The whole journal, in `twin`, and then this byte, over and over. */
+static void whole(int byte)
+{
+    filled(calls, 0, byte);
+}
+
+/* An entry is counted and not there: 15 or 16, after the state of this place. */
+static int finds_missing(size_t place)
+{
+    return finds(place, DITGRUX_ENTRY_CUT) || finds(place, DITGRUX_ENTRY_MISSPELLED);
+}
+
+/* The count at the place that `state` names is 0xFFFFFFFF in a copy: every receipt of its pair is found, up to this place. With the count
+ * put right the whole journal is found. */
+static void finds_uncounted(size_t place, int byte)
+{
+    static uint8_t copy[sizeof twin];
+    memset(twin + number_at(state + PLACE_AT, 8), 0xFF, 4);
+    CHECK(finds_missing(place));
+    memcpy(twin + number_at(state + PLACE_AT, 8), state + OPEN_AT, 4);
+    CHECK(finds(calls, DITGRUX_BYTES_LEFT));
+    memcpy(copy, twin, sizeof copy);
+    whole(byte);
+    CHECK(memcmp(twin, copy, sizeof copy) == 0);
+}
+
+/* Each count of the pair that ends at this place: one that is too low gets 21 where receipts follow that it does not count, and they can be
+ * found. One that is too high gets 15 or 16 after the last receipt of the pair. Both can be put right. */
+static void finds_torn(size_t place, int byte)
+{
+    static const uint32_t high[] = {1, 2, 0xFC, 0x1FC, 0xFFFF00, 0xFFFFFFF0};
+    const size_t open = way_open(place);
+    size_t count;
+    for (count = 0; count < open; count++) {
+        whole(byte);
+        put(twin + way_count_at(place), 4, count);
+        CHECK(finds(place - open + count, DITGRUX_BYTES_LEFT));
+        CHECK(ditgrux_last_number(state, sizeof state) < ditgrux_last_number(way[place], DITGRUX_STATE));
+        finds_uncounted(place, byte);
+    }
+    for (count = 0; count < sizeof high / sizeof *high; count++) {
+        whole(byte);
+        put(twin + way_count_at(place), 4, open + high[count]);
+        CHECK(finds_missing(place) && is_put_right(place));
+        CHECK(finds(calls, DITGRUX_BYTES_LEFT));
+    }
+}
+
+/* The pair after this place is erased, with its receipts: 21, as if the journal ended there, though its last number is lower. An old state
+ * with receipts in that pair gets 6 where its count reads 0, and no number where it reads 0xFFFFFFFF. */
+static void finds_erased(size_t place, int byte)
+{
+    uint32_t index;
+    filled(place, 0, byte);
+    CHECK(finds(place, DITGRUX_BYTES_LEFT));
+    if (way_open(calls) > 0) {
+        CHECK(ditgrux_last_number(state, sizeof state) < ditgrux_last_number(way[calls], DITGRUX_STATE));
+        CHECK(checked(way[calls], twin, sizeof twin, 0, &index) == (byte == 0 ? DITGRUX_BAD_STATE : DITGRUX_DONE));
+    }
+}
+
+/* Power failed in a list of the last three receipts. Of its entries every part is stored. Without the count: the state before the list;
+ * with 0xFFFFFFFF in place of the count, as with the whole count, the state after the last receipt that is whole. */
+static void finds_list(int byte)
+{
+    static const char life[] = "rruuu";
+    uint8_t list[3 * DITGRUX_DETAILS];
+    struct ditgrux_details details;
+    size_t written, issued, place = 2, i;
+    live(8, life);
+    for (i = 0; i < 3; i++) {
+        memcpy(state, way[2 + i], sizeof state);
+        details = receipt_of('u');
+        ditgrux_pack_details(&details, list + i * DITGRUX_DETAILS);
+    }
+    filled(2, 0, 0xA5);
+    memcpy(state, way[2], sizeof state);
+    CHECK(ditgrux_issue_list(state, sizeof state, list, sizeof list, twin, sizeof twin, &issued) == DITGRUX_DONE && issued == 3);
+    CHECK(is_on_way(5) && memcmp(twin, stages[5], sizeof twin) == 0);
+    for (written = 0; written <= way_length(5) - way_length(2); written++) {
+        place += place < 5 && way_length(2) + written == way_length(place + 1);
+        filled(2, 0, byte);
+        memcpy(twin + way_length(2), stages[5] + way_length(2), written);
+        CHECK(finds(2, DITGRUX_BYTES_LEFT));
+        put(twin + way_count_at(2), 4, 0xFFFFFFFF);
+        CHECK(finds_missing(place));
+        put(twin + way_count_at(2), 4, 5);
+        CHECK(place == 5 ? finds(5, DITGRUX_BYTES_LEFT) : finds_missing(place));
+        CHECK(is_put_right(place) && finds(place, DITGRUX_BYTES_LEFT));
+    }
+    CHECK(place == 5);
+}
+
+/* Power failed while the count of 256 receipts was written over that of 255: with a bit too many the state has all 256; with 0 it has none,
+ * and with 0xFFFFFFFF in a copy they are found. */
+static void finds_torn_carry(void)
+{
+    enum { MANY = 256 };
+    static uint8_t buffer[(MANY + 1) * DITGRUX_LONGEST_ENTRY];
+    static const uint32_t torn[] = {0x1FF, 0xFFFFFFFF, 0x100, 0xFF, 0, 0xFFFFFFFF};
+    static const uint32_t receipts[] = {MANY, MANY, MANY, MANY - 1, 0, MANY};
+    struct ditgrux_details details;
+    uint32_t i, index = UINT32_MAX, number;
+    memset(buffer, 0, sizeof buffer);
+    CHECK(ditgrux_open(settings, sizeof settings, buffer, sizeof buffer, state, sizeof state) == DITGRUX_DONE);
+    memcpy(way[0], state, sizeof state);
+    for (i = 0; i < MANY; i++) {
+        details = details_of(i + 1, DITGRUX_STANDARD, i != 0);
+        CHECK(ditgrux_issue_details(state, sizeof state, &details, NULL, 0, buffer, sizeof buffer) == DITGRUX_DONE);
+    }
+    for (i = 0; i < sizeof torn / sizeof *torn; i++) {
+        put(buffer + number_at(way[0] + PLACE_AT, 8), 4, torn[i]);
+        number = found(buffer, sizeof buffer, 100, &index);
+        CHECK(number == (torn[i] > MANY ? DITGRUX_ENTRY_MISSPELLED : DITGRUX_BYTES_LEFT) && index == receipts[i]);
+        CHECK(ditgrux_receipts(state, sizeof state) == receipts[i] && ditgrux_last_number(state, sizeof state) == receipts[i]);
+    }
+}
+
 static void lost(const char *life)
 {
     static const int bytes[] = {0, 0xFF};
@@ -2114,6 +2251,10 @@ static void lost(const char *life)
                 finds_entry(place, bytes[i]);
             if (life[place] == 'r')
                 finds_end_over_rest(place);
+            if (life[place] == 'c' || life[place] == 0)
+                finds_torn(place, bytes[i]);
+            if (life[place] == 'c' && place == calls - 1 - way_open(calls))
+                finds_erased(place, bytes[i]);
         }
 }
 
@@ -2130,6 +2271,9 @@ static void checks_in_parts(void)
     heads();
     lost("rrurctrcccr");
     lost("ccrrc");
+    finds_list(0);
+    finds_list(0xFF);
+    finds_torn_carry();
 }
 
 int main(void)
