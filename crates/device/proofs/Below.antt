@@ -3,7 +3,7 @@
 use Prim.Native.Nat.{ℕ, zero, suc, _^_, _<_}
 use mathlib.Core.Path.{_≡_, refl, sym, ap, _∙_, subst}
 use mathlib.Core.Bool.{Bool, true, cond}
-use mathlib.Core.List.{List, [], _∷_, _++_, map}
+use mathlib.Core.List.{List, [], _∷_, _++_}
 use native.Mathlib.Omega.{arith}
 use borrow.Author.Tests.{leb-true, lt-ltb}
 use lib.Dec.{leb}
@@ -29,12 +29,11 @@ use Rattle.journal.specs.Step.{fresh, newCounter, next}
 use Rattle.journal.specs.Issuing.{textOf, issueNumber, issued, issuedWithin, issueBuffer}
 use Rattle.journal.specs.Listing.{issuedList, listBuffer}
 use Rattle.journal.specs.Checking.{headNumber, checkHead, refused, accepted}
-use Rattle.journal.specs.Parts.{checkSteps, checksAfter, checkInParts}
+use Rattle.journal.specs.Parts.{checksAfter, checkInParts}
 use Rattle.journal.specs.Changing.{changeNumber, changed, changeBuffer}
 use Rattle.journal.specs.Valid.{Owner, Pair, settingsFor, placedUnder, allPlaced, headOf}
 use Rattle.journal.specs.Calls.{Order, failedOrder, TypedOrder, Call, issue, issueList, change, Register, journalOf, opening, numberOf, numbersOf, receiptOfCall, firstReceipts, receiptsOfList, receiptsOf, Period, periodsFrom, call, callWithin, calls, callsWithin, orderOf, issuesOf, laterCalls, callsOf}
 use Rattle.journal.specs.declared.state.State.{State}
-use Rattle.journal.specs.declared.state.TakenOver.{TakenOver}
 use Rattle.journal.proofs.Check.{new-fits, new-is}
 use Rattle.journal.proofs.Answers.{chain-eight, issue-zero}
 
@@ -100,15 +99,6 @@ head-index j key n = go (headNumber j n)
 pub in-parts-is : (j key : List ℕ) (n : ℕ) (ns : List ℕ) → checkInParts j key n ns ≡ checksAfter (checkHead j key n) j ns
 unfolding checkInParts
 in-parts-is j key n ns = refl
-
-pub checks-none : (t : TakenOver) (j : List ℕ) → checksAfter t j [] ≡ t
-unfolding checksAfter
-checks-none t j = refl
-
-pub checks-more : (t : TakenOver) (j : List ℕ) (n : ℕ) (ns : List ℕ)
-    → checksAfter t j (n ∷ ns) ≡ ifZero (t .number) (checksAfter (checkSteps (t .state) j n) j ns) t
-unfolding checksAfter
-checks-more t j n ns = refl
 
 -- ---- journal: a call, and lists of calls
 

@@ -1,5 +1,5 @@
 -- A check in parts from C: its calls return and write what those of the journal give, and so what ditgrux_take_over returns and writes.
-use Prim.Native.Nat.{ℕ, zero, suc, _≤_, _<_}
+use Prim.Native.Nat.{ℕ, zero, suc, _<_}
 use mathlib.Core.Path.{_≡_, refl, sym, ap, _∙_, subst}
 use mathlib.Core.Bool.{Bool, true, false}
 use mathlib.Core.List.{List, [], _∷_}
@@ -11,19 +11,19 @@ use Rattle.primitives.specs.Bytes.{AllBytes}
 use Rattle.primitives.proofs.Rows.{ifZero-yes, ifZero-no}
 use Rattle.journal.specs.State.{unopened, TypedState}
 use Rattle.journal.specs.Checking.{accepted, checkHead, takeOver}
-use Rattle.journal.specs.Parts.{checkSteps, checksAfter, checkInParts, total}
+use Rattle.journal.specs.Parts.{checkSteps, checksAfter, checkInParts}
 use Rattle.journal.specs.PartLaws.{SameAnswer}
 use Rattle.journal.specs.declared.state.State.{State}
 use Rattle.journal.specs.declared.state.TakenOver.{TakenOver}
 use Rattle.journal.proofs.Refusals.{refused-changes-nothing}
 use Rattle.journal.proofs.CheckCalls.{head-passed}
-use Rattle.journal.proofs.PartSteps.{accepted-number, accepted-state, went, checks-stuck, steps-are-take-over, end-is-seen}
+use Rattle.journal.proofs.PartSteps.{accepted-number, accepted-state, went, checks-none, checks-on, checks-stuck, steps-are-take-over, end-is-seen}
 use Rattle.journal.proofs.PartPlaces.{refusal-is-take-overs}
 use Rattle.journal.proofs.TypedChecks.{checked-typed, head-typed}
 use Rattle.device.specs.Layout.{stateBytes, arrayOf, stateOf, kept}
 use Rattle.device.specs.Calls.{widthWith, takeOverAnswer, headAnswer, stepsAnswer}
-use Rattle.device.specs.PartLaws.{LeftByCheck, headFromC, stepsFromC, checksFromC, inPartsFromC, SameAsTakeOverInC, ChecksAreTakeOverInC, RefusalIsTakeOversInC, EndIsSeenInC, CheckOfState, StoredStateIsChecked, RefusedCheckKeepsState, RefusedHeadIsUnopened}
-use Rattle.device.proofs.Below.{head-index, in-parts-is, checks-none, checks-more}
+use Rattle.device.specs.PartLaws.{LeftByCheck, headFromC, stepsFromC, checksFromC, inPartsFromC, SameAsTakeOverInC, ChecksAreTakeOverInC, RefusalIsTakeOversInC, EndIsSeenInC, StoredStateIsChecked, RefusedCheckKeepsState, RefusedHeadIsUnopened}
+use Rattle.device.proofs.Below.{head-index, in-parts-is}
 use Rattle.device.proofs.Sizes.{array-long, array-bytes, kept-all, take-six, take-answer}
 use Rattle.device.proofs.Slots.{typed-lengths}
 use Rattle.device.proofs.Writers.{length-state}
@@ -84,7 +84,7 @@ module _ (j : List ℕ) (b : AllBytes j) (small : length j < 1844674407370955161
           → Same (checksFromC c j (n ∷ ns)) (checksAfter t j (n ∷ ns))
       go zero z rec =
           subst (λ (x : LeftByCheck). Same x (checksAfter t j (n ∷ ns))) (sym (goes-on c j n ns (s .number ∙ z)))
-          (subst (Same (checksFromC (stepsFromC (c .state) j n) j ns)) (sym (checks-more t j n ns ∙ ifZero-yes _ _ z)) (rec z))
+          (subst (Same (checksFromC (stepsFromC (c .state) j n) j ns)) (sym (checks-on t j n ns z)) (rec z))
       go (suc m) z rec =
           let h : t .number ≡ 0 → ⊥ = λ q. omega (arith, q, z) in
           subst (λ (x : LeftByCheck). Same x (checksAfter t j (n ∷ ns))) (sym (ends c j (n ∷ ns) (λ q. h (sym (s .number) ∙ q))))

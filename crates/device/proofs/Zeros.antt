@@ -20,7 +20,8 @@ use Rattle.journal.specs.Preparing.{prepareNumber}
 use Rattle.journal.specs.Parts.{ready, checkSteps}
 use Rattle.journal.specs.declared.state.State.{State}
 use Rattle.journal.specs.declared.state.TakenOver.{TakenOver}
-use Rattle.journal.proofs.PartCalls.{handed-is, not-ready}
+use Rattle.journal.proofs.PartCalls.{handed-is}
+use Rattle.journal.proofs.PartSteps.{check-six}
 use Rattle.device.specs.Layout.{namesBytes, registerBytes, figuresBytes, stateBytes}
 use Rattle.device.specs.Details.{noDetails}
 use Rattle.device.specs.Laws.{UnopenedIsZero, NoSettingsGetOne, UnopenedGetsSix, UnknownKindGetsSeven}
@@ -44,7 +45,7 @@ unopened-unsound = rw csp-bad
 -- a check from it
 pub unopened-checked : (j : List ℕ) (n : ℕ) → checkSteps unopened j n ≡ record { number = 6; index = 0; state = unopened }
 unfolding ready sound
-unopened-checked j n = sym (handed-is 6 0 unopened ∙ not-ready unopened j n (rw unopened-unsound))
+unopened-checked j n = check-six unopened j n (rw unopened-unsound) ∙ sym (handed-is 6 0 unopened)
 
 pub unopened-gets-six : UnopenedGetsSix
 unfolding issueNumberWithin prepareNumber changeNumber sound ask

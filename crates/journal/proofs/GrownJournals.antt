@@ -1,6 +1,6 @@
 -- A register's journal after further calls: the open pair takes entries and other pairs follow it, so that a check goes on from the state before them.
 use Prim.Native.Nat.{ℕ, zero, suc, _≤_}
-use mathlib.Core.Path.{_≡_, refl, sym, ap, _∙_, subst}
+use mathlib.Core.Path.{_≡_, sym, ap, _∙_, subst}
 use mathlib.Core.List.{List, [], _∷_, _++_, append-assoc, append-nil}
 use native.Mathlib.Omega.{arith}
 use lib.ListN.{length, length-append}
@@ -28,7 +28,6 @@ use Rattle.journal.specs.Calls.{Call, issue, issueList, change, TypedCal
 use Rattle.journal.specs.Lists.{singleCall}
 use Rattle.journal.specs.PartLaws.{SameAnswer, RegisterGoesOn}
 use Rattle.journal.specs.declared.state.State.{State}
-use Rattle.journal.specs.declared.state.TakenOver.{TakenOver}
 use Rattle.journal.proofs.Placing.{Begun, Names, names-split}
 use Rattle.journal.proofs.Placing as placing
 use Rattle.journal.proofs.Passing.{pair-split}

@@ -1,15 +1,15 @@
 -- What the functions of a check in parts show at their returns, over plain variables.
-use Prim.Native.Nat.{ℕ, _+_, _≤_}
+use Prim.Native.Nat.{ℕ}
 use mathlib.Core.Path.{_≡_, refl, sym, ap, _∙_}
-use mathlib.Core.Bool.{Bool, true, false}
+use mathlib.Core.Bool.{true, false}
 use mathlib.Core.List.{List}
 use lib.Dec.{leb}
 use lib.ListN.{length}
 use Rattle.primitives.specs.Number.{countAt}
 use Rattle.primitives.specs.Aes.{keySchedule}
-use Rattle.primitives.proofs.Rows.{both, and-no, and-yes, ifZero-yes, ifZero-no}
+use Rattle.primitives.proofs.Rows.{both, and-no, and-yes}
 use Rattle.journal.specs.Step.{sound}
-use Rattle.journal.specs.Checking.{Steady, steps, accepted}
+use Rattle.journal.specs.Checking.{Steady, steps}
 use Rattle.journal.specs.Parts.{ready, handedBack, partAnswer, checkSteps}
 use Rattle.journal.specs.declared.state.State.{State}
 use Rattle.journal.specs.declared.state.TakenOver.{TakenOver}
@@ -40,22 +40,9 @@ pub handed-is : (m i : ℕ) (st : State) → record { number = m; index = i; sta
 unfolding handedBack
 handed-is m i st = refl
 
-module _ (st : State) (s : Step) where
-  pub part-refused : (s .number ≡ 0 → ⊥) → handedBack (s .number) (s .state .issued) st ≡ partAnswer st s
-  unfolding partAnswer
-  part-refused h = sym (ifZero-no (s .number) _ _ h)
-
-  pub part-accepted : s .number ≡ 0 → accepted (s .state) ≡ partAnswer st s
-  unfolding partAnswer
-  part-accepted z = sym (ifZero-yes _ _ z)
-
 -- ---- the call
 
 module _ (st : State) (j : List ℕ) (n : ℕ) where
-  pub not-ready : ready st j ≡ false → handedBack 6 0 st ≡ checkSteps st j n
-  unfolding checkSteps
-  not-ready h = sym (rw h)
-
   pub when-ready : {x : Step} {r : TakenOver} → ready st j ≡ true → x ≡ steps (keySchedule (st .key)) n st j → r ≡ partAnswer st x → r ≡ checkSteps st j n
   unfolding checkSteps
   when-ready h e q = q ∙ (ap (partAnswer st) e ∙ sym (rw h))

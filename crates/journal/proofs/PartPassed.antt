@@ -7,13 +7,12 @@ use lib.ListN.{length, drop, length-append}
 use Rattle.primitives.specs.Number.{countAt}
 use Rattle.primitives.specs.Bytes.{AllBytes}
 use Rattle.primitives.specs.Aes.{keySchedule}
-use Rattle.receipt.specs.declared.settings.Settings.{Settings}
 use Rattle.journal.specs.Head.{headSettings, headLength, serialAt}
 use Rattle.journal.specs.Step.{fresh, renewed}
-use Rattle.journal.specs.Checking.{oneStep, steps, accepted, headNumber, checkHead, refused}
-use Rattle.journal.specs.Parts.{checksAfter, checkInParts, total}
+use Rattle.journal.specs.Checking.{oneStep, steps, headNumber, refused}
+use Rattle.journal.specs.Parts.{total}
 use Rattle.journal.specs.PartLaws.{GoodSoFar, PassedIsGood}
-use Rattle.journal.specs.Valid.{Owner, Pair, entriesIn, stateAfter}
+use Rattle.journal.specs.Valid.{Owner, Pair}
 use Rattle.journal.specs.declared.state.State.{State}
 use Rattle.journal.specs.declared.state.TakenOver.{TakenOver}
 use Rattle.journal.specs.declared.checking.Checked.{Checked}
@@ -25,11 +24,11 @@ use Rattle.journal.proofs.Accepting.{blank, entry-at, ownerIn}
 use Rattle.journal.proofs.Starting.{start-at}
 use Rattle.journal.proofs.Pairs.{wider, emptyPair, run-wider, run-empty}
 use Rattle.journal.proofs.Registers.{fresh-holds}
-use Rattle.journal.proofs.FarPairs.{Far, so-far-of, stateThere, Stands, stands, far-entry, far-start, far-first}
+use Rattle.journal.proofs.FarPairs.{Far, so-far-of, stateThere, stands, far-entry, far-start, far-first}
 use Rattle.journal.proofs.JournalStates.{state-is}
 use Rattle.journal.proofs.Stepping.{full-true, full-false, Case, an-entry, at-end, a-start, step-case, idle}
 use Rattle.journal.proofs.CheckCalls.{Passed, passed, stopped-at}
-use Rattle.journal.proofs.PartSteps.{no-steps, turn, steps-zero, start-ready, parts-passed, parts-stopped, Made, made, accepted-number, refused-number}
+use Rattle.journal.proofs.PartSteps.{no-steps, turn, steps-zero, start-ready, parts-passed, parts-stopped, made, accepted-number, refused-number}
 use Rattle.journal.proofs.PartQuestions.{headed}
 use Rattle.journal.proofs.PartPlaces.{steps-counted, fresh-key}
 

@@ -7,11 +7,9 @@ use native.Mathlib.Omega.{arith}
 use lib.Dec.{leb}
 use lib.ListN.{length, replicate, length-append}
 use borrow.Author.Tests.{leb-true, leb-false}
-use Rattle.primitives.specs.Number.{countAt}
 use Rattle.primitives.specs.Bytes.{AllBytes}
 use Rattle.primitives.specs.Aes.{keySchedule}
 use Rattle.primitives.specs.Questions.{ask}
-use Rattle.primitives.proofs.Rows.{ask-yes}
 use Rattle.receipt.specs.declared.entry.Entry.{Entry}
 use Rattle.journal.specs.Head.{headSettings, startThere, pairStart}
 use Rattle.journal.specs.Step.{fresh}
@@ -19,10 +17,8 @@ use Rattle.journal.specs.Checking.{stopped, full, oneStep, steps, accept
 use Rattle.journal.specs.Parts.{handedBack, partAnswer, checkSteps, checksAfter, checkInParts, total}
 use Rattle.journal.specs.PartLaws.{SameAnswer, RefusalIsTakeOvers, StateAfterSteps, GrownJournalGoesOn, LostStateIsFound}
 use Rattle.journal.specs.Valid.{Owner, Pair, settingsFor, texts, pairTexts, ownerText, journalText, entriesIn, serialsOf, stateAfter, Valid}
-use Rattle.journal.specs.FirstNo.{SoFar}
 use Rattle.journal.specs.declared.state.State.{State}
 use Rattle.journal.specs.declared.state.TakenOver.{TakenOver}
-use Rattle.journal.specs.declared.checking.Checked.{Checked}
 use Rattle.journal.specs.declared.checking.Step.{Step}
 use Rattle.journal.proofs.Passing.{stepsOf, runPairs}
 use Rattle.journal.proofs.Accepting.{Work, valid-work, valid-taken, blank}

@@ -1,8 +1,8 @@
 -- What a check asks: 6 of the state, the head alone in the first call, and 21 after the last entry.
-use Prim.Native.Nat.{ℕ, zero, suc, _+_, _≤_, _<_}
-use mathlib.Core.Path.{_≡_, refl, sym, ap, _∙_, subst}
-use mathlib.Core.Bool.{Bool, true, false, cond}
-use mathlib.Core.List.{List, [], _∷_, _++_}
+use Prim.Native.Nat.{ℕ, zero, suc, _≤_, _<_}
+use mathlib.Core.Path.{_≡_, refl, sym, ap, _∙_}
+use mathlib.Core.Bool.{Bool, true, false}
+use mathlib.Core.List.{List}
 use native.Mathlib.Omega.{arith}
 use borrow.Author.Tests.{leb-true, leb-false}
 use lib.Dec.{leb}
@@ -10,19 +10,17 @@ use lib.ListN.{length, drop}
 use Rattle.primitives.specs.Bytes.{AllBytes}
 use Rattle.primitives.specs.Counter.{widthGood}
 use Rattle.primitives.specs.Aes.{keySchedule}
-use Rattle.primitives.specs.Questions.{ask, ifZero}
-use Rattle.primitives.proofs.Rows.{true-is-not-false, ask-no, ifZero-yes}
+use Rattle.primitives.specs.Questions.{ask}
+use Rattle.primitives.proofs.Rows.{ask-no, ifZero-yes}
 use Rattle.receipt.specs.declared.settings.Settings.{Settings}
 use Rattle.journal.specs.Head.{headSettings, headGood, headLength, startThere, serialAt, textAt}
-use Rattle.journal.specs.State.{unopened}
 use Rattle.journal.specs.Step.{fresh, renewed, renewNumber, sound}
 use Rattle.journal.specs.Opening.{openNumber, opened}
-use Rattle.journal.specs.Checking.{contextNumber, textNumber, entryNumber, stopped, startNumber, full, oneStep, steps, refused, accepted, checkHead, stepChecked}
+use Rattle.journal.specs.Checking.{contextNumber, textNumber, entryNumber, stopped, startNumber, full, oneStep, steps, accepted, checkHead, stepChecked}
 use Rattle.journal.specs.Parts.{ready, handedBack, partAnswer, checkSteps}
-use Rattle.journal.specs.PartLaws.{HeadAlone, HeadIsReadAlone, FreshIsOpened, OneStepIsCheckStep, SixIsNotReady, AfterTheLast, OnlyAsks21}
+use Rattle.journal.specs.PartLaws.{HeadIsReadAlone, FreshIsOpened, OneStepIsCheckStep, SixIsNotReady, OnlyAsks21}
 use Rattle.journal.specs.FirstNo.{Headed}
 use Rattle.journal.specs.declared.state.State.{State}
-use Rattle.journal.specs.declared.state.Opened.{Opened}
 use Rattle.journal.specs.declared.state.TakenOver.{TakenOver}
 use Rattle.journal.specs.declared.checking.Checked.{Checked}
 use Rattle.journal.specs.declared.checking.Step.{Step}

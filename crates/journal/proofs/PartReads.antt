@@ -1,7 +1,7 @@
 -- What a check reads: the open section's count, and the bytes after the state's length.
-use Prim.Native.Nat.{ℕ, zero, suc, _+_, _-_, _≤_, _<_}
+use Prim.Native.Nat.{ℕ, zero, suc, _+_, _-_, _≤_}
 use mathlib.Core.Path.{_≡_, refl, sym, ap, _∙_, subst}
-use mathlib.Core.Bool.{Bool, true, false, cond, _&&_}
+use mathlib.Core.Bool.{cond, _&&_}
 use mathlib.Core.List.{List}
 use native.Mathlib.Omega.{arith}
 use lib.Dec.{leb}
@@ -10,19 +10,16 @@ use lib.Seq.{drop-drop}
 use Rattle.primitives.specs.Number.{countAt, valueOf}
 use Rattle.primitives.specs.Aes.{keySchedule}
 use Rattle.receipt.specs.Settings.{nameOf, serialGood}
-use Rattle.receipt.specs.declared.settings.Name.{Name}
 use Rattle.journal.specs.Head.{lengthAt, there, textAt, sectionText, sectionEnd, serialAt, startThere}
-use Rattle.journal.specs.State.{countPlaceNow}
 use Rattle.journal.specs.Step.{next, renewed, renewNumber, sound}
 use Rattle.primitives.specs.Questions.{ask, ifZero}
-use Rattle.journal.specs.Checking.{found, textNumber, after, entryNumber, stopped, checked, placeChecked, startNumber, startChecked, endChecked, full, oneStep, steps}
+use Rattle.journal.specs.Checking.{textNumber, after, entryNumber, stopped, checked, placeChecked, startNumber, startChecked, endChecked, full, oneStep, steps}
 use Rattle.journal.specs.Parts.{ready, handedBack, partAnswer, checkSteps}
 use Rattle.journal.specs.PartLaws.{ReadsNoOther}
 use Rattle.journal.specs.declared.state.State.{State}
 use Rattle.journal.specs.declared.checking.Checked.{Checked}
-use Rattle.journal.specs.declared.checking.Step.{Step}
 use Rattle.journal.proofs.Stepping.{after-within, Case, an-entry, at-end, a-start, step-case}
-use Rattle.journal.proofs.Passing.{renewed-length, renewed-place}
+use Rattle.journal.proofs.Passing.{renewed-length, renewed-place, state-of}
 use Rattle.journal.proofs.PartSteps.{turn, stuck, no-steps}
 
 -- ---- the same bytes from a place on
@@ -72,10 +69,6 @@ module _ (j i : List ℕ) (at : ℕ) (e : drop at j ≡ drop at i) where
 after-place : (st : State) (text : List ℕ) → after st text .place ≡ st .place
 unfolding after next
 after-place st text = refl
-
-state-of : (n : ℕ) (st : State) → stopped n st .state ≡ st
-unfolding stopped
-state-of n st = refl
 
 -- two journals that a check from this state reads alike
 pub record Alike (st : State) (j i : List ℕ) : Type 0 where

@@ -11,26 +11,22 @@ use Rattle.primitives.specs.Number.{countAt}
 use Rattle.primitives.specs.Bytes.{AllBytes}
 use Rattle.primitives.specs.Counter.{counterFits}
 use Rattle.primitives.specs.Aes.{keySchedule}
-use Rattle.primitives.proofs.Rows.{both, true-is-not-false, ask-zero, ifZero-yes, ifZero-no}
+use Rattle.primitives.proofs.Rows.{both, ask-zero, ifZero-yes, ifZero-no}
 use Rattle.receipt.specs.declared.details.After.{After}
-use Rattle.receipt.specs.declared.settings.Settings.{Settings}
-use Rattle.receipt.specs.declared.payload.PayloadFields.{PayloadFields}
 use Rattle.journal.specs.Head.{headSettings, headLength, textAt, serialAt}
-use Rattle.journal.specs.State.{countPlaceNow}
-use Rattle.journal.specs.Step.{fresh, newCounter, next, renewed, sound, numberAbove}
-use Rattle.journal.specs.Checking.{found, contextNumber, counterRight, textNumber, after, entryNumber, stopped, full, oneStep, steps, refused, accepted, lastAnswer, headNumber, checkHead, takeOver}
+use Rattle.journal.specs.Step.{fresh, newCounter, next, renewed, sound}
+use Rattle.journal.specs.Checking.{found, contextNumber, counterRight, textNumber, after, entryNumber, stopped, oneStep, steps, refused, accepted, lastAnswer, headNumber, takeOver}
 use Rattle.journal.specs.Parts.{ready, handedBack, partAnswer, checkSteps, checksAfter, checkInParts, total}
-use Rattle.journal.specs.PartLaws.{SameAnswer, StepsAreTakeOver, EndIsSeen, ChecksAdd, NoStepsAskSix, SixIsNotReady, CheckedIsReady}
+use Rattle.journal.specs.PartLaws.{SameAnswer, StepsAreTakeOver, EndIsSeen, ChecksAdd, NoStepsAskSix, CheckedIsReady}
 use Rattle.journal.specs.declared.state.State.{State}
 use Rattle.journal.specs.declared.state.TakenOver.{TakenOver}
 use Rattle.journal.specs.declared.checking.Checked.{Checked}
 use Rattle.journal.specs.declared.checking.Step.{Step}
-use Rattle.journal.proofs.Answers.{Sound, sound-true, sound-yes}
+use Rattle.journal.proofs.Answers.{Sound, sound-true}
 use Rattle.journal.proofs.Check.{new-fits, new-is}
 use Rattle.journal.proofs.Heads.{good-head, read-length, read-typed}
-use Rattle.journal.proofs.Places.{length-entry}
-use Rattle.journal.proofs.Stepping.{full-true, full-false, after-within, Starts, Case, an-entry, at-end, a-start, step-case, idle, passed-step}
-use Rattle.journal.proofs.Passing.{renewed-length, renewed-place, renewed-section}
+use Rattle.journal.proofs.Stepping.{full-false, after-within, Starts, Case, an-entry, at-end, a-start, step-case, idle, passed-step}
+use Rattle.journal.proofs.Passing.{renewed-length, renewed-section, state-of}
 use Rattle.journal.proofs.CheckCalls.{Passed, passed, stopped-at, above-of}
 use Rattle.journal.proofs.Registers.{empty-work}
 use Rattle.journal.proofs.Accepting.{ownerIn}
@@ -102,10 +98,6 @@ ready-start st j x r =
       inside = omega (arith, renewed-length st s, x .fits);
       few = omega (arith, renewed-section st s);
     }
-
-state-of : (n : ℕ) (st : State) → stopped n st .state ≡ st
-unfolding stopped
-state-of n st = refl
 
 -- ---- more steps than bytes change nothing
 

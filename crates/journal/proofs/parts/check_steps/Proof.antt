@@ -1,6 +1,7 @@
 -- `parts::check_steps` meets its contract.
-use Rattle.journal.proofs.PartCalls.{ready-steady, not-ready, when-ready}
-use mathlib.Core.Path.{_∙_}
+use Rattle.journal.proofs.PartCalls.{ready-steady, when-ready}
+use Rattle.journal.proofs.PartSteps.{check-six}
+use mathlib.Core.Path.{sym, _∙_}
 use Rattle.primitives.proofs.Rows.{not-no, not-yes}
 use borrow.Author.Needs.{needs}
 use Rattle.journal.proofs.parts.check_steps.Statement.{statement}
@@ -13,7 +14,7 @@ handed-back-requires : tie.Need-handed-back-requires
 handed-back-requires c κs = search needs
 
 returns : tie.Need-returns
-returns c = c .handed-back .ensures ∙ not-ready (c .before .before .before .before .args .st) (c .before .before .before .before .args .j .now) (c .before .before .before .before .args .count) (not-no _ _ (c .before .before .ready .ensures) (c .before .if1 .taken))
+returns c = c .handed-back .ensures ∙ sym (check-six (c .before .before .before .before .args .st) (c .before .before .before .before .args .j .now) (c .before .before .before .before .args .count) (not-no _ _ (c .before .before .ready .ensures) (c .before .if1 .taken)))
 
 steps-from-requires : tie.Need-steps-from-requires
 steps-from-requires c κs = ready-steady (c .before .before .before .args .st) (c .before .before .before .args .j .now) (not-yes _ _ (c .before .ready .ensures) (c .if1 .left))
