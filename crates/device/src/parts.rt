@@ -18,8 +18,8 @@ pub extern "C" fn ditgrux_check_head(
     state: &mut [u8],
 ) -> u32
     ensures { λ r.
-        let a : _ = headAnswer (now (journal .entry)) (now (key .entry)) width (length (now (state .entry))) in
-        ⌜ (r ≡ a .number) × (now (state .exit) ≡ kept (now (state .entry)) (a .state)) ⌝ }
+        ⌜ (r ≡ headAnswer (now (journal .entry)) (now (key .entry)) width (length (now (state .entry))) .number)
+        × (now (state .exit) ≡ kept (now (state .entry)) (headAnswer (now (journal .entry)) (now (key .entry)) width (length (now (state .entry))) .state)) ⌝ }
 {
     if state.len() != STATE {
         return 6;
@@ -41,8 +41,9 @@ pub extern "C" fn ditgrux_check_steps(
     index: &mut u32,
 ) -> u32
     ensures { λ r.
-        let a : _ = stepsAnswer (now (state .entry)) (now (journal .entry)) steps in
-        ⌜ (r ≡ a .number) × (now (state .exit) ≡ kept (now (state .entry)) (a .state)) × (now (index .exit) ≡ a .index) ⌝ }
+        ⌜ (r ≡ stepsAnswer (now (state .entry)) (now (journal .entry)) steps .number)
+        × (now (state .exit) ≡ kept (now (state .entry)) (stepsAnswer (now (state .entry)) (now (journal .entry)) steps .state))
+        × (now (index .exit) ≡ stepsAnswer (now (state .entry)) (now (journal .entry)) steps .index) ⌝ }
 {
     let st = state_of(state);
     let answer = journal::check_steps(st, journal, steps);
