@@ -1,4 +1,4 @@
--- Zeros and bytes of erased flash behind a journal: read as the count of a serial they are no length of one.
+-- Zeros and bytes of erased flash after a journal: read as the count of a serial, they are no length of one.
 use Prim.Native.Nat.{ℕ, _+_, _-_, _≤_}
 use mathlib.Core.Path.{_≡_, refl, sym, ap, _∙_}
 use mathlib.Core.Bool.{Bool, true, false}
@@ -14,7 +14,7 @@ use Rattle.journal.specs.PartLaws.{ErasedStartsNoPair}
 use Rattle.journal.proofs.Readings.{start-section}
 use Rattle.journal.proofs.Stepping.{serial-len, start-within}
 
--- the count of four equal bytes behind a journal
+-- the count of four equal bytes after a journal
 count-same : (j : List ℕ) (b m : ℕ) → 4 ≤ m → countAt (j ++ replicate m b) (length j) 4 ≡ valueOf (replicate 4 b)
 count-same j b m h =
     let e : m ≡ 4 + (m - 4) = omega arith in

@@ -142,8 +142,7 @@ GrownJournalGoesOn =
     → (counts : List ℕ) → length grown ≤ total counts
     → SameAnswer (checksAfter (accepted (stateAfter o key n (ps ++ (p ∷ [])))) grown counts) (takeOver grown key n)
 
--- the same of a register: its state after some calls is one to go on from in the journal that further calls leave. "Each Issue gets the state that the call
--- before it returned and the buffer as that call left it"
+-- the same of a register: its state after some calls is one to go on from in the journal that further calls leave
 abbrev pub RegisterGoesOn : Type 0
 RegisterGoesOn =
     (s : Settings) (key : List ℕ) (shared : Bool) (n : ℕ) (buf : List ℕ) → TypedSettings s → AllBytes key → openNumber s shared n (length buf) ≡ 0
