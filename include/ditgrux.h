@@ -20,6 +20,8 @@
  *     ditgrux_take_over, after each start and whenever you like: checks the whole journal and gives the state back
  *     ditgrux_check_head and then ditgrux_check_steps, again and again: the same check in parts, for a long journal
  *     ditgrux_read_details, to print a receipt again: gives its details and its signature back
+ *     ditgrux_export, for an inspector: writes the journal and the certificates as the JSON text of the ordinance's annex
+ *     ditgrux_read_export: checks such a text, writes the journal that it spells and gives the state back
  *
  * CSP stands for certification service provider, which issued the certificate of the signature device. It is written as two
  * letters A-Z and a digit, such as AT0. The serial is that of the certificate, in lowercase hexadecimal.
@@ -117,8 +119,10 @@ enum ditgrux_number {
     DITGRUX_BAD_CODE = 24,        /* not a machine-readable code; fields: or one without a register ID */
     DITGRUX_BAD_FIELDS = 26,      /* a code without twelve fields, or whose counter or chain field is not canonical BASE64 */
     DITGRUX_BAD_LINE = 27,        /* not the optical line of a machine-readable code */
-    DITGRUX_SERIAL_USED = 30,     /* change, take_over, check_steps: the register has had this serial; asked after 3 and 21 */
-    DITGRUX_SERIALS_FULL = 31,    /* change, take_over, check_steps: a ninth serial */
+    DITGRUX_BAD_EXPORT = 28,      /* export: the certificates are not one group for each pair; read_export: the text is not an export */
+    DITGRUX_NO_RECEIPTS = 29,     /* read_export: an element of the export has no receipt */
+    DITGRUX_SERIAL_USED = 30,     /* change and all that take over: the register has had this serial; asked after 3 and 21 */
+    DITGRUX_SERIALS_FULL = 31,    /* change and all that take over: a ninth serial */
     DITGRUX_ID_ENDS_IN_DIGIT = 32 /* open_shared: the register ID ends in a digit; asked between DITGRUX_BAD_ID and DITGRUX_BAD_SERIAL */
 };
 
@@ -562,6 +566,70 @@ uint32_t ditgrux_uncode(const uint8_t *code, size_t code_length, uint8_t *output
  *
  * Returns DITGRUX_DONE, or DITGRUX_BAD_CODE (also if the code has no ID, or an empty one). Refused: *start and *length are 0. */
 uint32_t ditgrux_fields(const uint8_t *code, size_t code_length, size_t *start, size_t *length);
+
+/* ---- the export for an inspector
+ *
+ * The ordinance's annex (3) gives the text that an inspector loads. It is JSON, with one element for each pair of the journal:
+ *
+ *     {"Belege-Gruppe":[{"Signaturzertifikat":"..","Zertifizierungsstellen":["..",".."],"Belege-kompakt":["..",".."]}]}
+ *
+ * "Signaturzertifikat" is the certificate of the signature device, and "Zertifizierungsstellen" are the certificates of its issuers,
+ * all of them in BASE64 (padded). "Belege-kompakt" are the compact forms of the pair's receipts, in order.
+ *
+ * The certificates come as groups, one for each pair and in the same order, with no byte between or after them. A group is one byte
+ * with the number of certificates, 1 to 255, and then each certificate after its length in two bytes, big-endian: first that of the
+ * signature device, then those of its issuers. A certificate is copied as it is, as a rule DER; it may be 0 to 65,535 bytes long.
+ */
+
+/* Checks a journal as ditgrux_take_over does and writes it, with its certificates, as the text above, without blanks. A pair without
+ * receipts is written, too, with an empty list.
+ *
+ *     journal, journal_length     the journal, and its exact length (not the size of its buffer)
+ *     key, key_length             the AES-256 key, 32 bytes
+ *     width                       bytes of the turnover counter, 5 to 8
+ *     certificates, certificates_length
+ *                                 one group for each pair of the journal, see above
+ *     output, output_length       output: the text; nothing is written after it
+ *     length                      output: the length of the text
+ *     index                       output: where the journal is refused, as in ditgrux_take_over
+ *
+ * Returns DITGRUX_DONE, or what ditgrux_take_over returns for this journal, key and width, with its *index (never DITGRUX_BAD_STATE);
+ * then DITGRUX_BAD_EXPORT (the certificates are not exactly one group for each pair), or DITGRUX_OUTPUT_SHORT, both with *index 0.
+ * Refused: `output` is unchanged and *length is 0. */
+uint32_t ditgrux_export(const uint8_t *journal, size_t journal_length, const uint8_t *key, size_t key_length, size_t width,
+                        const uint8_t *certificates, size_t certificates_length, uint8_t *output, size_t output_length,
+                        size_t *length, uint32_t *index);
+
+/* Reads an export: checks the text, checks the journal that it spells as ditgrux_take_over does, writes that journal and the state that
+ * it leads to. The certificates are checked for their spelling and are not kept.
+ *
+ * The text may have JSON blanks (space, tab, line feed, return) where JSON has them, the three inner names of an element in any order,
+ * and the escape \u003d, with a small d, for '='. A string holds the bytes 32 to 126 without quote and backslash, or that escape.
+ * Anything else, though JSON has it, is refused: another name, a name twice or missing, another escape, a byte order mark.
+ *
+ * The journal gets CSP and register ID from the first receipt of the first element, and the serial of each pair from the first
+ * receipt of its element. All other receipts must name the same.
+ *
+ *     text, text_length           the export
+ *     key, key_length             the AES-256 key, 32 bytes
+ *     width                       bytes of the turnover counter, 5 to 8
+ *     output, output_length       output: the journal; nothing is written after it. text_length bytes are always enough
+ *     state, state_length         output: exactly 447 bytes
+ *     length                      output: the length of the journal
+ *     index                       output: where the journal is refused, as in ditgrux_take_over
+ *
+ * Returns DITGRUX_DONE, or DITGRUX_BAD_STATE (state_length is not 447); then, each asked of all elements before the next one is asked,
+ * DITGRUX_BAD_EXPORT (the text is not of the shape above or has no element, a certificate is not in canonical BASE64, a receipt is
+ * over 65,535 bytes long, or an element has over 4,294,967,295 receipts), DITGRUX_NO_RECEIPTS (an element has none), DITGRUX_BAD_EXPORT
+ * (the first receipt of an element is not three parts with '.' between them, the middle one canonical BASE64-URL of "_" and twelve
+ * fields joined by '_', with a good CSP after "R1-" in the first, a good ID in the second and a good serial in the eleventh), and
+ * DITGRUX_OUTPUT_SHORT; then what ditgrux_take_over returns for the journal that the text spells, with its *index. Of those,
+ * DITGRUX_BAD_HEAD, DITGRUX_ENTRY_CUT and DITGRUX_BYTES_LEFT cannot come.
+ * Refused: `output` is unchanged and *length is 0. With DITGRUX_BAD_STATE `state` is unchanged, too; with any other number it is 447
+ * zeros. */
+uint32_t ditgrux_read_export(const uint8_t *text, size_t text_length, const uint8_t *key, size_t key_length, size_t width,
+                             uint8_t *output, size_t output_length, uint8_t *state, size_t state_length, size_t *length,
+                             uint32_t *index);
 
 /* ---- the optical line
  *
