@@ -11,9 +11,12 @@ use Rattle.primitives.specs.Bytes.{same}
 use Rattle.primitives.specs.Number.{countAt}
 use Rattle.primitives.specs.Counter.{widthGood}
 use Rattle.primitives.specs.Aes.{keySchedule}
+use Rattle.receipt.specs.Settings.{serialGood, settingsGood}
 use Rattle.receipt.specs.Details.{standard}
 use Rattle.receipt.specs.Chain.{decryptedCounter}
 use Rattle.receipt.specs.Compact.{noEntry, readEntry}
+use Rattle.receipt.specs.declared.settings.Name.{Name}
+use Rattle.receipt.specs.declared.settings.Settings.{Settings}
 use Rattle.receipt.specs.declared.payload.PayloadFields.{PayloadFields}
 use Rattle.receipt.specs.declared.entry.Entry.{Entry}
 use Rattle.receipt.specs.declared.entry.Found.{Found}
@@ -144,6 +147,24 @@ entryReady st text = soundAlone st && leb (st .length + length (entryText text))
 
 unfoldable pub entryChecked : List (List ℕ) → State → List ℕ → Checked
 entryChecked schedule st text = cond (entryReady st text) (textChecked schedule st text) (stopped 6 st)
+
+-- 4 and 14, asked of a width and the settings of a head; else the state of a register without receipts
+unfoldable pub settingsChecked : Settings → List ℕ → ℕ → TakenOver
+settingsChecked s key n =
+    ifZero (ask (widthGood n) 4 (ask (settingsGood s) 14 0)) (accepted (fresh s n key)) (refused (ask (widthGood n) 4 (ask (settingsGood s) 14 0)) 0)
+
+-- the journal length after the start of a pair fits 64 bits
+unfoldable pub serialReady : State → Name → Bool
+serialReady st serial = soundAlone st && leb (st .length + 8 + serial .len) 18446744073709551615
+
+-- 21, 30 and 31, asked of the serial that starts a pair
+unfoldable pub serialNumber : State → Name → ℕ
+serialNumber st serial = ask (serialGood serial) 21 (renewNumber st serial 0)
+
+unfoldable pub serialChecked : State → Name → Checked
+serialChecked st serial =
+    cond (serialReady st serial)
+    (ifZero (serialNumber st serial) (stopped 0 (renewed st serial)) (stopped (serialNumber st serial) st)) (stopped 6 st)
 
 unfoldable pub stepChecked : List (List ℕ) → State → List ℕ → Checked
 stepChecked schedule st j = cond (sound st (length j)) (oneStep schedule st j) (stopped 6 st)

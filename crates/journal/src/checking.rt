@@ -18,7 +18,9 @@ use super::step::sound;
 use super::step::sound_alone;
 use receipt::Found;
 use receipt::Kind;
+use receipt::Name;
 use receipt::PayloadFields;
+use receipt::Settings;
 ghost use mathlib.Core.Path.{_≡_};
 ghost use mathlib.Core.Bool.{true, false};
 ghost use Prim.Native.Nat.{_+_, _≤_, _<_};
@@ -26,7 +28,7 @@ ghost use lib.ListN.{length};
 ghost use Rattle.primitives.specs.Bytes.{same};
 ghost use Rattle.primitives.specs.Aes.{keySchedule};
 ghost use Rattle.receipt.specs.Chain.{decryptedCounter};
-ghost use Rattle.journal.specs.Checking.{equal, counterRight, contextNumber, full, stopped, textChecked, placeChecked, startChecked, endChecked, Steady, oneStep, steps, refused, accepted, lastAnswer, checkHead, takeOver, entryReady, entryChecked, stepChecked};
+ghost use Rattle.journal.specs.Checking.{equal, counterRight, contextNumber, full, stopped, textChecked, placeChecked, startChecked, endChecked, Steady, oneStep, steps, refused, accepted, lastAnswer, checkHead, takeOver, entryReady, entryChecked, settingsChecked, serialReady, serialChecked, stepChecked};
 ghost use Rattle.journal.specs.State.{serialsGood};
 
 // ---- one entry
@@ -330,6 +332,48 @@ pub fn check_entry(schedule: &[[u8; 4]; 60], st: State, text: &[u8]) -> Checked
         return stopped(6, st);
     }
     check_text(schedule, st, text)
+}
+
+// The state of a register without receipts, from its settings: what check_head gives for a head with these settings. Questions 4 and 14.
+pub fn check_settings(settings: Settings, key: [u8; 32], n: usize) -> TakenOver
+    ensures { λ r. ⌜ r ≡ settingsChecked settings key n ⌝ }
+{
+    if !receipt::width_good(n) {
+        return refused(4, 0);
+    }
+    if !receipt::settings_good(settings) {
+        return refused(14, 0);
+    }
+    let st = fresh(settings, n, key);
+    accepted(st)
+}
+
+// The journal length after the start of a pair fits 64 bits.
+fn serial_ready(st: State, serial: Name) -> bool
+    ensures { λ r. ⌜ r ≡ serialReady st serial ⌝ }
+{
+    if !sound_alone(st) {
+        return false;
+    }
+    receipt::has_room(18446744073709551607, st.length, serial.len)
+}
+
+// The start of a pair, from its serial. State sound? 6. Then questions 21, 30 and 31.
+pub fn check_serial(st: State, serial: Name) -> Checked
+    ensures { λ r. ⌜ r ≡ serialChecked st serial ⌝ }
+{
+    if !serial_ready(st, serial) {
+        return stopped(6, st);
+    }
+    if !receipt::serial_good(serial) {
+        return stopped(21, st);
+    }
+    let number = renew_number(st, serial);
+    if number != 0 {
+        return stopped(number, st);
+    }
+    let state = renewed(st, serial);
+    stopped(0, state)
 }
 
 // One step of a take-over, from the state's place in a journal. State sound for this journal? 6. Then questions 15 to 20, or 21, 30 and 31 after

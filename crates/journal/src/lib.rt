@@ -14,6 +14,8 @@ pub use changing::change;
 pub use checking::Checked;
 pub use checking::check_entry;
 pub use checking::check_head;
+pub use checking::check_serial;
+pub use checking::check_settings;
 pub use checking::check_step;
 pub use checking::take_over;
 pub use issuing::issue;

@@ -1,0 +1,11 @@
+pub mod Lexing
+pub mod Naming
+pub mod Tokening
+pub mod Arrays
+pub mod Members
+pub mod Objects
+pub mod Lexical
+pub mod Documents
+pub mod Passing
+pub mod Unique
+pub mod Back

@@ -1,0 +1,297 @@
+-- A walk over an array that is known to stand there yields its items, in order.
+use mathlib.Core.Path.{_≡_, refl, sym, ap, _∙_}
+use mathlib.Core.Bool.{Bool, true, false, cond, _&&_}
+use mathlib.Core.List.{List, [], _∷_, _++_}
+use Prim.Native.Nat.{ℕ, zero, suc, _+_, _-_, _<_, _≤_}
+use native.Mathlib.Omega.{arith}
+use native.Mathlib.Numerals.{add-one}
+use borrow.Author.Tests.{eqb-true, eqb-false, lt-leb, le-leb}
+use lib.Dec.{eqb, eqb·suc-zero}
+use lib.ListN.{length, take, drop, getD, drop-of-length-le}
+use lib.Seq.{drop-cons}
+use Rattle.exports.specs.Text.{Token, mark, word, every}
+use Rattle.exports.specs.Lexer.{content, before}
+use Rattle.exports.specs.Shape.{array, following, string, strings, groupName, Element, Written, written, document, elements, Shape}
+use Rattle.exports.specs.Places.{from, Next, Reads, one, Keyed, Begun, Followed, ElementRead, holds, PartRead}
+use Rattle.exports.specs.Strings.{leftAfter, counted, closing, short, shortReceipts, GroupPlace}
+use Rattle.exports.specs.declared.lexer.Found.{Found}
+use Rattle.exports.specs.declared.walk.Key.{Key}
+use Rattle.exports.specs.declared.walk.Cursor.{Cursor}
+use Rattle.exports.specs.declared.shape.Places.{Places}
+use Rattle.exports.proofs.Lexing.{no-truth}
+use Rattle.exports.proofs.Tokening.{head-is, tail-is, other-mark, stands, found-word, read-word, read-no-word}
+use Rattle.exports.proofs.Arrays.{Opens, cons-array, nil-array, cons-following, nil-following, remains, falls, string-opens}
+use Rattle.exports.proofs.Members.{group-is}
+use Rattle.exports.proofs.Lexical.{lexed}
+
+module _ {A : Type 0} (item : A → List Token) where
+  -- the items that are left at a cursor, and what stands after the array
+  pub record Left (text : List ℕ) (c : Cursor) (xs : List A) (r : List Token) : Type 0 where
+    pub more : c .more ≡ true → (x : A) × (xs′ : List A) × (xs ≡ x ∷ xs′) × (from text (c .at) ≡ item x ++ (following item xs′ ++ r))
+    pub ended : c .more ≡ false → (xs ≡ []) × (from text (c .at) ≡ r)
+
+  pub left-start : {text : List ℕ} {at : ℕ} {c : Cursor} → Opens item → Begun text at c → (xs : List A) (r : List Token) → from text at ≡ array item xs ++ r → Left text c xs r
+  left-start {text} {at} {c} o b [] r q =
+      record {
+        more = λ e. absurd (b .more e .2 r (tail-is (sym (b .more e .1) ∙ q ∙ nil-array item r)));
+        ended = λ e. (refl, go e (c .at) refl);
+      }
+    where
+      go : c .more ≡ false → (n : ℕ) → c .at ≡ n → from text (c .at) ≡ r
+      go e zero z = absurd (b .none e z _ (q ∙ nil-array item r))
+      go e (suc n) z = tail-is (tail-is (sym (b .ended e (omega arith)) ∙ q ∙ nil-array item r))
+  left-start {text} {at} {c} o b (x ∷ xs) r q =
+      record {
+        more = λ e. (x, xs, refl, tail-is (sym (b .more e .1) ∙ q ∙ cons-array item x xs r));
+        ended = λ e. absurd (go e (c .at) refl);
+      }
+    where
+      go : c .more ≡ false → (n : ℕ) → c .at ≡ n → ⊥
+      go e zero z = b .none e z _ (q ∙ cons-array item x xs r)
+      go e (suc n) z = o .differs x _ _ (sym (tail-is (sym (b .ended e (omega arith)) ∙ q ∙ cons-array item x xs r)))
+
+  -- one item more
+  pub left-more : {text : List ℕ} {at p : ℕ} {d : Cursor} (x : A) (xs : List A) (r : List Token) → from text at ≡ item x ++ (following item xs ++ r) → Reads item text at p → Followed text p d → Left text d xs r
+  left-more {text} {at} {p} {d} x [] r q i f =
+      let s = i .complete x _ q .1 ∙ nil-following item r in
+      record {
+        more = λ e. other-mark (λ z. omega arith) (sym (f .more e .1) ∙ s);
+        ended = λ e. (refl, go s e (d .at) refl);
+      }
+    where
+      go : from text p ≡ mark 93 ∷ r → d .more ≡ false → (n : ℕ) → d .at ≡ n → from text (d .at) ≡ r
+      go s e zero z = absurd (f .none e z r .1 s)
+      go s e (suc n) z = tail-is (sym (f .ended e (omega arith)) ∙ s)
+  left-more {text} {at} {p} {d} x (y ∷ ys) r q i f =
+      let s = i .complete x _ q .1 ∙ cons-following item y ys r in
+      record {
+        more = λ e. (y, ys, refl, tail-is (sym (f .more e .1) ∙ s));
+        ended = λ e. absurd (go s e (d .at) refl);
+      }
+    where
+      go : {l : List Token} → from text p ≡ mark 44 ∷ l → d .more ≡ false → (n : ℕ) → d .at ≡ n → ⊥
+      go s e zero z = f .none e z _ .0 s
+      go s e (suc n) z = other-mark (λ w. omega arith) (sym (f .ended e (omega arith)) ∙ s)
+
+  -- ---- a definition by recursion on the items, along a walk: F is it from the start, G from the cursor on
+
+  module _ {B : Type 0} where
+    pub record Passing (F G : List A → B) (text : List ℕ) (at : ℕ) (c : Cursor) : Type 0 where
+      pub inside : c .at ≤ length text
+      pub left : (xs : List A) (r : List Token) → from text at ≡ array item xs ++ r → (ys : List A) × (Left text c ys r) × (F xs ≡ G ys)
+
+    pub pass-start : {text : List ℕ} {at : ℕ} {c : Cursor} (F : List A → B) → Opens item → Begun text at c → Passing F F text at c
+    pass-start F o b = record { inside = b .inside; left = λ xs r q. (xs, left-start o b xs r q, refl) }
+
+    module _ {F G : List A → B} {text : List ℕ} {at : ℕ} {c : Cursor} (w : Passing F G text at c) where
+      pub pass-end : c .more ≡ false → (xs : List A) (r : List Token) → from text at ≡ array item xs ++ r → G [] ≡ F xs
+      pass-end e xs r q = let l = w .left xs r q in sym (l .2 ∙ ap G (l .1 .ended e .0))
+
+      module _ (e : c .more ≡ true) where
+        -- the item at the cursor decides
+        pub pass-out : (b : B) → ((x : A) (xs : List A) (r : List Token) → from text (c .at) ≡ item x ++ r → G (x ∷ xs) ≡ b)
+            → (xs : List A) (r : List Token) → from text at ≡ array item xs ++ r → b ≡ F xs
+        pass-out b h xs r q =
+            let l = w .left xs r q in
+            let m = l .1 .more e in
+            sym (l .2 ∙ ap G (m .2) ∙ h (m .0) (m .1) _ (m .3))
+
+        -- it is passed
+        pub pass-more : {p : ℕ} {d : Cursor} (H : List A → B) → ((x : A) (xs : List A) (r : List Token) → from text (c .at) ≡ item x ++ r → G (x ∷ xs) ≡ H xs)
+            → Reads item text (c .at) p → Followed text p d → Passing F H text at d
+        pass-more H h i f =
+            record {
+              inside = f .inside;
+              left = λ xs r q.
+                  let l = w .left xs r q in
+                  let m = l .1 .more e in
+                  (m .1, left-more (m .0) (m .1) r (m .3) i f, l .2 ∙ ap G (m .2) ∙ h (m .0) (m .1) _ (m .3));
+            }
+
+        pub pass-falls : {p : ℕ} {d : Cursor} → Reads item text (c .at) p → (p ≡ 0 → ⊥) → Followed text p d → remains text d < remains text c
+        pass-falls {p} {d} i z f =
+            let pos : 0 < p = omega (arith, z) in
+            falls text c d e (w .inside) (λ m. omega (arith, i .onward pos, f .onward (f .more m .0))) (f .inside)
+
+-- the answer of a question to an item, for `every`
+pub every-no : {A : Type 0} (good : A → Bool) (x : A) (xs : List A) → good x ≡ false → every good (x ∷ xs) ≡ false
+unfolding every
+every-no good x xs e = rw e
+
+pub every-yes : {A : Type 0} (good : A → Bool) (x : A) (xs : List A) → good x ≡ true → every good (x ∷ xs) ≡ every good xs
+unfolding every
+every-yes good x xs e = rw e
+
+pub every-all : {A : Type 0} (good : A → Bool) → every good [] ≡ true
+unfolding every
+every-all good = refl
+
+-- ---- what a string spells
+
+-- a byte more
+content-step : (b : ℕ) (text : List ℕ) (k : ℕ) → closing k b ≡ false → length (content (b ∷ text) k) ≡ counted k + length (content text (leftAfter k b))
+unfolding content counted leftAfter closing
+content-step b text zero h = rw h (go (eqb b 92))
+  where
+    go : (t : Bool) → length (cond t (61 ∷ content text 5) (b ∷ content text 0)) ≡ 1 + length (content text (cond t 5 0))
+    go true = omega arith
+    go false = omega arith
+content-step b text (suc k) h =
+    let z : eqb (suc k) 0 ≡ false = eqb·suc-zero k in
+    let q : suc k - 1 ≡ k = omega arith in
+    rw (z, q) (omega arith)
+
+content-close : (b : ℕ) (text : List ℕ) (k : ℕ) → closing k b ≡ true → content (b ∷ text) k ≡ []
+unfolding content closing
+content-close b text zero h = rw h
+content-close b text (suc k) h = no-truth (rw (eqb·suc-zero k) at h)
+
+pub few : (k : ℕ) → counted k ≤ 1
+unfolding counted
+few k = go (eqb k 0)
+  where
+    go : (t : Bool) → cond t 1 0 ≤ 1
+    go true = omega arith
+    go false = omega arith
+
+pub record Measuring (text : List ℕ) (start i k n : ℕ) : Type 0 where
+  pub inside : i ≤ length text
+  pub small : n + start ≤ i
+  pub same : length (content (drop start text) 0) ≡ n + length (content (drop i text) k)
+
+pub measure-start : (text : List ℕ) (start : ℕ) → start ≤ length text → Measuring text start start 0 0
+measure-start text start h = record { inside = h; small = omega arith; same = omega arith }
+
+module _ {text : List ℕ} {start i k n : ℕ} (m : Measuring text start i k n) where
+  pub measure-close : {r : Bool} → i < length text → r ≡ closing k (getD text i 0) → r ≡ true → n ≡ length (content (drop start text) 0)
+  measure-close h e t =
+      let q : length (content (drop i text) k) ≡ 0 = ap length (ap (λ (l : List ℕ). content l k) (drop-cons text i 0 h) ∙ content-close _ _ k (sym e ∙ t)) in
+      omega (arith, m .same)
+
+  pub measure-more : {r : Bool} {k′ d : ℕ} → i < length text → r ≡ closing k (getD text i 0) → r ≡ false → d ≡ counted k → k′ ≡ leftAfter k (getD text i 0) → Measuring text start (i + 1) k′ (n + d)
+  measure-more {r} {k′} {d} h e t x y =
+      let s = m .small in
+      let one : counted k ≤ 1 = few k in
+      let q : length (content (drop i text) k) ≡ counted k + length (content (drop (suc i) text) (leftAfter k (getD text i 0)))
+      = ap (λ (l : List ℕ). length (content l k)) (drop-cons text i 0 h) ∙ content-step _ _ k (sym e ∙ t) in
+      record { inside = omega arith; small = omega arith; same = rw (add-one i, y) (omega (arith, m .same)) }
+
+  pub measure-end : length text ≤ i → n ≡ length (content (drop start text) 0)
+  unfolding content
+  measure-end h =
+      let q : length (content (drop i text) k) ≡ 0 = rw (drop-of-length-le text h) in
+      omega (arith, m .same)
+
+module _ {text : List ℕ} {at : ℕ} {t : Found} (n : Next text at t) where
+  pub no-word : (t .kind ≡ 34 → ⊥) → (x : List ℕ) (r : List Token) → from text at ≡ string x ++ r → short x ≡ false
+  no-word h x r q = absurd (h (stands n (word x) r q .kind))
+
+  pub word-above : t .kind ≡ 34 → t .next ≡ 0 → ⊥
+  word-above e z = omega (arith, found-word n e .0)
+
+  module _ (e : t .kind ≡ 34) {l : ℕ} (is : l ≡ length (content (drop (t .start) text) 0)) where
+    pub spelled : (x : List ℕ) (r : List Token) → from text at ≡ string x ++ r → length x ≡ l
+    spelled x r q = ap length (ap (λ (k : Token). k .content) (head-is (sym q ∙ found-word n e .1))) ∙ sym is
+
+    pub too-long : 65535 < l → (x : List ℕ) (r : List Token) → from text at ≡ string x ++ r → short x ≡ false
+    unfolding short
+    too-long h x r q = lt-leb (length x) 65535 (omega (arith, spelled x r q))
+
+    pub not-long : l ≤ 65535 → (x : List ℕ) (r : List Token) → from text at ≡ string x ++ r → short x ≡ true
+    unfolding short
+    not-long h x r q = le-leb (length x) 65535 (omega (arith, spelled x r q))
+
+-- ---- all elements
+
+abbrev pub goodWritten : Written → Bool
+goodWritten w = shortReceipts (w .element)
+
+pub group-found : {text : List ℕ} {p : ℕ} {k : Key} → Reads (one 123) text 0 p → Keyed text p k → GroupPlace text (k .next)
+unfolding document
+group-found {text} {p} {k} r d =
+    record {
+      inside = d .inside;
+      is = λ ws q.
+          let c = d .complete groupName _ (r .complete tt _ q .1) in
+          let e = c .0 ∙ group-is in
+          c .1 (omega arith);
+    }
+
+every-written : (ws : List Written) → every goodWritten ws ≡ every shortReceipts (elements ws)
+unfolding every elements
+every-written [] = refl
+every-written (w ∷ ws) = ap (λ (b : Bool). shortReceipts (w .element) && b) (every-written ws)
+
+-- what a walk over the elements finds is true of what the text spells
+pub finish : {text : List ℕ} {g : ℕ} {b : Bool} → GroupPlace text g → ((ws : List Written) (r : List Token) → from text g ≡ array written ws ++ r → b ≡ every goodWritten ws)
+    → (es : List Element) → Shape text es → b ≡ every shortReceipts es
+unfolding from
+finish p h es s = h (s .order) _ (p .is (s .order) (lexed (s .spelled))) ∙ every-written (s .order) ∙ ap (every shortReceipts) (s .same)
+
+module _ {text : List ℕ} {at : ℕ} {p : Places} (e : ElementRead text at p) where
+  pub no-element : p .next ≡ 0 → (w : Written) (r : List Token) → from text at ≡ written w ++ r → goodWritten w ≡ false
+  no-element z w r q = absurd (omega (arith, e .reads .complete w r q .0))
+
+  pub its-receipts : {b : Bool} → ((ws : List (List ℕ)) (r : List Token) → from text (p .receipts) ≡ strings ws ++ r → b ≡ every short ws)
+      → (w : Written) (r : List Token) → from text at ≡ written w ++ r → goodWritten w ≡ b
+  unfolding shortReceipts
+  its-receipts h w r q = let f = e .found w r q .receipts in sym (h (w .element .receipts) (f .0) (f .1))
+
+-- ---- counting, as an example of a state that is carried along
+
+pub record Counting (text : List ℕ) (at n : ℕ) (c : Cursor) : Type 0 where
+  pub pass : Passing string length (λ (ws : List (List ℕ)). n + length ws) text at c
+  pub small : c .more ≡ true → n < c .at
+
+pub count-start : {text : List ℕ} {at : ℕ} {c : Cursor} → Begun text at c → Counting text at 0 c
+count-start b =
+    record {
+      pass = record { inside = b .inside; left = λ xs r q. (xs, left-start string string-opens b xs r q, omega arith) };
+      small = λ e. b .more e .0;
+    }
+
+module _ {text : List ℕ} {at n p : ℕ} {c : Cursor} (k : Counting text at n c) (e : c .more ≡ true) (i : Reads string text (c .at) p) where
+  pub count-refused : p ≡ 0 → (ws : List (List ℕ)) (r : List Token) → from text at ≡ strings ws ++ r → 0 ≡ length ws
+  count-refused z = pass-out string (k .pass) e 0 (λ x xs r q. absurd (omega (arith, i .complete x r q .0)))
+
+  pub count-more : {d : Cursor} → (p ≡ 0 → ⊥) → Followed text p d → Counting text at (n + 1) d
+  count-more {d} z f =
+      let pos : 0 < p = omega (arith, z) in
+      record {
+        pass = pass-more string (k .pass) e (λ (ws : List (List ℕ)). n + 1 + length ws) (λ x xs r q. omega arith) i f;
+        small = λ m. omega (arith, k .small e, i .onward pos, f .onward (f .more m .0));
+      }
+
+pub count-end : {text : List ℕ} {at n : ℕ} {c : Cursor} → Counting text at n c → c .more ≡ false → (ws : List (List ℕ)) (r : List Token) → from text at ≡ strings ws ++ r → n ≡ length ws
+count-end {n = n} k e ws r q = let h : n + 0 ≡ length ws = pass-end string (k .pass) e ws r q in omega arith
+
+-- ---- a string where it lies
+
+module _ {text : List ℕ} {at : ℕ} {t : Found} (n : Next text at t) where
+  pub no-part : (t .kind ≡ 34 → ⊥) → PartRead text at (record { whole = false; start = 0; end = 0; next = 0 })
+  no-part h =
+      record {
+        reads = read-no-word n h;
+        ordered = omega arith;
+        inside = omega arith;
+        is = λ w r q. absurd (h (stands n (word w) r q .kind));
+        escaped = λ w r q. absurd (h (stands n (word w) r q .kind));
+      }
+
+  pub part-found : t .kind ≡ 34 → {l : ℕ} → l ≡ length (content (drop (t .start) text) 0)
+      → PartRead text at (record { whole = eqb l (t .next - 1 - t .start); start = t .start; end = t .next - 1; next = t .next })
+  part-found e {l} m =
+      let q = n .quote e in
+      let i = n .inside in
+      let u : t .next - 1 - t .start ≡ before (drop (t .start) text) = omega arith in
+      let same : (w : List ℕ) (r : List Token) → from text at ≡ string w ++ r → w ≡ content (drop (t .start) text) 0
+      = λ w r s. ap (λ (k : Token). k .content) (head-is (sym s ∙ found-word n e .1)) in
+      record {
+        reads = read-word n e;
+        ordered = omega arith;
+        inside = omega arith;
+        is = λ w r s h.
+            let z : length (content (drop (t .start) text) 0) ≡ before (drop (t .start) text) = sym m ∙ eqb-true l (t .next - 1 - t .start) h ∙ u in
+            ap (λ (x : ℕ). take x (drop (t .start) text)) u ∙ sym (n .lying e .is z) ∙ sym (same w r s);
+        escaped = λ w r s h. ap (holds 61) (same w r s) ∙ n .lying e .escaped (λ z. eqb-false l (t .next - 1 - t .start) h (m ∙ z ∙ sym u));
+      }

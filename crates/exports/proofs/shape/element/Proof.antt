@@ -1,0 +1,50 @@
+-- `shape::element` meets its contract.
+use borrow.Author.Needs.{needs}
+use Rattle.exports.proofs.Objects.{element-no-1, element-no-2, element-no-3, element-no-4, element-found}
+use Rattle.exports.proofs.shape.element.Statement.{statement}
+use Rattle.exports.proofs.shape.element.Tie as tie
+
+member-requires : tie.Need-member-requires
+member-requires c κs = search needs
+
+returns : tie.Need-returns
+returns c = element-no-1 (c .before .before .member .ensures) (c .if1 .taken)
+
+member-requires-2 : tie.Need-member-requires-2
+member-requires-2 c κs = (c .before .before .member .ensures .reads .inside, search needs)
+
+returns-2 : tie.Need-returns-2
+returns-2 c = element-no-2 (c .before .before .before .before .before .member .ensures) (c .before .before .member2 .ensures) (c .if2 .taken)
+
+member-requires-3 : tie.Need-member-requires-3
+member-requires-3 c κs = (c .before .before .member2 .ensures .reads .inside, search needs)
+
+returns-3 : tie.Need-returns-3
+returns-3 c = element-no-3 (c .before .before .before .before .before .before .before .before .member .ensures) (c .before .before .before .before .before .member2 .ensures) (c .before .before .member3 .ensures) (c .if3 .taken)
+
+expect-requires : tie.Need-expect-requires
+expect-requires c κs = (c .before .before .member3 .ensures .reads .inside, search needs)
+
+returns-4 : tie.Need-returns-4
+returns-4 c = element-no-4 (c .before .before .before .before .before .before .before .before .before .before .member .ensures) (c .before .before .before .before .before .before .before .member2 .ensures) (c .before .before .before .before .member3 .ensures) (rw (c .if4 .taken) at (c .before .expect .ensures))
+
+all-places-requires : tie.Need-all-places-requires
+all-places-requires c κs = search needs
+
+returns-5 : tie.Need-returns-5
+returns-5 c = element-found (c .before .before .before .before .before .before .before .before .before .before .before .member .ensures) (c .before .before .before .before .before .before .before .before .member2 .ensures) (c .before .before .before .before .before .member3 .ensures) (c .before .before .expect .ensures) (c .before .before .before .before .before .before .before .before .before .if1 .left) (c .before .before .before .before .before .before .if2 .left) (c .before .before .before .if3 .left) (c .before .if4 .left) (c .all-places .ensures)
+
+pub element-spec : {M : Type 1} → statement M
+element-spec =
+    tie.close
+    (tie.spec
+    member-requires
+    returns
+    member-requires-2
+    returns-2
+    member-requires-3
+    returns-3
+    expect-requires
+    returns-4
+    all-places-requires
+    returns-5)

@@ -1,0 +1,15 @@
+pub mod Text
+pub mod Lexer
+pub mod Shape
+pub mod Places
+pub mod Strings
+pub mod Parsed
+pub mod Exact
+pub mod Output
+pub mod Spelled
+pub mod Groups
+pub mod Naming
+pub mod Reading
+pub mod Writing
+pub mod Passing
+pub mod Running

@@ -1,0 +1,206 @@
+// Tokens of a text, from a place on.
+ghost use mathlib.Core.Path.{_≡_};
+ghost use mathlib.Core.Bool.{true};
+ghost use Prim.Native.Nat.{_≤_};
+ghost use lib.ListN.{length, drop};
+ghost use Rattle.exports.specs.Text.{blank, isMark, plain};
+ghost use Rattle.exports.specs.Lexer.{letterLeft, afterByte, content};
+ghost use Rattle.exports.specs.Places.{Skipped, Closed, Next, eqList, bare};
+
+// A token: its kind is 0 at the end, 1 for a wrong byte, 34 for a string, or the mark itself.
+// The letters of a string begin at `start`; `next` is the place after the token.
+pub struct Found {
+    pub kind: u8,
+    pub start: usize,
+    pub next: usize,
+}
+
+pub(crate) fn is_blank(b: u8) -> bool
+    ensures { λ r. ⌜ r ≡ blank b ⌝ }
+{
+    if b == 32 {
+        return true;
+    }
+    if b == 9 {
+        return true;
+    }
+    if b == 10 {
+        return true;
+    }
+    b == 13
+}
+
+pub(crate) fn is_mark(b: u8) -> bool
+    ensures { λ r. ⌜ r ≡ isMark b ⌝ }
+{
+    if b == 123 {
+        return true;
+    }
+    if b == 125 {
+        return true;
+    }
+    if b == 91 {
+        return true;
+    }
+    if b == 93 {
+        return true;
+    }
+    if b == 58 {
+        return true;
+    }
+    b == 44
+}
+
+pub(crate) fn is_plain(b: u8) -> bool
+    ensures { λ r. ⌜ r ≡ plain b ⌝ }
+{
+    if b < 32 {
+        return false;
+    }
+    if 126 < b {
+        return false;
+    }
+    if b == 34 {
+        return false;
+    }
+    b != 92
+}
+
+// The letter of "u003d" that comes when k of them are left.
+pub(crate) fn letter_left(k: u8) -> u8
+    ensures { λ r. ⌜ r ≡ letterLeft k ⌝ }
+{
+    if k == 5 {
+        return 117;
+    }
+    if k == 2 {
+        return 51;
+    }
+    if k == 1 {
+        return 100;
+    }
+    48
+}
+
+// How many letters of an escape are left after a byte of a string; 9 for a byte that cannot stand there.
+pub(crate) fn after_byte(k: u8, b: u8) -> u8
+    ensures { λ r. ⌜ r ≡ afterByte k b ⌝ }
+{
+    if k == 0 {
+        if b == 92 {
+            return 5;
+        }
+        if is_plain(b) {
+            return 0;
+        }
+        return 9;
+    }
+    if b == letter_left(k) {
+        return k - 1;
+    }
+    9
+}
+
+pub(crate) fn skip_blanks(text: &[u8], at: usize) -> usize
+    requires { ⌜ at ≤ length (now text) ⌝ }
+    ensures { λ r. ⌜ Skipped (now (text .entry)) at r ⌝ }
+{
+    let mut i = at;
+    while i < text.len() {
+        if !is_blank(text[i]) {
+            return i;
+        }
+        i += 1;
+    }
+    i
+}
+
+// The place after the quote that closes a string; 0 where the string is no good one.
+pub(crate) fn string_end(text: &[u8], start: usize) -> usize
+    requires { ⌜ start ≤ length (now text) ⌝ }
+    ensures { λ r. ⌜ Closed (now (text .entry)) start r ⌝ }
+{
+    let mut i = start;
+    let mut k: u8 = 0;
+    while i < text.len() {
+        let b = text[i];
+        if b == 34 {
+            if k == 0 {
+                return i + 1;
+            }
+            return 0;
+        }
+        k = after_byte(k, b);
+        if k == 9 {
+            return 0;
+        }
+        i += 1;
+    }
+    0
+}
+
+pub(crate) fn next(text: &[u8], at: usize) -> Found
+    requires { ⌜ at ≤ length (now text) ⌝ }
+    ensures { λ r. ⌜ Next (now (text .entry)) at r ⌝ }
+{
+    let n = text.len();
+    let p = skip_blanks(text, at);
+    if p == n {
+        return Found {
+            kind: 0,
+            start: n,
+            next: n,
+        };
+    }
+    let b = text[p];
+    if b == 34 {
+        let e = string_end(text, p + 1);
+        if e == 0 {
+            return Found {
+                kind: 1,
+                start: n,
+                next: n,
+            };
+        }
+        return Found {
+            kind: 34,
+            start: p + 1,
+            next: e,
+        };
+    }
+    if is_mark(b) {
+        return Found {
+            kind: b,
+            start: p,
+            next: p + 1,
+        };
+    }
+    Found {
+        kind: 1,
+        start: n,
+        next: n,
+    }
+}
+
+// A string, whose letters begin at a place, spells a name.
+pub(crate) fn spells(text: &[u8], start: usize, name: &[u8]) -> bool
+    requires { ⌜ (start ≤ length (now text)) × (bare (now name) ≡ true) ⌝ }
+    ensures { λ r. ⌜ r ≡ eqList (content (drop start (now (text .entry))) 0) (now (name .entry)) ⌝ }
+{
+    let mut at = start;
+    let mut i: usize = 0;
+    while i < name.len() {
+        if at >= text.len() {
+            return false;
+        }
+        if text[at] != name[i] {
+            return false;
+        }
+        at += 1;
+        i += 1;
+    }
+    if at < text.len() {
+        return text[at] == 34;
+    }
+    true
+}

@@ -1,0 +1,216 @@
+// Members, elements and the whole text.
+use super::lexer::next;
+use super::walk::begin;
+use super::walk::expect;
+use super::walk::follow;
+use super::walk::key_at;
+use super::walk::string;
+use super::walk::strings;
+ghost use mathlib.Core.Path.{_≡_};
+ghost use mathlib.Core.Bool.{true};
+ghost use mathlib.Core.Logic.{_↔_};
+ghost use Prim.Native.Nat.{_≤_, _<_};
+ghost use lib.ListN.{length};
+ghost use Rattle.exports.specs.Shape.{array, written, Shaped};
+ghost use Rattle.exports.specs.Places.{Reads, ValueRead, MemberRead, placeOf, placesOf, ElementRead};
+
+// A member: its name's number, the place of its value and the place after it, or 0.
+pub struct Value {
+    pub number: u8,
+    pub place: usize,
+    pub next: usize,
+}
+
+// The places of an element's three values, and the place after it, or 0.
+pub struct Places {
+    pub certificate: usize,
+    pub issuers: usize,
+    pub receipts: usize,
+    pub next: usize,
+}
+
+// The place after the value that belongs to a name's number, or 0.
+pub(crate) fn value_end(text: &[u8], number: u8, at: usize) -> usize
+    requires { ⌜ at ≤ length (now text) ⌝ }
+    ensures { λ r. ⌜ ValueRead number (now (text .entry)) at r ⌝ }
+{
+    if number == 1 {
+        return string(text, at);
+    }
+    strings(text, at)
+}
+
+// A mark and a member.
+pub(crate) fn member(text: &[u8], at: usize, lead: u8) -> Value
+    requires { ⌜ (at ≤ length (now text)) × (34 < lead) ⌝ }
+    ensures { λ r. ⌜ MemberRead (now (text .entry)) at lead r ⌝ }
+{
+    let p = expect(text, at, lead);
+    if p == 0 {
+        return Value {
+            number: 0,
+            place: 0,
+            next: 0,
+        };
+    }
+    let k = key_at(text, p);
+    if k.number == 0 {
+        return Value {
+            number: 0,
+            place: 0,
+            next: 0,
+        };
+    }
+    if k.number == 4 {
+        return Value {
+            number: 0,
+            place: 0,
+            next: 0,
+        };
+    }
+    let e = value_end(text, k.number, k.next);
+    Value {
+        number: k.number,
+        place: k.next,
+        next: e,
+    }
+}
+
+// The place of the value of the member with a number, or 0.
+pub(crate) fn place_of(n: u8, a: Value, b: Value, c: Value) -> usize
+    ensures { λ r. ⌜ r ≡ placeOf n a b c ⌝ }
+{
+    if a.number == n {
+        return a.place;
+    }
+    if b.number == n {
+        return b.place;
+    }
+    if c.number == n {
+        return c.place;
+    }
+    0
+}
+
+// The three places, where there are all; they were found before `next`.
+pub(crate) fn all_places(a: Value, b: Value, c: Value, next: usize) -> Places
+    ensures { λ r. ⌜ r ≡ placesOf a b c next ⌝ }
+{
+    let certificate = place_of(1, a, b, c);
+    let issuers = place_of(2, a, b, c);
+    let receipts = place_of(3, a, b, c);
+    if certificate == 0 {
+        return Places {
+            certificate: 0,
+            issuers: 0,
+            receipts: 0,
+            next: 0,
+        };
+    }
+    if issuers == 0 {
+        return Places {
+            certificate: 0,
+            issuers: 0,
+            receipts: 0,
+            next: 0,
+        };
+    }
+    if receipts == 0 {
+        return Places {
+            certificate: 0,
+            issuers: 0,
+            receipts: 0,
+            next: 0,
+        };
+    }
+    Places {
+        certificate: certificate,
+        issuers: issuers,
+        receipts: receipts,
+        next: next,
+    }
+}
+
+pub(crate) fn element(text: &[u8], at: usize) -> Places
+    requires { ⌜ at ≤ length (now text) ⌝ }
+    ensures { λ r. ⌜ ElementRead (now (text .entry)) at r ⌝ }
+{
+    let a = member(text, at, 123);
+    if a.next == 0 {
+        return Places {
+            certificate: 0,
+            issuers: 0,
+            receipts: 0,
+            next: 0,
+        };
+    }
+    let b = member(text, a.next, 44);
+    if b.next == 0 {
+        return Places {
+            certificate: 0,
+            issuers: 0,
+            receipts: 0,
+            next: 0,
+        };
+    }
+    let c = member(text, b.next, 44);
+    if c.next == 0 {
+        return Places {
+            certificate: 0,
+            issuers: 0,
+            receipts: 0,
+            next: 0,
+        };
+    }
+    let e = expect(text, c.next, 125);
+    if e == 0 {
+        return Places {
+            certificate: 0,
+            issuers: 0,
+            receipts: 0,
+            next: 0,
+        };
+    }
+    all_places(a, b, c, e)
+}
+
+// The place after an array of elements, or 0.
+pub(crate) fn elements(text: &[u8], at: usize) -> usize
+    requires { ⌜ at ≤ length (now text) ⌝ }
+    ensures { λ r. ⌜ Reads (array written) (now (text .entry)) at r ⌝ }
+{
+    let mut c = begin(text, at);
+    while c.more {
+        let e = element(text, c.at);
+        let p = e.next;
+        if p == 0 {
+            return 0;
+        }
+        c = follow(text, p);
+    }
+    c.at
+}
+
+// The text spells some elements.
+pub fn has_shape(text: &[u8]) -> bool
+    ensures { λ r. ⌜ (r ≡ true) ↔ Shaped (now (text .entry)) ⌝ }
+{
+    let p = expect(text, 0, 123);
+    if p == 0 {
+        return false;
+    }
+    let k = key_at(text, p);
+    if k.number != 4 {
+        return false;
+    }
+    let e = elements(text, k.next);
+    if e == 0 {
+        return false;
+    }
+    let q = expect(text, e, 125);
+    if q == 0 {
+        return false;
+    }
+    let t = next(text, q);
+    t.kind == 0
+}
