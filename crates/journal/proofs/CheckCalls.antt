@@ -29,7 +29,7 @@ use Rattle.primitives.specs.Questions.{ask, ifZero}
 use Rattle.primitives.specs.Number.{countAt}
 use Rattle.journal.specs.Head.{headSettings, headGood, lengthAt, there, textAt, headLength, countPlace, entryText, serialAt, startThere}
 use Rattle.journal.proofs.Stepping.{start-within, steady-step, passed-step, stays}
-use Rattle.journal.specs.Checking.{headNumber, checkHead, found, equal, counterRight, contextNumber, textNumber, after, entryNumber, refused, accepted, takeOver, checked, stopped, textChecked, placeChecked, startNumber, startChecked, endChecked, oneStep, Steady, steps, lastAnswer, entryReady, entryChecked, stepChecked, full}
+use Rattle.journal.specs.Checking.{headNumber, checkHead, found, equal, counterRight, contextNumber, textNumber, after, entryNumber, refused, accepted, takeOver, checked, stopped, textChecked, placeChecked, startNumber, startChecked, endChecked, oneStep, Steady, steps, lastAnswer, entryReady, entryChecked, settingsChecked, serialReady, serialNumber, serialChecked, stepChecked, full}
 use Rattle.journal.specs.declared.state.State.{State}
 use Rattle.journal.proofs.Equal.{equal-true, equal-refl}
 use Rattle.journal.specs.declared.state.TakenOver.{TakenOver}
@@ -37,13 +37,13 @@ use Rattle.journal.proofs.Check.{above-true}
 use Rattle.journal.specs.declared.checking.Checked.{Checked}
 use Rattle.journal.specs.declared.checking.Step.{Step}
 use Rattle.journal.proofs.Places.{length-entry}
-use Rattle.receipt.specs.Settings.{settingsGood}
+use Rattle.receipt.specs.Settings.{serialGood, settingsGood}
 use Rattle.journal.proofs.Answers.{sound-true, serial-zero}
 use Rattle.journal.proofs.OpenCalls.{head-least}
 use Rattle.journal.proofs.Serials.{eight-good}
 use Rattle.journal.proofs.Heads.{good-head, read-length}
 use Rattle.primitives.specs.Bytes.{AllBytes}
-use Rattle.journal.specs.State.{used, allGood, settingsNow}
+use Rattle.journal.specs.State.{used, allGood, serialsGood, settingsNow}
 use Rattle.receipt.proofs.Entries.{settings-all}
 
 -- ---- the bytes of an entry
@@ -422,3 +422,61 @@ module _ (st : State) (j : List ℕ) where
 pub steps-none : (k : List (List ℕ)) (left : ℕ) (st : State) (j : List ℕ) → left ≡ 0 → steps k left st j ≡ record { number = 0; state = st }
 unfolding steps
 steps-none k left st j z = rw z
+
+-- ---- settings and serials for other readers
+
+module _ (s : Settings) (key : List ℕ) (n : ℕ) where
+  pub settings-width : {r : TakenOver} → widthGood n ≡ false → r ≡ refused 4 0 → r ≡ settingsChecked s key n
+  unfolding settingsChecked ask ifZero
+  settings-width w q = q ∙ sym (rw w)
+
+  pub settings-bad : {r : TakenOver} → widthGood n ≡ true → settingsGood s ≡ false → r ≡ refused 14 0 → r ≡ settingsChecked s key n
+  unfolding settingsChecked ask ifZero
+  settings-bad w h q = q ∙ sym (rw (w, h))
+
+  pub settings-fresh : {st : State} {r : TakenOver} → widthGood n ≡ true → settingsGood s ≡ true → st ≡ fresh s n key → r ≡ accepted st → r ≡ settingsChecked s key n
+  unfolding settingsChecked ask ifZero
+  settings-fresh w h e q = q ∙ (ap accepted e ∙ sym (rw (w, h)))
+
+module _ (st : State) (s : Name) where
+  pub serial-ready-no : soundAlone st ≡ false → false ≡ serialReady st s
+  unfolding serialReady
+  serial-ready-no h = and-no _ _ h
+
+  pub serial-ready-is : {t : Bool} → soundAlone st ≡ true → t ≡ leb (st .length + s .len) 18446744073709551607 → t ≡ serialReady st s
+  unfolding serialReady
+  serial-ready-is {t} h q = and-yes _ _ _ h (q ∙ go (leb (st .length + s .len) 18446744073709551607) refl)
+    where
+      go : (u : Bool) → leb (st .length + s .len) 18446744073709551607 ≡ u → u ≡ leb (st .length + 8 + s .len) 18446744073709551615
+      go true w = sym (le-leb (st .length + 8 + s .len) 18446744073709551615 (omega (arith, leb-true (st .length + s .len) 18446744073709551607 w)))
+      go false w = sym (lt-leb (st .length + 8 + s .len) 18446744073709551615 (omega (arith, leb-false (st .length + s .len) 18446744073709551607 w)))
+
+  pub serial-asked : {c : Checked} → serialReady st s ≡ false → c ≡ stopped 6 st → c ≡ serialChecked st s
+  unfolding serialChecked
+  serial-asked h q = q ∙ sym (rw h)
+
+  module _ (h : serialReady st s ≡ true) where
+    pub serial-bad : {c : Checked} → serialGood s ≡ false → c ≡ stopped 21 st → c ≡ serialChecked st s
+    unfolding serialChecked serialNumber ask ifZero
+    serial-bad g q = q ∙ sym (rw (h, g))
+
+    module _ {n : ℕ} (g : serialGood s ≡ true) (e : n ≡ renewNumber st s 0) where
+      serial-number-is : serialNumber st s ≡ n
+      unfolding serialNumber ask
+      serial-number-is = rw g (sym e)
+
+      pub serial-stopped : {c : Checked} → (n ≡ 0 → ⊥) → c ≡ stopped n st → c ≡ serialChecked st s
+      unfolding serialChecked
+      serial-stopped z q =
+          q ∙ (ap (λ (m : ℕ). stopped m st) (sym serial-number-is) ∙ sym (rw h (ifZero-no (serialNumber st s) _ _ (λ y. z (sym serial-number-is ∙ y)))))
+
+      module _ (z : n ≡ 0) where
+        pub serial-fits : (serialsGood (st .serials) ≡ true) × (length (used (st .serials)) < 8) × (st .length + 8 + s .len < 18446744073709551616)
+        unfolding serialReady
+        serial-fits =
+            let p = both _ _ h in
+            (sound-true st (p .0) .serials, serial-zero st s 0 (sym e ∙ z) .1, omega (arith, leb-true (st .length + 8 + s .len) 18446744073709551615 (p .1)))
+
+        pub serial-made : {x : State} {c : Checked} → x ≡ renewed st s → c ≡ stopped 0 x → c ≡ serialChecked st s
+        unfolding serialChecked
+        serial-made f q = q ∙ (ap (stopped 0) f ∙ sym (rw h (ifZero-yes _ _ (serial-number-is ∙ z))))

@@ -1,49 +1,36 @@
+-- `checking::check_settings` meets its contract.
 use borrow.Author.Needs.{needs}
+use Rattle.primitives.proofs.Rows.{not-no, not-yes}
+use Rattle.journal.proofs.CheckCalls.{settings-width, settings-bad, settings-fresh}
 use Rattle.journal.proofs.checking.check_settings.Statement.{statement}
 use Rattle.journal.proofs.checking.check_settings.Tie as tie
-use Rattle.journal.proofs.checking.check_settings.Reads as reads
-use Rattle.journal.proofs.checking.check_settings.Lts as lts
-use Rattle.journal.proofs.checking.accepted.Reads as accepted-reads
-use Rattle.journal.proofs.checking.refused.Reads as refused-reads
-use Rattle.journal.proofs.step.fresh.Reads as fresh-reads
-use Rattle.primitives.proofs.width_good.Reads as width-good-reads
-use Rattle.receipt.proofs.settings_good.Reads as settings-good-reads
 
--- src/checking.rt:341:9
 width-good-requires : tie.Need-width-good-requires
 width-good-requires c κs = search needs
 
--- src/checking.rt:342:9
 refused-requires : tie.Need-refused-requires
 refused-requires c κs = search needs
 
--- src/checking.rt:342:9
 returns : tie.Need-returns
-returns c = ?
+returns c = settings-width (c .before .before .before .args .settings) (c .before .before .before .args .key) (c .before .before .before .args .n) (not-no _ _ (c .before .before .width-good .ensures) (c .before .if1 .taken)) (c .refused .ensures)
 
--- src/checking.rt:344:9
 settings-good-requires : tie.Need-settings-good-requires
 settings-good-requires c κs = search needs
 
--- src/checking.rt:345:9
 refused-requires-2 : tie.Need-refused-requires-2
 refused-requires-2 c κs = search needs
 
--- src/checking.rt:345:9
 returns-2 : tie.Need-returns-2
-returns-2 c = ?
+returns-2 c = settings-bad (c .before .before .before .before .before .args .settings) (c .before .before .before .before .before .args .key) (c .before .before .before .before .before .args .n) (not-yes _ _ (c .before .before .before .before .width-good .ensures) (c .before .before .before .if1 .left)) (not-no _ _ (c .before .before .settings-good .ensures) (c .before .if2 .taken)) (c .refused2 .ensures)
 
--- src/checking.rt:347:9
 fresh-requires : tie.Need-fresh-requires
-fresh-requires c κs = ?
+fresh-requires c κs = not-yes _ _ (c .before .settings-good .ensures) (c .if2 .left)
 
--- src/checking.rt:348:5
 accepted-requires : tie.Need-accepted-requires
 accepted-requires c κs = search needs
 
--- src/checking.rt:338:1
 returns-3 : tie.Need-returns-3
-returns-3 c = ?
+returns-3 c = settings-fresh (c .before .before .before .before .before .before .args .settings) (c .before .before .before .before .before .before .args .key) (c .before .before .before .before .before .before .args .n) (not-yes _ _ (c .before .before .before .before .before .width-good .ensures) (c .before .before .before .before .if1 .left)) (not-yes _ _ (c .before .before .before .settings-good .ensures) (c .before .before .if2 .left)) (c .before .fresh .ensures) (c .accepted .ensures)
 
 pub check-settings-spec : {M : Type 1} → statement M
 check-settings-spec =
