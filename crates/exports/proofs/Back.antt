@@ -4,9 +4,9 @@ use mathlib.Core.Bool.{Bool, true, _&&_}
 use mathlib.Core.List.{List, [], _∷_, _++_, map}
 use Prim.Native.Nat.{ℕ}
 use Rattle.exports.specs.Text.{Token, mark, word, isMark, plain, every, textOf, Inside, close, letter, Tokens, end, sign, quoted}
-use Rattle.exports.specs.Shape.{groupName, array, following, string, Member, certificate, issuers, receipts, nameOf, valueOf, member, certificateName, issuersName, receiptsName, Element, object, written, document, elements, Shape, standard, standardText, plainElement}
+use Rattle.exports.specs.Shape.{groupName, array, following, string, Member, certificate, issuers, receipts, nameOf, valueOf, member, certificateName, issuersName, receiptsName, Element, object, written, document, elements, Shape, standard, plainText, plainElement}
 use Rattle.exports.specs.Exact.{ReadsBack}
-use Rattle.exports.proofs.Naming.{both}
+use Rattle.exports.proofs.Names.{both}
 use Rattle.exports.proofs.Lexical.{mark-not}
 use Rattle.exports.proofs.Unique.{exact}
 
@@ -84,9 +84,9 @@ unfolding elements standard
 map-elements [] = refl
 map-elements (e ∷ es) = ap (λ (l : List Element). e ∷ l) (map-elements es)
 
-pub export-shape : (es : List Element) → every plainElement es ≡ true → Shape (standardText es) es
-unfolding standardText
+pub export-shape : (es : List Element) → every plainElement es ≡ true → Shape (plainText es) es
+unfolding plainText
 export-shape es h = record { order = map standard es; same = map-elements es; spelled = spelled (print-document es h) }
 
 pub reads-back : ReadsBack
-reads-back es h = exact (standardText es) es .1 (export-shape es h)
+reads-back es h = exact (plainText es) es .1 (export-shape es h)

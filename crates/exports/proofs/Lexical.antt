@@ -9,7 +9,7 @@ use lib.Dec.{eqb, leb, eqb·suc-zero}
 use Rattle.exports.specs.Text.{Token, mark, word, blank, isMark, plain, Inside, close, letter, escape, Tokens, end, space, sign, quoted}
 use Rattle.exports.specs.Lexer.{wrong, letterLeft, afterByte, content, lex, lexIn}
 use Rattle.exports.proofs.Lexing.{no-truth}
-use Rattle.exports.proofs.Naming.{both}
+use Rattle.exports.proofs.Names.{both}
 
 -- ---- from the grammar to the lexer
 

@@ -1,5 +1,5 @@
 pub mod Lexing
-pub mod Naming
+pub mod Names
 pub mod Tokening
 pub mod Arrays
 pub mod Members

@@ -10,7 +10,7 @@ use Rattle.exports.specs.Shape.{certificateName, issuersName, receiptsNa
 use Rattle.exports.specs.Places.{from, Reads, one, eqList, nameNumber, Keyed, ValueRead, numberOf, led, MemberRead}
 use Rattle.exports.specs.declared.walk.Key.{Key}
 use Rattle.exports.proofs.Lexing.{no-truth}
-use Rattle.exports.proofs.Naming.{both}
+use Rattle.exports.proofs.Names.{both}
 
 -- ---- names and numbers
 

@@ -16,7 +16,7 @@ use Rattle.exports.specs.Places.{eqList, nameNumber, numberOf, led}
 use Rattle.exports.specs.Parsed.{kindOf, contentOf, rest, wordsOf, afterWords, memberOf, afterValue, memberAt, afterMember, Three, threeAt, afterThree, threesOf, threeText, threesText, eqTokens, theOne, elementOf, both, allOf, threes, parsed, elementsOf}
 use Rattle.exports.specs.Exact.{Exact, OneReading}
 use Rattle.exports.proofs.Lexing.{no-truth}
-use Rattle.exports.proofs.Naming.{both as both-true}
+use Rattle.exports.proofs.Names.{both as both-true}
 use Rattle.exports.proofs.Members.{number-is, eqList-true}
 use Rattle.exports.proofs.Objects.{object-is}
 use Rattle.exports.proofs.Lexical.{Good, lexed, tokens-of}

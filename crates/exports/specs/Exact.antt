@@ -5,7 +5,7 @@ use mathlib.Core.List.{List}
 use mathlib.Core.Option.{some}
 use mathlib.Core.Bool.{true}
 use Prim.Native.Nat.{ℕ}
-use Rattle.exports.specs.Shape.{Element, Shape, standardText, plainElement}
+use Rattle.exports.specs.Shape.{Element, Shape, plainText, plainElement}
 use Rattle.exports.specs.Text.{every}
 use Rattle.exports.specs.Parsed.{elementsOf}
 
@@ -19,4 +19,4 @@ OneReading = (text : List ℕ) (es fs : List Element) → Shape text es → Shap
 
 -- what is written is read back
 abbrev pub ReadsBack : Type 0
-ReadsBack = (es : List Element) → every plainElement es ≡ true → elementsOf (standardText es) ≡ some es
+ReadsBack = (es : List Element) → every plainElement es ≡ true → elementsOf (plainText es) ≡ some es

@@ -108,8 +108,8 @@ pub record PairFits (x : TextPair) : Type 0 where
   pub short : every short (x .texts) ≡ true
 
 pub data AllFit : List TextPair → Type 0 where
-  none : AllFit []
-  more : {p : TextPair} {ps : List TextPair} → PairFits p → AllFit ps → AllFit (p ∷ ps)
+  nothing : AllFit []
+  also : {p : TextPair} {ps : List TextPair} → PairFits p → AllFit ps → AllFit (p ∷ ps)
 
 -- ---- written: what stands at a place of the journal or of the groups is copied
 

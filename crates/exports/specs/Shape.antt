@@ -139,8 +139,8 @@ standard e =
       receiptLists = refl;
     }
 
-unfoldable pub standardText : List Element → List ℕ
-standardText es = textOf (document (map standard es))
+unfoldable pub plainText : List Element → List ℕ
+plainText es = textOf (document (map standard es))
 
 -- what can be written so
 unfoldable pub plainElement : Element → Bool

@@ -15,8 +15,8 @@ ghost use Rattle.receipt.specs.Form.{nextAt, part};
 ghost use Rattle.receipt.specs.Line.{countOf};
 ghost use Rattle.receipt.specs.Separated.{skip};
 ghost use Rattle.receipt.specs.Settings.{nameOf};
-ghost use Rattle.exports.specs.Naming.{notNamed, payloadNames, namedBy, named};
-ghost use Rattle.exports.specs.Running.{PayloadPlace};
+ghost use Rattle.exports.specs.Naming.{fieldOf, notNamed, named};
+ghost use Rattle.exports.specs.Running.{PayloadPlace, namedIn};
 
 pub struct Named {
     pub good: bool,
@@ -152,7 +152,7 @@ pub(crate) fn name_at(m: &[u8], a: usize, e: usize) -> Name
 // The field after the first k '_', as a name.
 pub(crate) fn field_name(m: &[u8], k: usize) -> Name
     requires { ⌜ accepted UrlSafe (now m) ≡ true ⌝ }
-    ensures { λ r. ⌜ r ≡ nameOf (Rattle.exports.specs.Naming.fieldOf k (bytes UrlSafe (now (m .entry)))) ⌝ }
+    ensures { λ r. ⌜ r ≡ nameOf (fieldOf k (bytes UrlSafe (now (m .entry)))) ⌝ }
 {
     let a = skip_marks(m, k);
     let e = next_mark(m, a);
@@ -162,7 +162,7 @@ pub(crate) fn field_name(m: &[u8], k: usize) -> Name
 // The settings that a payload names; its first field is six bytes long and begins with "R1-", and there are twelve.
 pub(crate) fn named_by(m: &[u8]) -> Named
     requires { ⌜ accepted UrlSafe (now m) ≡ true ⌝ }
-    ensures { λ r. ⌜ r ≡ Rattle.exports.specs.Running.namedIn (bytes UrlSafe (now (m .entry))) ⌝ }
+    ensures { λ r. ⌜ r ≡ namedIn (bytes UrlSafe (now (m .entry))) ⌝ }
 {
     let first = field_name(m, 1);
     let start = first.bytes;
@@ -213,7 +213,7 @@ pub(crate) fn next_dot(s: &[u8], from: usize) -> usize
 }
 
 // What a receipt names that has two '.', and between them a payload in canonical BASE64-URL.
-pub(crate) fn named(s: &[u8]) -> Named
+pub(crate) fn names_of(s: &[u8]) -> Named
     ensures { λ r. ⌜ r ≡ named (now (s .entry)) ⌝ }
 {
     let len = s.len();

@@ -1,5 +1,6 @@
 // The journal that an export spells, measured or written. Receipts are copied letter by letter from where they lie.
 use super::naming::Named;
+use super::naming::not_named;
 use super::output::End;
 use super::output::moved;
 use super::output::put_bytes;
@@ -20,15 +21,16 @@ ghost use Prim.Native.Nat.{ℕ, _+_, _≤_};
 ghost use lib.ListN.{length, drop};
 ghost use Rattle.primitives.specs.Place.{overwrite};
 ghost use Rattle.receipt.specs.Settings.{nameText};
-ghost use Rattle.journal.specs.Head.{section, pairStart};
+ghost use Rattle.journal.specs.Head.{section, entryText};
+ghost use Rattle.journal.specs.Valid.{ownerText};
 ghost use Rattle.exports.specs.Text.{Token};
 ghost use Rattle.exports.specs.Lexer.{content};
 ghost use Rattle.exports.specs.Shape.{Element, Shape, strings};
 ghost use Rattle.exports.specs.Places.{from, Placed, LettersAt};
-ghost use Rattle.exports.specs.Output.{Puts};
+ghost use Rattle.exports.specs.Output.{start, Puts};
 ghost use Rattle.exports.specs.Spelled.{sizedTexts, pairSpelled};
 ghost use Rattle.exports.specs.Reading.{pairOf, journalOf};
-ghost use Rattle.exports.specs.Running.{PlacesInside};
+ghost use Rattle.exports.specs.Running.{PlacesInside, ownerNamed, ownerIn, SmallNames};
 
 // Copies the letters of a string from a place on, the escape read, to a place of the output.
 pub(crate) fn copy_letters(text: &[u8], start: usize, out: &mut [u8], to: usize)
@@ -49,7 +51,7 @@ pub(crate) fn copy_letters(text: &[u8], start: usize, out: &mut [u8], to: usize)
 // An entry: the length of the string and its letters.
 pub(crate) fn put_entry(dry: bool, text: &[u8], start: usize, n: usize, out: &mut [u8], p: End) -> End
     requires { ⌜ (LettersAt (now text) start) × (n ≡ length (content (drop start (now text)) 0)) ⌝ }
-    ensures { λ r. ⌜ Puts dry (now (out .entry)) (now (out .exit)) p r (Rattle.journal.specs.Head.entryText (content (drop start (now (text .entry))) 0)) ⌝ }
+    ensures { λ r. ⌜ Puts dry (now (out .entry)) (now (out .exit)) p r (entryText (content (drop start (now (text .entry))) 0)) ⌝ }
 {
     let a = put_count(dry, 2, n, out, p);
     let q = moved(out.len(), a, n);
@@ -108,24 +110,24 @@ pub(crate) fn put_pair(dry: bool, text: &[u8], e: Places, out: &mut [u8], p: End
 
 // What the first receipt of the first element names.
 pub(crate) fn owner_named(text: &[u8]) -> Named
-    ensures { λ r. ⌜ ((es : List Element) → Shape (now (text .entry)) es → r ≡ Rattle.exports.specs.Running.ownerNamed es) ⌝ }
+    ensures { λ r. ⌜ ((es : List Element) → Shape (now (text .entry)) es → r ≡ ownerNamed es) × SmallNames r ⌝ }
 {
     let g = group_place(text);
     let c = begin(text, g);
     if !c.more {
-        return super::naming::not_named();
+        return not_named();
     }
     let e = element(text, c.at);
     if e.next == 0 {
-        return super::naming::not_named();
+        return not_named();
     }
     first_named(text, e.receipts)
 }
 
 // The sections of CSP and ID.
 pub(crate) fn put_owner(dry: bool, n: Named, out: &mut [u8], p: End) -> End
-    requires { ⌜ Rattle.exports.specs.Running.SmallNames n ⌝ }
-    ensures { λ r. ⌜ Puts dry (now (out .entry)) (now (out .exit)) p r (Rattle.journal.specs.Valid.ownerText (Rattle.exports.specs.Running.ownerIn n)) ⌝ }
+    requires { ⌜ SmallNames n ⌝ }
+    ensures { λ r. ⌜ Puts dry (now (out .entry)) (now (out .exit)) p r (ownerText (ownerIn n)) ⌝ }
 {
     let s = n.settings;
     let csp = s.csp;
@@ -138,7 +140,7 @@ pub(crate) fn put_owner(dry: bool, n: Named, out: &mut [u8], p: End) -> End
 // The whole journal, from the start of the output on.
 pub(crate) fn put_journal(dry: bool, text: &[u8], out: &mut [u8]) -> End
     ensures { λ r. ⌜ ((es : List Element) → Shape (now (text .entry)) es
-        → Puts dry (now (out .entry)) (now (out .exit)) Rattle.exports.specs.Output.start r (journalOf es)) ⌝ }
+        → Puts dry (now (out .entry)) (now (out .exit)) start r (journalOf es)) ⌝ }
 {
     let n = owner_named(text);
     let mut p = put_owner(dry, n, out, End { fits: true, at: 0 });

@@ -2,7 +2,7 @@
 use super::certificates::certificate_good;
 use super::certificates::issuers_good;
 use super::naming::Named;
-use super::naming::named;
+use super::naming::names_of;
 use super::naming::not_named;
 use super::shape::Places;
 use super::shape::element;
@@ -20,9 +20,10 @@ ghost use Rattle.exports.specs.Text.{Token, every};
 ghost use Rattle.exports.specs.Shape.{Element, Shape, strings};
 ghost use Rattle.exports.specs.Places.{from, Placed};
 ghost use Rattle.exports.specs.Spelled.{short};
-ghost use Rattle.exports.specs.Reading.{firstOf, elementGood};
+ghost use Rattle.exports.specs.Naming.{named};
+ghost use Rattle.exports.specs.Reading.{firstOf, elementGood, surveyNumber};
 ghost use Rattle.exports.specs.Passing.{asked, surveyed, unasked};
-ghost use Rattle.exports.specs.Running.{PlacesInside};
+ghost use Rattle.exports.specs.Running.{PlacesInside, SmallNames, someOf};
 
 // Of all elements so far: each is good, each has a receipt, and the first receipt of each names the register.
 pub(crate) struct Survey {
@@ -56,7 +57,7 @@ pub(crate) fn receipts_fit(text: &[u8], at: usize) -> bool
 // What the first string of an array names, as a receipt.
 pub(crate) fn first_named(text: &[u8], at: usize) -> Named
     requires { ⌜ at ≤ length (now text) ⌝ }
-    ensures { λ r. ⌜ ((ws : List (List ℕ)) (rest : List Token) → from (now (text .entry)) at ≡ strings ws ++ rest → r ≡ Rattle.exports.specs.Naming.named (firstOf ws)) ⌝ }
+    ensures { λ r. ⌜ ((ws : List (List ℕ)) (rest : List Token) → from (now (text .entry)) at ≡ strings ws ++ rest → r ≡ named (firstOf ws)) × SmallNames r ⌝ }
 {
     let c = begin(text, at);
     if !c.more {
@@ -68,13 +69,13 @@ pub(crate) fn first_named(text: &[u8], at: usize) -> Named
     }
     let a = p.start;
     let e = p.next - 1;
-    named(&text[a..e])
+    names_of(&text[a..e])
 }
 
 // An array has a string.
 pub(crate) fn some_string(text: &[u8], at: usize) -> bool
     requires { ⌜ at ≤ length (now text) ⌝ }
-    ensures { λ r. ⌜ ((ws : List (List ℕ)) (rest : List Token) → from (now (text .entry)) at ≡ strings ws ++ rest → r ≡ Rattle.exports.specs.Running.someOf ws) ⌝ }
+    ensures { λ r. ⌜ ((ws : List (List ℕ)) (rest : List Token) → from (now (text .entry)) at ≡ strings ws ++ rest → r ≡ someOf ws) ⌝ }
 {
     let c = begin(text, at);
     c.more
@@ -103,7 +104,7 @@ fn both(a: bool, b: bool) -> bool
     false
 }
 
-pub(crate) fn asked(s: Survey, text: &[u8], e: Places) -> Survey
+pub(crate) fn survey_element(s: Survey, text: &[u8], e: Places) -> Survey
     requires { ⌜ PlacesInside (now text) e ⌝ }
     ensures { λ r. ⌜ ((x : Element) → Placed (now (text .entry)) e x → r ≡ asked s x) ⌝ }
 {
@@ -118,7 +119,7 @@ pub(crate) fn asked(s: Survey, text: &[u8], e: Places) -> Survey
 }
 
 // The survey of all elements of a text.
-pub(crate) fn survey(text: &[u8]) -> Survey
+pub(crate) fn survey_elements(text: &[u8]) -> Survey
     ensures { λ r. ⌜ ((es : List Element) → Shape (now (text .entry)) es → r ≡ surveyed unasked es) ⌝ }
 {
     let g = group_place(text);
@@ -134,7 +135,7 @@ pub(crate) fn survey(text: &[u8]) -> Survey
         if p == 0 {
             return s;
         }
-        s = asked(s, text, e);
+        s = survey_element(s, text, e);
         c = follow(text, p);
     }
     s
@@ -142,7 +143,7 @@ pub(crate) fn survey(text: &[u8]) -> Survey
 
 // A text has an element.
 pub(crate) fn some_element(text: &[u8]) -> bool
-    ensures { λ r. ⌜ ((es : List Element) → Shape (now (text .entry)) es → r ≡ Rattle.exports.specs.Running.someOf es) ⌝ }
+    ensures { λ r. ⌜ ((es : List Element) → Shape (now (text .entry)) es → r ≡ someOf es) ⌝ }
 {
     let g = group_place(text);
     let c = begin(text, g);
@@ -151,9 +152,9 @@ pub(crate) fn some_element(text: &[u8]) -> bool
 
 // Questions 28, 29 and 28.
 pub(crate) fn survey_number(text: &[u8]) -> u32
-    ensures { λ r. ⌜ ((es : List Element) → Shape (now (text .entry)) es → r ≡ Rattle.exports.specs.Reading.surveyNumber es 0) ⌝ }
+    ensures { λ r. ⌜ ((es : List Element) → Shape (now (text .entry)) es → r ≡ surveyNumber es 0) ⌝ }
 {
-    let s = survey(text);
+    let s = survey_elements(text);
     if !some_element(text) {
         return 28;
     }

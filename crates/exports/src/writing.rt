@@ -10,11 +10,9 @@ ghost use mathlib.Core.Bool.{true, false, cond};
 ghost use mathlib.Core.List.{List, [], _∷_, _++_, map};
 ghost use Prim.Native.Nat.{ℕ, _≤_};
 ghost use lib.ListN.{length, drop};
-ghost use Rattle.exports.specs.Output.{Puts, start};
-ghost use Rattle.exports.specs.Spelled.{sizedTexts, TextPair, pairSpelled, pairsSpelled};
-ghost use Rattle.exports.specs.Groups.{Group, groupText, groupsText};
-ghost use Rattle.exports.specs.Writing.{quoted, listed, certificatesPart, receiptsPart, exported, exportBuffer};
-ghost use Rattle.exports.specs.Running.{ReceiptsPut, IssuersPut, GroupPut, PairPut, ElementsPut, ExportPut};
+ghost use Rattle.exports.specs.Output.{Puts};
+ghost use Rattle.exports.specs.Writing.{quoted, base64, exported, exportBuffer};
+ghost use Rattle.exports.specs.Running.{FourRead, SectionRead, SigningPut, ReceiptsPut, IssuersPut, GroupPut, PairPut, ElementsPut, ExportPut};
 
 // The length of the text; or the number of the first question answered no, with the index of Take over.
 pub struct Exported {
@@ -51,7 +49,7 @@ pub(crate) fn put_receipt(dry: bool, more: bool, s: &[u8], out: &mut [u8], p: En
 
 // A certificate as a string in BASE64, after a ',' where others went before.
 pub(crate) fn put_certificate(dry: bool, more: bool, s: &[u8], out: &mut [u8], p: End) -> End
-    ensures { λ r. ⌜ Puts dry (now (out .entry)) (now (out .exit)) p r (cond more (44 ∷ []) [] ++ quoted (Rattle.exports.specs.Writing.base64 (now (s .entry)))) ⌝ }
+    ensures { λ r. ⌜ Puts dry (now (out .entry)) (now (out .exit)) p r (cond more (44 ∷ []) [] ++ quoted (base64 (now (s .entry)))) ⌝ }
 {
     let a = put_comma(dry, more, out, p);
     let b = put_bytes(dry, b"\"", out, a);
@@ -101,7 +99,7 @@ pub(crate) fn put_issuers(dry: bool, groups: &[u8], at: usize, count: usize, out
 
 // The signing certificate of the group at a place: `{"Signaturzertifikat":` and the certificate.
 pub(crate) fn put_signing(dry: bool, more: bool, groups: &[u8], at: usize, out: &mut [u8], p: End) -> Copied
-    ensures { λ r. ⌜ Rattle.exports.specs.Running.SigningPut dry more (now (groups .entry)) at (now (out .entry)) (now (out .exit)) p r ⌝ }
+    ensures { λ r. ⌜ SigningPut dry more (now (groups .entry)) at (now (out .entry)) (now (out .exit)) p r ⌝ }
 {
     let e = sized_end(groups, at);
     if e == 0 {
@@ -134,7 +132,7 @@ pub(crate) fn put_group(dry: bool, more: bool, groups: &[u8], at: usize, out: &m
 
 // The number in the four bytes at a place; 0 if they are not all there.
 pub(crate) fn four_at(j: &[u8], at: usize) -> usize
-    ensures { λ r. ⌜ Rattle.exports.specs.Running.FourRead (now (j .entry)) at r ⌝ }
+    ensures { λ r. ⌜ FourRead (now (j .entry)) at r ⌝ }
 {
     match receipt::number_at(j, at, 4) {
         Number::Is(v) => v as usize,
@@ -144,7 +142,7 @@ pub(crate) fn four_at(j: &[u8], at: usize) -> usize
 
 // The place after the section at a place; 0 if it is not all there.
 pub(crate) fn section_end(j: &[u8], at: usize) -> usize
-    ensures { λ r. ⌜ Rattle.exports.specs.Running.SectionRead (now (j .entry)) at r ⌝ }
+    ensures { λ r. ⌜ SectionRead (now (j .entry)) at r ⌝ }
 {
     if !receipt::has_room(j.len(), at, 4) {
         return 0;

@@ -2,7 +2,7 @@
 use borrow.Author.Needs.{needs}
 use Prim.Native.Nat.{_-_}
 use lib.ListN.{length}
-use Rattle.exports.proofs.Naming.{Spelling, spell-start, spell-short, spell-differ, spell-more, spell-close, spell-all}
+use Rattle.exports.proofs.Names.{Spelling, spell-start, spell-short, spell-differ, spell-more, spell-close, spell-all}
 use Rattle.exports.proofs.lexer.spells.Statement.{statement}
 use Rattle.exports.proofs.lexer.spells.Tie as tie
 

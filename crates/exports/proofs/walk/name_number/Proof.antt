@@ -1,6 +1,6 @@
 -- `walk::name_number` meets its contract.
 use borrow.Author.Needs.{needs}
-use Rattle.exports.proofs.Naming.{name-0, name-1, name-2, name-3, name-4}
+use Rattle.exports.proofs.Names.{name-0, name-1, name-2, name-3, name-4}
 use mathlib.Core.Path.{refl}
 use lib.ListN.{drop}
 use Rattle.exports.specs.Lexer.{content}
