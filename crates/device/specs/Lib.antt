@@ -8,3 +8,4 @@ pub mod PartLaws
 pub mod ReadBack
 pub mod ReadBackLaws
 pub mod Texts
+pub mod Inspection

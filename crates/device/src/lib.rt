@@ -1,5 +1,6 @@
 // The receipt journal of a cash register for callers in other languages: a state is 447 bytes that the caller keeps.
 mod details;
+mod inspection;
 mod layout;
 mod listing;
 mod parts;
@@ -7,6 +8,8 @@ mod read_back;
 mod register;
 mod text;
 
+pub use inspection::ditgrux_export;
+pub use inspection::ditgrux_read_export;
 pub use layout::ditgrux_version;
 pub use listing::ditgrux_issue_list;
 pub use parts::ditgrux_check_head;
