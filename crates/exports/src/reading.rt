@@ -48,11 +48,12 @@ pub fn read_export(text: &[u8], key: [u8; 32], n: usize, out: &mut [u8]) -> Rest
     if t.number != 0 {
         return not_read(t.number, t.index);
     }
+    let state = t.state;
     let _ = put_journal(false, text, out);
     Restored {
         number: 0,
         index: 0,
         length: end.at,
-        state: t.state,
+        state: state,
     }
 }
