@@ -1,4 +1,5 @@
 pub mod Lexing
+pub mod Unescaping
 pub mod Names
 pub mod Tokening
 pub mod Arrays
