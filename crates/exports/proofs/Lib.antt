@@ -10,3 +10,4 @@ pub mod Documents
 pub mod Passing
 pub mod Unique
 pub mod Back
+pub mod NamedRaw
