@@ -10,3 +10,5 @@ pub mod Passing
 pub mod Unique
 pub mod Back
 pub mod NamedRaw
+pub mod PayloadLetters
+pub mod PayloadMarks
