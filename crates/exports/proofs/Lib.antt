@@ -9,3 +9,4 @@ pub mod Documents
 pub mod Passing
 pub mod Unique
 pub mod Back
+pub mod Putting
