@@ -10,3 +10,4 @@ pub mod Passing
 pub mod Unique
 pub mod Back
 pub mod Putting
+pub mod Sized
