@@ -9,3 +9,5 @@ pub mod Documents
 pub mod Passing
 pub mod Unique
 pub mod Back
+pub mod TakenAsSpelled
+pub mod ElementsTaken

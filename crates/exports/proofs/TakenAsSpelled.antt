@@ -5,30 +5,42 @@ use mathlib.Core.Bool.{Bool, true, false, cond}
 use mathlib.Core.List.{List, [], _∷_, _++_, append-assoc}
 use native.Mathlib.Omega.{arith}
 use borrow.Author.Tests.{le-leb, leb-true}
+use lib.Dec.{leb}
 use lib.ListN.{length, length-append}
+use Rattle.primitives.specs.Bytes.{AllBytes}
 use Rattle.primitives.specs.Number.{countAt}
+use Rattle.primitives.specs.Counter.{widthGood}
+use Rattle.primitives.specs.Aes.{keySchedule}
 use Rattle.primitives.specs.Questions.{ifZero}
-use Rattle.primitives.proofs.Rows.{both, ask-yes, ifZero-yes, ifZero-no}
-use Rattle.receipt.specs.Settings.{nameText, serialGood}
+use Rattle.primitives.proofs.ByteLists.{bytes-nil, bytes-cons}
+use Rattle.primitives.proofs.Rows.{both, ask-yes, ask-no, ifZero-yes, ifZero-no}
+use Rattle.receipt.specs.Settings.{between, nameText, nameGood, cspGood, serialGood, settingsGood, SettingsLengths, TypedSettings}
 use Rattle.receipt.specs.declared.settings.Name.{Name}
-use Rattle.receipt.specs.declared.settings.Letters.the-variants.{Serial}
+use Rattle.receipt.specs.declared.settings.Settings.{Settings}
+use Rattle.receipt.specs.declared.settings.Letters.{Letters}
+use Rattle.receipt.specs.declared.settings.Letters.the-variants.{Id, Serial}
 use Rattle.receipt.proofs.Names.{good-name, letters-bytes, name-of}
 use Rattle.receipt.proofs.Entries.{bytes-array}
-use Rattle.journal.specs.Head.{pairStart, entryText, there, textAt, serialAt, startThere}
+use Rattle.journal.specs.Head.{head, headLength, countPlace, headSettings, headGood, pairStart, entryText, there, textAt, serialAt, startThere}
 use Rattle.journal.specs.State.{TypedName}
-use Rattle.journal.specs.Step.{next, renewed, renewNumber, soundAlone}
-use Rattle.journal.specs.Checking.{found, textNumber, after, entryNumber, stopped, checked, textChecked, placeChecked, startNumber, startChecked, oneStep, steps, entryReady, entryChecked, serialReady, serialNumber, serialChecked, refused, accepted, lastAnswer}
+use Rattle.journal.specs.Step.{fresh, next, renewed, renewNumber, soundAlone}
+use Rattle.journal.specs.Checking.{found, textNumber, after, entryNumber, stopped, checked, textChecked, placeChecked, startNumber, startChecked, oneStep, steps, entryReady, entryChecked, serialReady, serialNumber, serialChecked, refused, accepted, lastAnswer, headNumber, takeOver}
+use Rattle.journal.specs.Valid.{Owner, settingsFor, ownerText}
 use Rattle.journal.specs.declared.state.State.{State}
 use Rattle.journal.specs.declared.checking.Checked.{Checked}
 use Rattle.journal.specs.declared.state.TakenOver.{TakenOver}
-use Rattle.journal.proofs.Answers.{sound-yes}
+use Rattle.journal.proofs.Answers.{sound-yes, settings-three}
+use Rattle.journal.proofs.Heads.{length-head, read-count-at, read-settings, head-good}
+use Rattle.journal.proofs.Accepting.{fresh-length, fresh-place, fresh-section, head-pair}
+use Rattle.journal.proofs.Registers.{empty-work}
+use Rattle.journal.proofs.ReadBySteps.{fresh-sound}
 use Rattle.journal.proofs.Places.{length-entry, text-at, there-at}
 use Rattle.journal.proofs.Sections.{length-start}
 use Rattle.journal.proofs.Starting.{serial-read, count-read, start-there}
 use Rattle.journal.proofs.Stepping.{full-yes, full-no, step-entry, end-none, end-start, idle, answer-zero, answer-no}
 use Rattle.journal.proofs.PartSteps.{Ready, ready-step, turn, stuck}
 use Rattle.exports.specs.Text.{every}
-use Rattle.exports.specs.Spelled.{short, sizedTexts, TextPair, pairSpelled, pairsSpelled}
+use Rattle.exports.specs.Spelled.{short, sizedTexts, TextPair, pairSpelled, pairsSpelled, journalSpelled}
 use Rattle.exports.specs.TakenOver.{GoodPair, GoodPairs, nothing, also, GoodParts, partsTaken, ReadIsTakenOver}
 use Rattle.exports.specs.Running.{runTexts, runPair, runPairs, runAnswer}
 use Rattle.exports.specs.declared.retaking.Run.{Run}
@@ -125,15 +137,14 @@ pub every-cons : (w : List ℕ) (ws : List (List ℕ)) → every short (w ∷ ws
 unfolding every
 every-cons w ws e = both (short w) (every short ws) e
 
+-- a good name of 32 bytes holds bytes
+pub name-bytes : (class : Letters) (s : Name) → length (s .bytes) ≡ 32 → nameGood class s ≡ true → AllBytes (s .bytes)
+name-bytes class s long g =
+    subst (λ (m : Name). AllBytes (m .bytes)) (name-of class s long g) (bytes-array (letters-bytes class (nameText s) (good-name class s g .letters)))
+
 -- a good serial of 32 bytes has the code's types
 pub serial-typed : (s : Name) → length (s .bytes) ≡ 32 → serialGood s ≡ true → TypedName s
-serial-typed s long g =
-    let n = good-name Serial s g in
-    record {
-      long = long;
-      bytes = subst (λ (m : Name). Rattle.primitives.specs.Bytes.AllBytes (m .bytes)) (name-of Serial s long g) (bytes-array (letters-bytes Serial (nameText s) (n .letters)));
-      small = omega (arith, n .most);
-    }
+serial-typed s long g = record { long = long; bytes = name-bytes Serial s long g; small = omega (arith, good-name Serial s g .most) }
 
 -- ---- a state on the way, and what is left of the journal
 
@@ -383,3 +394,120 @@ module _ (k : List (List ℕ)) (j : List ℕ) (fits : length j < 184467440737095
           ∙ ap runAnswer (sym (pairs-on k st p ps z)))
       go (suc m) z rec =
           no-step n st (serialChecked st (p .serial)) m step z ∙ sym (ap runAnswer (pairs-no k st p ps m z) ∙ answer-suc m st)
+
+-- ---- the head
+
+capital-small : (low high b : ℕ) → between low high b ≡ true → b ≤ high
+unfolding between
+capital-small low high b e = leb-true b high (both (leb low b) (leb b high) e .1)
+
+csp-bytes : (xs : List ℕ) → length xs ≡ 3 → cspGood xs ≡ true → AllBytes xs
+unfolding cspGood
+csp-bytes [] l e = absurd (omega arith)
+csp-bytes (a ∷ []) l e = absurd (omega arith)
+csp-bytes (a ∷ b ∷ []) l e = absurd (omega arith)
+csp-bytes (a ∷ b ∷ c ∷ []) l e =
+    let p = both (between 65 90 a) _ e in
+    let q = both (between 65 90 b) (between 48 57 c) (p .1) in
+    bytes-cons (omega (arith, capital-small 65 90 a (p .0)))
+    (bytes-cons (omega (arith, capital-small 65 90 b (q .0))) (bytes-cons (omega (arith, capital-small 48 57 c (q .1))) bytes-nil))
+csp-bytes (a ∷ b ∷ c ∷ d ∷ xs) l e = absurd (omega arith)
+
+first-pair : {p : TextPair} {ps : List TextPair} → GoodPairs (p ∷ ps) → GoodPair p
+first-pair (also g gs) = g
+
+later-pairs : {p : TextPair} {ps : List TextPair} → GoodPairs (p ∷ ps) → GoodPairs ps
+later-pairs (also g gs) = gs
+
+module _ (o : Owner) (p : TextPair) (ps : List TextPair) (g : GoodParts o (p ∷ ps)) where
+  typed-first : TypedSettings (settingsFor o (p .serial))
+  typed-first =
+      let f = first-pair (g .pairs) in
+      record {
+        lengths = record { csp = g .three; id = g .long; serial = f .long };
+        bytes = record { csp = csp-bytes (o .csp) (g .three) (g .csp); id = name-bytes Id (o .id) (g .long) (g .id); serial = name-bytes Serial (p .serial) (f .long) (f .good) };
+      }
+
+  good-first : settingsGood (settingsFor o (p .serial)) ≡ true
+  good-first = settings-three (o .csp) (o .id) (p .serial) (g .csp) (g .id) (first-pair (g .pairs) .good)
+
+  journal-is : journalSpelled o (p ∷ ps) ≡ head (settingsFor o (p .serial)) (length (p .texts)) ++ (sizedTexts (p .texts) ++ pairsSpelled ps)
+  unfolding journalSpelled
+  journal-is =
+      let s = pairStart (p .serial) (length (p .texts)) in
+      let t = sizedTexts (p .texts) ++ pairsSpelled ps in
+      ap (λ (l : List ℕ). ownerText o ++ l) (pairs-cons p ps)
+      ∙ (sym (append-assoc (ownerText o) s t) ∙ ap (λ (l : List ℕ). l ++ t) (sym (head-pair o (p .serial) (length (p .texts)))))
+
+  head-is : headGood (journalSpelled o (p ∷ ps)) ≡ true
+  head-is = ap headGood journal-is ∙ head-good (settingsFor o (p .serial)) (typed-first .lengths) good-first (length (p .texts)) (first-pair (g .pairs) .few) (sizedTexts (p .texts) ++ pairsSpelled ps)
+
+  settings-are : headSettings (journalSpelled o (p ∷ ps)) ≡ settingsFor o (p .serial)
+  settings-are = ap headSettings journal-is ∙ read-settings (settingsFor o (p .serial)) (typed-first .lengths) good-first (length (p .texts)) (first-pair (g .pairs) .few) (sizedTexts (p .texts) ++ pairsSpelled ps)
+
+  module _ (key : List ℕ) (n : ℕ) where
+    width-no : widthGood n ≡ false → takeOver (journalSpelled o (p ∷ ps)) key n ≡ refused 4 0
+    unfolding takeOver headNumber
+    width-no w =
+        let e = ask-no 4 (Rattle.primitives.specs.Questions.ask (headGood (journalSpelled o (p ∷ ps))) 14 0) w in
+        ap (λ (m : ℕ). ifZero m (lastAnswer (steps (keySchedule key) (length (journalSpelled o (p ∷ ps))) (fresh (headSettings (journalSpelled o (p ∷ ps))) n key) (journalSpelled o (p ∷ ps)))) (refused m 0)) e
+        ∙ ifZero-no 4 _ _ (λ z. omega arith)
+
+    module _ (w : widthGood n ≡ true) where
+      head-zero : headNumber (journalSpelled o (p ∷ ps)) n ≡ 0
+      unfolding headNumber
+      head-zero = ask-yes 4 _ w ∙ ask-yes 14 0 head-is
+
+      taken-is : takeOver (journalSpelled o (p ∷ ps)) key n
+          ≡ lastAnswer (steps (keySchedule key) (length (journalSpelled o (p ∷ ps))) (fresh (settingsFor o (p .serial)) n key) (journalSpelled o (p ∷ ps)))
+      unfolding takeOver
+      taken-is =
+          ifZero-yes _ _ head-zero
+          ∙ ap (λ (s : Settings). lastAnswer (steps (keySchedule key) (length (journalSpelled o (p ∷ ps))) (fresh s n key) (journalSpelled o (p ∷ ps)))) settings-are
+
+      start-here : At (journalSpelled o (p ∷ ps)) (fresh (settingsFor o (p .serial)) n key) (sizedTexts (p .texts) ++ pairsSpelled ps)
+      start-here =
+          let s = settingsFor o (p .serial) in
+          let t = sizedTexts (p .texts) ++ pairsSpelled ps in
+          let l = length-head s (typed-first .lengths) good-first (length (p .texts)) in
+          let f = fresh-length o key n (p .serial) in
+          record {
+            pre = head s (length (p .texts));
+            whole = journal-is;
+            long = l ∙ sym f;
+            ready =
+                record {
+                  alone = fresh-sound o key n (p .serial) (empty-work key n s typed-first good-first w);
+                  inside = omega (arith, ap length journal-is, length-append (head s (length (p .texts))) t, l, f);
+                  few = omega (arith, fresh-section o key n (p .serial));
+                };
+          }
+
+      first-count : countAt (journalSpelled o (p ∷ ps)) (fresh (settingsFor o (p .serial)) n key .place) 4 ≡ fresh (settingsFor o (p .serial)) n key .since + length (p .texts)
+      first-count =
+          (λ i. countAt (journal-is i) (fresh-place o key n (p .serial) i) 4)
+          ∙ (read-count-at (settingsFor o (p .serial)) (typed-first .lengths) good-first (length (p .texts)) (first-pair (g .pairs) .few) (sizedTexts (p .texts) ++ pairsSpelled ps)
+          ∙ omega (arith, fresh-section o key n (p .serial)))
+
+      first-run : (k : List (List ℕ)) (st : State) → runPairs k true st (p ∷ ps) ≡ then (λ y. runPairs k false y ps) (runTexts k st (p .texts))
+      unfolding runPairs runPair then
+      first-run k st = refl
+
+      width-yes : takeOver (journalSpelled o (p ∷ ps)) key n ≡ runAnswer (runPairs (keySchedule key) true (fresh (settingsFor o (p .serial)) n key) (p ∷ ps))
+      width-yes =
+          let k = keySchedule key in
+          let j = journalSpelled o (p ∷ ps) in
+          let st = fresh (settingsFor o (p .serial)) n key in
+          taken-is
+          ∙ (texts-run k j (g .fits) (p .texts) (pairsSpelled ps) (λ y. runPairs k false y ps) (pairs-run k j (g .fits) ps (later-pairs (g .pairs)))
+          st (length j) start-here (first-pair (g .pairs) .short) first-count (omega arith)
+          ∙ ap runAnswer (sym (first-run k st)))
+
+pub read-is-taken-over : ReadIsTakenOver
+unfolding partsTaken
+read-is-taken-over o p ps key n g = go (widthGood n) refl
+  where
+    go : (t : Bool) → widthGood n ≡ t
+        → cond t (runAnswer (runPairs (keySchedule key) true (fresh (settingsFor o (p .serial)) n key) (p ∷ ps))) (refused 4 0) ≡ takeOver (journalSpelled o (p ∷ ps)) key n
+    go true w = sym (width-yes o p ps g key n w)
+    go false w = sym (width-no o p ps g key n w)
