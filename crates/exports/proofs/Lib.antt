@@ -1,4 +1,5 @@
 pub mod Lexing
+pub mod Unescaping
 pub mod Names
 pub mod Tokening
 pub mod Arrays
@@ -9,5 +10,6 @@ pub mod Documents
 pub mod Passing
 pub mod Unique
 pub mod Back
+pub mod NamedRaw
 pub mod TakenAsSpelled
 pub mod ElementsTaken
