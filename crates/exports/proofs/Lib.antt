@@ -13,3 +13,4 @@ pub mod Back
 pub mod NamedRaw
 pub mod TakenAsSpelled
 pub mod ElementsTaken
+pub mod EntryLying
