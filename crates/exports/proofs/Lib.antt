@@ -18,3 +18,6 @@ pub mod PayloadLetters
 pub mod PayloadMarks
 pub mod Putting
 pub mod Sized
+pub mod TakenAsSpelled
+pub mod ElementsTaken
+pub mod EntryLying
