@@ -60,7 +60,7 @@ print-element e h =
     (marked refl (joined (print-member (receipts (e .receipts)) refl (print-array string (every plain) print-string (e .receipts) (q .1)))
     (marked refl none))))))
 
-abbrev standardText : Element → List Token
+abbrev pub standardText : Element → List Token
 standardText e = written (standard e)
 
 map-following : (es : List Element) → following written (map standard es) ≡ following standardText es
@@ -68,7 +68,7 @@ unfolding following
 map-following [] = refl
 map-following (e ∷ es) = ap (λ (l : List Token). mark 44 ∷ (written (standard e) ++ l)) (map-following es)
 
-map-array : (es : List Element) → array written (map standard es) ≡ array standardText es
+pub map-array : (es : List Element) → array written (map standard es) ≡ array standardText es
 unfolding array
 map-array [] = refl
 map-array (e ∷ es) = ap (λ (l : List Token). mark 91 ∷ (written (standard e) ++ l)) (map-following es)

@@ -21,3 +21,4 @@ pub mod Sized
 pub mod TakenAsSpelled
 pub mod ElementsTaken
 pub mod EntryLying
+pub mod PlainText
