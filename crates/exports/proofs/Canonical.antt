@@ -62,11 +62,6 @@ module _ (w x y z : ℕ) (rest : List ℕ) where
       go true true true false = refl
       go true true true true = refl
 
--- four letters alone, without padding
-bare-four : (w x y z : ℕ) → eqb z 61 ≡ false → accepted Standard (w ∷ x ∷ y ∷ z ∷ []) ≡ known Standard (w ∷ x ∷ y ∷ z ∷ [])
-unfolding accepted unmarked ended
-bare-four w x y z e = rw e
-
 -- padding is no letter
 padded-four : (w x y z : ℕ) → eqb z 61 ≡ true → known Standard (w ∷ x ∷ y ∷ z ∷ []) ≡ false
 unfolding known digit
@@ -93,6 +88,19 @@ not-whole text h = rw (ne-eqb (length text % 4) 0 h)
 is-whole : (text : List ℕ) → length text % 4 ≡ 0 → accepted Standard text ≡ ended Standard (unpadded Standard text) && known Standard (unpadded Standard text)
 unfolding accepted
 is-whole text h = rw (eq-eqb (length text % 4) 0 h)
+
+-- four letters alone, without padding
+module _ (w x y z : ℕ) (e : eqb z 61 ≡ false) where
+  bare-count : unmarked (w ∷ x ∷ y ∷ z ∷ []) 4 ≡ 4
+  unfolding unmarked
+  bare-count = rw e
+
+  bare-unpadded : unpadded Standard (w ∷ x ∷ y ∷ z ∷ []) ≡ w ∷ x ∷ y ∷ z ∷ []
+  bare-unpadded = ap (λ (k : ℕ). take k (w ∷ x ∷ y ∷ z ∷ [])) (ap (unmarked (w ∷ x ∷ y ∷ z ∷ [])) bare-count ∙ bare-count)
+
+  bare-four : accepted Standard (w ∷ x ∷ y ∷ z ∷ []) ≡ known Standard (w ∷ x ∷ y ∷ z ∷ [])
+  unfolding ended
+  bare-four = is-whole (w ∷ x ∷ y ∷ z ∷ []) refl ∙ ap (λ (u : List ℕ). ended Standard u && known Standard u) bare-unpadded
 
 -- nothing is canonical
 pub none-canonical : accepted Standard [] ≡ true

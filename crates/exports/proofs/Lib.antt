@@ -10,6 +10,7 @@ pub mod Documents
 pub mod Passing
 pub mod Surveying
 pub mod Canonical
+pub mod Quads
 pub mod Unique
 pub mod Back
 pub mod NamedBack

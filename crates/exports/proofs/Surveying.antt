@@ -27,7 +27,7 @@ some-spelled p b = of-elements someOf p (λ ws r q. some-begun written written-o
 -- ---- the receipts fit
 
 -- the strings that are left are short, and with n before them not too many
-fit : ℕ → List (List ℕ) → Bool
+pub fit : ℕ → List (List ℕ) → Bool
 fit n ws = every short ws && leb (n + length ws) 4294967295
 
 fit-short : (n : ℕ) (w : List ℕ) (ws : List (List ℕ)) → short w ≡ true → fit n (w ∷ ws) ≡ fit (n + 1) ws
