@@ -12,3 +12,5 @@ pub mod Back
 pub mod NamedRaw
 pub mod PayloadLetters
 pub mod PayloadMarks
+pub mod PayloadNames
+pub mod ReceiptDots
