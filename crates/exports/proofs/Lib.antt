@@ -14,3 +14,5 @@ pub mod PayloadLetters
 pub mod PayloadMarks
 pub mod PayloadNames
 pub mod ReceiptDots
+pub mod Splits
+pub mod NamedExactly

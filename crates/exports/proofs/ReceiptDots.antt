@@ -23,7 +23,7 @@ use Rattle.exports.proofs.PayloadLetters.{decoding-is}
 -- ---- counting from one to the next
 
 module _ (b : ℕ) where
-  count-first : (s : List ℕ) → firstAt b s < length s → countOf b s ≡ suc (countOf b (drop (suc (firstAt b s)) s))
+  pub count-first : (s : List ℕ) → firstAt b s < length s → countOf b s ≡ suc (countOf b (drop (suc (firstAt b s)) s))
   unfolding firstAt countOf
   count-first [] h = absurd (omega arith)
   count-first (x ∷ s) h = go (count-first s) (eqb x b) h
@@ -33,7 +33,7 @@ module _ (b : ℕ) where
       go f true k = refl
       go f false k = f (omega arith)
 
-  count-last : (s : List ℕ) → length s ≤ firstAt b s → countOf b s ≡ 0
+  pub count-last : (s : List ℕ) → length s ≤ firstAt b s → countOf b s ≡ 0
   unfolding firstAt countOf
   count-last [] h = refl
   count-last (x ∷ s) h = go (count-last s) (eqb x b) h
