@@ -23,3 +23,7 @@ pub mod TakenAsSpelled
 pub mod ElementsTaken
 pub mod EntryLying
 pub mod PlainText
+pub mod PayloadNames
+pub mod ReceiptDots
+pub mod Splits
+pub mod NamedExactly

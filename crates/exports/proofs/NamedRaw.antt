@@ -27,10 +27,10 @@ use Rattle.exports.specs.Running.{SmallNames}
 -- ---- the middle part
 
 -- what stands before the first ".", and what after it
-pub upto : List ℕ → List ℕ
+unfoldable pub upto : List ℕ → List ℕ
 upto w = take (firstAt dot w) w
 
-pub past : List ℕ → List ℕ
+unfoldable pub past : List ℕ → List ℕ
 past w = drop (suc (firstAt dot w)) w
 
 pub middle-is : (w : List ℕ) → middle w ≡ upto (past w)

@@ -73,6 +73,9 @@ place-end {p} {k} {i} {a} h l =
     let e : i ≡ k = omega (arith, h .0) in
     record { inside = h .1 .inside; is = h .1 .is ∙ ap (λ (m : ℕ). skip m p) e }
 
+pub place-ordered : (p : List ℕ) (a : ℕ) {e : ℕ} → e ≡ nextAt separator p a → a ≤ e
+place-ordered p a e = omega (arith, e, next-from separator p a)
+
 -- ---- the next "_"
 
 pub record Seeking (p : List ℕ) (from n i : ℕ) : Type 0 where
