@@ -11,3 +11,5 @@ pub mod Unique
 pub mod Back
 pub mod Putting
 pub mod Sized
+pub mod GroupsBack
+pub mod PairsBack
