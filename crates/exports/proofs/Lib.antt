@@ -27,3 +27,5 @@ pub mod PayloadNames
 pub mod ReceiptDots
 pub mod Splits
 pub mod NamedExactly
+pub mod GroupsBack
+pub mod PairsBack

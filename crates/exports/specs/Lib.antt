@@ -15,3 +15,4 @@ pub mod Passing
 pub mod Running
 pub mod TakenOver
 pub mod Names
+pub mod GroupLaws
