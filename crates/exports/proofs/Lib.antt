@@ -14,3 +14,4 @@ pub mod NamedRaw
 pub mod TakenAsSpelled
 pub mod ElementsTaken
 pub mod EntryLying
+pub mod RunsAlong
