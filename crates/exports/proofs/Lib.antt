@@ -8,6 +8,9 @@ pub mod Objects
 pub mod Lexical
 pub mod Documents
 pub mod Passing
+pub mod Surveying
+pub mod Canonical
+pub mod Quads
 pub mod Unique
 pub mod Back
 pub mod NamedRaw

@@ -10,17 +10,20 @@ use lib.ListN.{length, take, drop, getD, drop-of-length-le, length-drop}
 use lib.Seq.{drop-cons, length-take-le}
 use Rattle.exports.specs.Text.{Token, mark, word, every}
 use Rattle.exports.specs.Lexer.{content, before}
-use Rattle.exports.specs.Shape.{array, following, string, strings, groupName, Written, written, document}
+use Rattle.exports.specs.Shape.{array, following, string, strings, groupName, Element, Written, written, document, elements, Shape}
 use Rattle.exports.specs.Places.{from, Next, Reads, one, Keyed, Begun, Followed, noPart, PartRead}
 use Rattle.exports.specs.Strings.{leftAfter, counted, closing, GroupPlace}
+use Rattle.exports.specs.Running.{someOf}
 use Rattle.exports.specs.declared.lexer.Found.{Found}
 use Rattle.exports.specs.declared.walk.Key.{Key}
 use Rattle.exports.specs.declared.walk.Cursor.{Cursor}
+use Rattle.exports.specs.declared.strings.Part.{Part}
 use Rattle.exports.proofs.Lexing.{no-truth}
 use Rattle.exports.proofs.Unescaping.{spells-shorter}
-use Rattle.exports.proofs.Tokening.{head-is, tail-is, other-mark, stands, found-word, read-word, read-no-word}
+use Rattle.exports.proofs.Tokening.{nil-cons, head-is, tail-is, other-mark, stands, found-word, read-word, read-no-word}
 use Rattle.exports.proofs.Arrays.{Opens, cons-array, nil-array, cons-following, nil-following, remains, falls, string-opens}
 use Rattle.exports.proofs.Members.{group-is}
+use Rattle.exports.proofs.Lexical.{lexed}
 
 module _ {A : Type 0} (item : A → List Token) where
   -- the items that are left at a cursor, and what stands after the array
@@ -47,6 +50,23 @@ module _ {A : Type 0} (item : A → List Token) where
       go : c .more ≡ false → (n : ℕ) → c .at ≡ n → ⊥
       go e zero z = b .none e z _ (q ∙ cons-array item x xs r)
       go e (suc n) z = o .differs x _ _ (sym (tail-is (sym (b .ended e (omega arith)) ∙ q ∙ cons-array item x xs r)))
+
+  -- whether there is an item
+  pub some-left : {text : List ℕ} {c : Cursor} (xs : List A) (r : List Token) → Left text c xs r → c .more ≡ someOf xs
+  unfolding someOf
+  some-left {text} {c} [] r l = go (c .more) refl
+    where
+      go : (t : Bool) → c .more ≡ t → c .more ≡ false
+      go true e = nil-cons (l .more e .2)
+      go false e = e
+  some-left {text} {c} (x ∷ xs) r l = go (c .more) refl
+    where
+      go : (t : Bool) → c .more ≡ t → c .more ≡ true
+      go true e = e
+      go false e = nil-cons (sym (l .ended e .0))
+
+  pub some-begun : {text : List ℕ} {at : ℕ} {c : Cursor} → Opens item → Begun text at c → (xs : List A) (r : List Token) → from text at ≡ array item xs ++ r → c .more ≡ someOf xs
+  some-begun o b xs r q = some-left xs r (left-start o b xs r q)
 
   -- one item more
   pub left-more : {text : List ℕ} {at p : ℕ} {d : Cursor} (x : A) (xs : List A) (r : List Token) → from text at ≡ item x ++ (following item xs ++ r) → Reads item text at p → Followed text p d → Left text d xs r
@@ -193,7 +213,19 @@ group-found {text} {p} {k} r d =
           c .1 (omega arith);
     }
 
--- ---- counting, as an example of a state that is carried along
+-- what a pass over the elements finds is true of what the text spells
+pub of-elements : {B : Type 0} (F : List Element → B) {b : B} {text : List ℕ} {g : ℕ} → GroupPlace text g
+    → ((ws : List Written) (r : List Token) → from text g ≡ array written ws ++ r → b ≡ F (elements ws))
+    → (es : List Element) → Shape text es → b ≡ F es
+unfolding from
+of-elements F p h es s = h (s .order) _ (p .is (s .order) (lexed (s .spelled))) ∙ ap F (s .same)
+
+pub some-written : (ws : List Written) → someOf ws ≡ someOf (elements ws)
+unfolding someOf elements
+some-written [] = refl
+some-written (w ∷ ws) = refl
+
+-- ---- counting: a state that is carried along
 
 pub record Counting (text : List ℕ) (at n : ℕ) (c : Cursor) : Type 0 where
   pub pass : Passing string length (λ (ws : List (List ℕ)). n + length ws) text at c
@@ -224,9 +256,9 @@ count-end {n = n} k e ws r q = let h : n + 0 ≡ length ws = pass-end string (k 
 -- ---- a string where it lies
 
 module _ {text : List ℕ} {at : ℕ} {t : Found} (n : Next text at t) where
-  pub no-part : (t .kind ≡ 34 → ⊥) → PartRead text at noPart
-  no-part h =
-      record {
+  pub no-part : {p : Part} → p ≡ noPart → (t .kind ≡ 34 → ⊥) → PartRead text at p
+  no-part e h =
+      rw e (record {
         reads = read-no-word n h;
         inside = omega arith;
         quote = λ z. absurd (omega arith);
@@ -234,7 +266,7 @@ module _ {text : List ℕ} {at : ℕ} {t : Found} (n : Next text at t) where
         is = λ w r q. absurd (h (stands n (word w) r q .kind));
         long = λ w r q. absurd (h (stands n (word w) r q .kind));
         spells = λ w r q. absurd (h (stands n (word w) r q .kind));
-      }
+      })
 
   pub part-found : t .kind ≡ 34 → {l : ℕ} → l ≡ length (content (drop (t .start) text) 0)
       → PartRead text at (record { start = t .start; length = l; next = t .next })
