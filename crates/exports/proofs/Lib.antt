@@ -29,3 +29,4 @@ pub mod Splits
 pub mod NamedExactly
 pub mod GroupsBack
 pub mod PairsBack
+pub mod RunsAlong
