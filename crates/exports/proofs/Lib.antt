@@ -30,3 +30,5 @@ pub mod NamedExactly
 pub mod GroupsBack
 pub mod PairsBack
 pub mod RunsAlong
+pub mod ReadBack
+pub mod PlainLetters

@@ -16,3 +16,4 @@ pub mod Running
 pub mod TakenOver
 pub mod Names
 pub mod GroupLaws
+pub mod Promises

@@ -1,0 +1,101 @@
+-- What holds of the two calls, as statements.
+use Prim.Native.Nat.{ℕ, _≤_, _<_}
+use mathlib.Core.Path.{_≡_}
+use mathlib.Core.Bool.{Bool, true, false, not}
+use mathlib.Core.List.{List, [], _∷_, _++_, map}
+use mathlib.Core.Logic.{_↔_}
+use mathlib.Core.Option.{Option, none, some}
+use lib.ListN.{length, take, drop, getD}
+use Rattle.primitives.specs.Bytes.{AllBytes}
+use Rattle.primitives.specs.Place.{overwrite}
+use Rattle.journal.specs.State.{unopened}
+use Rattle.journal.specs.Valid.{Valid}
+use Rattle.journal.specs.Checking.{takeOver}
+use Rattle.exports.specs.Text.{every}
+use Rattle.exports.specs.Shape.{Element, Shape}
+use Rattle.exports.specs.Spelled.{isEmpty, TextPair, pairsOf}
+use Rattle.exports.specs.Groups.{Group, groupsText, groupGood}
+use Rattle.exports.specs.Writing.{base64, exportText, exportOf, exported, exportBuffer}
+use Rattle.exports.specs.Reading.{elementGood, hasReceipt, namesRegister, journalOf, restored, restoredBuffer}
+
+-- ---- written and read back
+
+-- the text that the writer leaves in an output
+abbrev pub textWritten : List ℕ → List ℕ → ℕ → List ℕ → List ℕ → List ℕ
+textWritten j key n certificates out = take (exported j key n certificates out .length) (exportBuffer j key n certificates out)
+
+unfoldable pub hasText : TextPair → Bool
+hasText p = not (isEmpty (p .texts))
+
+-- "It reads back to the journal if every pair has a receipt": byte by byte, with the state that Take over gives, from every output that the export fits
+abbrev pub ExportReadsBack : Type 0
+ExportReadsBack =
+    (j key : List ℕ) (n : ℕ) (certificates first second : List ℕ) → AllBytes j → AllBytes certificates
+    → exported j key n certificates first .number ≡ 0 → every hasText (pairsOf j) ≡ true → length j ≤ length second
+    → (restored (textWritten j key n certificates first) key n (length second) ≡ record { number = 0; index = 0; length = length j; state = takeOver j key n .state })
+    × (restoredBuffer (textWritten j key n certificates first) key n second ≡ overwrite second 0 j)
+
+-- the certificates of elements are those of groups, in BASE64
+pub data SameCertificates : List Element → List Group → Type 0 where
+  nothing : SameCertificates [] []
+  also : {e : Element} {g : Group} {es : List Element} {gs : List Group} → e .certificate ≡ base64 (g .certificate) → e .issuers ≡ map base64 (g .issuers)
+      → SameCertificates es gs → SameCertificates (e ∷ es) (g ∷ gs)
+
+-- whatever text spells the elements: what is read of it and exported again, with the same certificates, is their text without blanks, and so the same text if
+-- it was written by this call
+abbrev pub ReadIsExportedAgain : Type 0
+ReadIsExportedAgain =
+    (text key : List ℕ) (n : ℕ) (out : List ℕ) (es : List Element) (gs : List Group) → Shape text es → restored text key n (length out) .number ≡ 0
+    → length out < 18446744073709551616 → every groupGood gs ≡ true → SameCertificates es gs → exportOf (journalOf es) (groupsText gs) ≡ some (exportText es)
+
+-- ---- which texts are read
+
+-- a text that is read: it spells elements, each is good, has a receipt and names the register by its first one, and the journal that they spell is valid and
+-- fits the output
+pub record ReadsAs (text key : List ℕ) (n room : ℕ) (es : List Element) : Type 0 where
+  pub shape : Shape text es
+  pub some : es ≡ [] → ⊥
+  pub good : every elementGood es ≡ true
+  pub receipts : every hasReceipt es ≡ true
+  pub names : every namesRegister es ≡ true
+  pub fits : length (journalOf es) ≤ room
+  pub valid : Valid (journalOf es) key n
+
+-- exactly these texts are read, and what stands in the output is the journal that they spell
+pub record ReadExactly : Type 0 where
+  pub only : (text key : List ℕ) (n : ℕ) (out : List ℕ) → AllBytes text → restored text key n (length out) .number ≡ 0
+      → (es : List Element) × ReadsAs text key n (length out) es × (restoredBuffer text key n out ≡ overwrite out 0 (journalOf es))
+      × (restored text key n (length out) .length ≡ length (journalOf es))
+  pub always : (text key : List ℕ) (n : ℕ) (out : List ℕ) (es : List Element) → ReadsAs text key n (length out) es
+      → restored text key n (length out) .number ≡ 0
+
+-- a text that spells no elements gets 28
+abbrev pub OtherTextsGet28 : Type 0
+OtherTextsGet28 =
+    (text key : List ℕ) (n room : ℕ) → ((es : List Element) → Shape text es → ⊥) → restored text key n room .number ≡ 28
+
+-- an output as long as the text is always enough
+abbrev pub TextIsRoomEnough : Type 0
+TextIsRoomEnough = (text key : List ℕ) (n : ℕ) (room : ℕ) → length text ≤ room → restored text key n room .number ≡ 23 → ⊥
+
+-- ---- refused calls, and what follows the text
+
+-- a refused call changes no byte, returns no length, and hands back the unopened state
+pub record RefusedExportChangesNothing : Type 0 where
+  pub writes : (j key : List ℕ) (n : ℕ) (certificates out : List ℕ) → (exported j key n certificates out .number ≡ 0 → ⊥)
+      → (exportBuffer j key n certificates out ≡ out) × (exported j key n certificates out .length ≡ 0)
+  pub reads : (text key : List ℕ) (n : ℕ) (out : List ℕ) → (restored text key n (length out) .number ≡ 0 → ⊥)
+      → (restoredBuffer text key n out ≡ out) × (restored text key n (length out) .length ≡ 0) × (restored text key n (length out) .state ≡ unopened)
+
+-- "writes nothing behind it"
+pub record NothingAfterLength : Type 0 where
+  pub writes : (j key : List ℕ) (n : ℕ) (certificates out : List ℕ) (i : ℕ) → exported j key n certificates out .length ≤ i
+      → getD (exportBuffer j key n certificates out) i 0 ≡ getD out i 0
+  pub reads : (text key : List ℕ) (n : ℕ) (out : List ℕ) (i : ℕ) → restored text key n (length out) .length ≤ i
+      → getD (restoredBuffer text key n out) i 0 ≡ getD out i 0
+
+-- "passes on number and index": a journal that Take over refuses is refused with its number and index
+abbrev pub RefusedByTakeOver : Type 0
+RefusedByTakeOver =
+    (j key : List ℕ) (n : ℕ) (certificates out : List ℕ) → (takeOver j key n .number ≡ 0 → ⊥)
+    → (exported j key n certificates out .number ≡ takeOver j key n .number) × (exported j key n certificates out .index ≡ takeOver j key n .index)
