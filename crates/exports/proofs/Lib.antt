@@ -7,10 +7,10 @@ pub mod Members
 pub mod Objects
 pub mod Lexical
 pub mod Documents
+pub mod NamedRaw
 pub mod Passing
 pub mod Surveying
 pub mod Canonical
 pub mod Quads
 pub mod Unique
 pub mod Back
-pub mod NamedRaw
