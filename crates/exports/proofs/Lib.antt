@@ -14,3 +14,10 @@ pub mod Canonical
 pub mod Quads
 pub mod Unique
 pub mod Back
+pub mod NamedRaw
+pub mod PayloadLetters
+pub mod PayloadMarks
+pub mod PayloadNames
+pub mod ReceiptDots
+pub mod Splits
+pub mod NamedExactly
