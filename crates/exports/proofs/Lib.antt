@@ -7,6 +7,7 @@ pub mod Members
 pub mod Objects
 pub mod Lexical
 pub mod Documents
+pub mod NamedRaw
 pub mod Passing
 pub mod Surveying
 pub mod Canonical

@@ -1,14 +1,13 @@
 -- The statement of specs/Names.antt: what a receipt of bytes names is exactly what its text is put together from.
-use Prim.Native.Nat.{ℕ, zero, suc, _+_, _-_, _≤_, _<_}
+use Prim.Native.Nat.{ℕ, zero, suc, _≤_, _<_}
 use mathlib.Core.Path.{_≡_, refl, sym, ap, _∙_, subst}
 use mathlib.Core.Bool.{Bool, true, false, cond, _&&_}
-use mathlib.Core.List.{List, [], _∷_, _++_}
+use mathlib.Core.List.{List, _∷_, _++_}
 use mathlib.Core.Option.{Option, none, some}
 use native.Mathlib.Omega.{arith}
 use borrow.Author.Tests.{eqb-true, eq-eqb, leb-true}
 use lib.Dec.{eqb, leb}
 use lib.ListN.{length, take, drop, getD, take-append-drop}
-use lib.Seq.{take-at}
 use Rattle.primitives.specs.Text.{ascii}
 use Rattle.primitives.specs.Bytes.{AllBytes, same}
 use Rattle.primitives.specs.Base64.{encoding, decoding}
@@ -21,7 +20,7 @@ use Rattle.receipt.specs.Texts.{separator, dot, beginning}
 use Rattle.receipt.specs.Form.{firstAt, Without}
 use Rattle.receipt.specs.Line.{countOf}
 use Rattle.receipt.specs.Separated.{after, skip}
-use Rattle.receipt.specs.Settings.{between, every, nameText, nameOf, nameGood, cspGood, settingsGood, SettingsLengths}
+use Rattle.receipt.specs.Settings.{between, nameText, nameOf, nameGood, cspGood, settingsGood}
 use Rattle.receipt.specs.declared.settings.Letters.{Letters}
 use Rattle.receipt.specs.declared.settings.Letters.the-variants.{Id, Serial}
 use Rattle.receipt.specs.declared.settings.Name.{Name}

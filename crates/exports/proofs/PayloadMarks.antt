@@ -7,7 +7,7 @@ use mathlib.Core.Logic.{_⊎_, ⊎-elim}
 use native.Mathlib.Numerals.{add-one}
 use native.Mathlib.Omega.{arith}
 use lib.Dec.{eqb}
-use lib.ListN.{length, take, drop, getD, set, replicate, length-take, length-drop, drop-of-length-le}
+use lib.ListN.{length, take, drop, getD, set, replicate, length-drop, drop-of-length-le}
 use lib.Seq.{drop-drop, take-suc, append-snoc, set-at, length-take-le, getD-take, getD-drop}
 use Rattle.receipt.specs.Texts.{separator}
 use Rattle.receipt.specs.Form.{firstAt, nextAt, part}

@@ -12,7 +12,6 @@ use Rattle.receipt.specs.Line.{countOf}
 use Rattle.receipt.specs.Settings.{nameText, settingsGood, SettingsLengths}
 use Rattle.receipt.specs.declared.settings.Settings.{Settings}
 use Rattle.exports.specs.Naming.{named}
-use Rattle.exports.specs.declared.naming.Named.{Named}
 
 -- a payload of twelve fields, a "_" before each: "R1-" and the CSP, the ID, eight more, the serial, and one more
 pub record NamesIn (payload : List ℕ) (s : Settings) : Type 0 where

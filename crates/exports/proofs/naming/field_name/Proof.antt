@@ -1,7 +1,6 @@
 -- `naming::field_name` meets its contract.
 use mathlib.Core.Path.{ap, _∙_}
 use borrow.Author.Needs.{needs}
-use native.Mathlib.Omega.{arith}
 use Rattle.receipt.specs.Settings.{nameOf}
 use Rattle.exports.proofs.PayloadMarks.{place-ordered, field-is}
 use Rattle.exports.proofs.naming.field_name.Statement.{statement}
