@@ -13,3 +13,5 @@ pub mod Putting
 pub mod Sized
 pub mod GroupsBack
 pub mod PairsBack
+pub mod Copying
+pub mod Exporting
