@@ -33,3 +33,5 @@ pub mod PairsBack
 pub mod RunsAlong
 pub mod ReadBack
 pub mod PlainLetters
+pub mod Copying
+pub mod Exporting
