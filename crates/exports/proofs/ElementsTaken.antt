@@ -1,13 +1,13 @@
 -- The journal of elements taken over where its receipts lie: the answer is that of Take over on the journal that the elements spell.
-use Prim.Native.Nat.{ℕ, zero, suc, _+_, _<_}
-use mathlib.Core.Path.{_≡_, refl, sym, ap, _∙_, subst}
+use Prim.Native.Nat.{ℕ, _<_}
+use mathlib.Core.Path.{_≡_, refl, ap, _∙_}
 use mathlib.Core.Bool.{Bool, true, false, cond, not, _&&_}
 use mathlib.Core.List.{List, [], _∷_, map}
 use mathlib.Core.Option.{Option, none, some}
 use native.Mathlib.Omega.{arith}
 use borrow.Author.Tests.{leb-true, eqb-true}
 use lib.Dec.{eqb, leb}
-use lib.ListN.{length, take, drop, length-drop}
+use lib.ListN.{length, take, length-drop}
 use Rattle.primitives.specs.Bytes.{same}
 use Rattle.primitives.specs.Base64.{decoding}
 use Rattle.primitives.specs.declared.base64.Alphabet.the-variants.{UrlSafe}
@@ -21,18 +21,15 @@ use Rattle.receipt.specs.Settings.{cspGood, idGood, serialGood, settingsGood}
 use Rattle.receipt.specs.declared.settings.Settings.{Settings}
 use Rattle.receipt.proofs.Entries.{length-array}
 use Rattle.journal.specs.Step.{fresh}
-use Rattle.journal.specs.Valid.{Owner, settingsFor}
 use Rattle.journal.specs.Checking.{settingsChecked, refused, accepted, takeOver}
-use Rattle.journal.specs.declared.state.State.{State}
 use Rattle.journal.specs.declared.state.TakenOver.{TakenOver}
 use Rattle.exports.specs.Text.{every}
 use Rattle.exports.specs.Shape.{Element}
-use Rattle.exports.specs.Spelled.{short, isEmpty, TextPair, journalSpelled}
+use Rattle.exports.specs.Spelled.{short, isEmpty}
 use Rattle.exports.specs.Naming.{middle, fieldOf, settingsIn, payloadNames, notNamed, namedBy, named}
 use Rattle.exports.specs.Reading.{canonical, elementGood, hasReceipt, firstOf, settingsOf, namesRegister, ownerOf, pairOf, journalOf, surveyNumber}
-use Rattle.exports.specs.Running.{runPairs, runAnswer, elementsRun, ownerNamed, runJournal}
+use Rattle.exports.specs.Running.{runAnswer, elementsRun, ownerNamed, runJournal}
 use Rattle.exports.specs.TakenOver.{GoodPair, GoodPairs, nothing, also, GoodParts, partsTaken}
-use Rattle.exports.specs.declared.naming.Named.{Named}
 use Rattle.exports.proofs.TakenAsSpelled.{read-is-taken-over}
 
 -- ---- what a receipt names

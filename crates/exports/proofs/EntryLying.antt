@@ -1,33 +1,33 @@
 -- An entry as it lies in a JSON string and as it is spelled there get the same answer: a compact form has neither a backslash nor "=".
-use Prim.Native.Nat.{ℕ, suc, _+_, _-_, _≤_, _<_}
-use mathlib.Core.Path.{_≡_, refl, sym, ap, _∙_, subst}
-use mathlib.Core.Bool.{Bool, true, false, cond, _&&_, _||_, and-false, or-true}
+use Prim.Native.Nat.{ℕ, _+_, _-_, _<_}
+use mathlib.Core.Path.{_≡_, refl, sym, ap, _∙_}
+use mathlib.Core.Bool.{Bool, true, false, cond, _&&_, _||_, and-false}
 use mathlib.Core.List.{List, [], _∷_, _++_}
 use mathlib.Core.Option.{Option, none, some}
 use native.Mathlib.Omega.{arith}
 use borrow.Author.Tests.{ltb-true, eqb-true}
 use lib.Dec.{ltb, leb, eqb}
-use lib.ListN.{length, getD, take, drop, length-take, length-drop, take-append-drop}
+use lib.ListN.{length, getD, take, drop, length-take, take-append-drop}
 use lib.Seq.{take-length, take-take}
 use Rattle.primitives.specs.Base64.{letters, quad, digit, known, ended, accepted, encoding, decoding}
 use Rattle.primitives.specs.Base64 as base
 use Rattle.primitives.specs.Text.{ascii}
 use Rattle.primitives.specs.declared.base64.Alphabet.the-variants.{UrlSafe}
-use Rattle.primitives.specs.Questions.{ask, ifZero}
+use Rattle.primitives.specs.Questions.{ifZero}
 use Rattle.primitives.proofs.Rows.{ask-no, ifZero-no, true-is-not-false}
-use Rattle.receipt.specs.Form.{nextAt, part, header, firstElement, Parts, goodParts, secondDot, partsOfForm}
-use Rattle.receipt.specs.Compact.{noEntry, entryOfParts, readEntry}
+use Rattle.receipt.specs.Form.{nextAt, part, header, firstElement, goodParts, secondDot, partsOfForm}
+use Rattle.receipt.specs.Compact.{noEntry, readEntry}
 use Rattle.receipt.proofs.Finding.{next-is, next-from}
 use Rattle.receipt.proofs.Forms.{dot-inverted, cut}
 use Rattle.journal.specs.Head.{entryText}
-use Rattle.journal.specs.State.{settingsNow}
 use Rattle.journal.specs.Step.{soundAlone}
 use Rattle.journal.specs.Checking.{found, contextNumber, textNumber, after, stopped, checked, textChecked, entryReady, entryChecked}
 use Rattle.journal.specs.declared.state.State.{State}
+use Rattle.journal.specs.declared.checking.Checked.{Checked}
 use Rattle.journal.proofs.Places.{length-entry}
 use Rattle.exports.specs.Text.{Token}
 use Rattle.exports.specs.Shape.{string}
-use Rattle.exports.specs.Places.{from, holds, Unescaped, rawOf, PartRead}
+use Rattle.exports.specs.Places.{from, holds, PartRead}
 use Rattle.exports.specs.declared.strings.Part.{Part}
 use Rattle.exports.proofs.Unescaping.{AsTheyLie, same, escaped, as-they-lie}
 
@@ -93,9 +93,9 @@ module _ (b : ℕ) (f : Foreign b) where
         let n : k ≡ nextAt 46 t 21 = dot-inverted t l .1 in
         let g : getD t k 0 ≡ 46 = ap (λ (m : ℕ). getD t m 0) n ∙ next-is 46 t 21 (omega arith) in
         let q : t ≡ firstElement ++ (part 21 k t ++ (46 ∷ drop (k + 1) t)) =
-            sym (take-append-drop 21 t) ∙ (λ i. dot-inverted t l .0 i ++ cut t 46 21 k (omega (arith, next-from 46 t 21)) l g i) in
+        sym (take-append-drop 21 t) ∙ (λ i. dot-inverted t l .0 i ++ cut t 46 21 k (omega (arith, next-from 46 t 21)) l g i) in
         let inner : holds b (part 21 k t ++ (46 ∷ drop (k + 1) t)) ≡ holds b (part 21 k t) || holds b (drop (k + 1) t) =
-            holds-append b (part 21 k t) (46 ∷ drop (k + 1) t) ∙ ap (λ (x : Bool). holds b (part 21 k t) || x) (holds-cons b 46 (drop (k + 1) t) (f .dot)) in
+        holds-append b (part 21 k t) (46 ∷ drop (k + 1) t) ∙ ap (λ (x : Bool). holds b (part 21 k t) || x) (holds-cons b 46 (drop (k + 1) t) (f .dot)) in
         sym inner ∙ sym (ap (λ (x : Bool). x || holds b (part 21 k t ++ (46 ∷ drop (k + 1) t))) (f .first))
         ∙ sym (holds-append b firstElement (part 21 k t ++ (46 ∷ drop (k + 1) t))) ∙ ap (holds b) (sym q) ∙ h
 
@@ -132,7 +132,7 @@ module _ (b : ℕ) (f : Foreign b) where
     unfolding entryChecked textChecked checked
     not-entry k st =
         ap (λ (m : ℕ). cond (entryReady st t) (ifZero m (record { number = 0; found = found st t; state = after st t }) (stopped m st)) (stopped 6 st)) (sixteen k st)
-        ∙ ap (λ (x : Rattle.journal.specs.declared.checking.Checked.Checked). cond (entryReady st t) x (stopped 6 st)) (ifZero-no 16 _ _ (λ z. omega arith))
+        ∙ ap (λ (x : Checked). cond (entryReady st t) x (stopped 6 st)) (ifZero-no 16 _ _ (λ z. omega arith))
 
 -- the size alone decides whether the length fits
 ready-size : (st : State) (s w : List ℕ) → length s ≡ length w → entryReady st s ≡ entryReady st w

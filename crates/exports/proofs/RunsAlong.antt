@@ -1,14 +1,13 @@
 -- The runs of room `retaking`: what each of their turns amounts to.
 use Prim.Native.Nat.{ℕ, _+_, _-_}
-use mathlib.Core.Path.{_≡_, refl, sym, ap, _∙_, subst}
-use mathlib.Core.Bool.{Bool, true, false, cond}
+use mathlib.Core.Path.{_≡_, refl, sym, ap, _∙_}
+use mathlib.Core.Bool.{Bool, true, false}
 use mathlib.Core.List.{List, [], _∷_, _++_, map}
 use native.Mathlib.Omega.{arith}
 use lib.ListN.{length, take, drop}
 use Rattle.primitives.specs.Aes.{keySchedule}
 use Rattle.primitives.specs.Questions.{ifZero}
 use Rattle.primitives.proofs.Rows.{ifZero-yes, ifZero-no}
-use Rattle.receipt.specs.declared.settings.Name.{Name}
 use Rattle.journal.specs.State.{unopened}
 use Rattle.journal.specs.Checking.{entryChecked, serialChecked, settingsChecked}
 use Rattle.journal.specs.declared.state.State.{State}

@@ -11,24 +11,23 @@ use Rattle.primitives.specs.Bytes.{AllBytes}
 use Rattle.primitives.specs.Number.{countAt}
 use Rattle.primitives.specs.Counter.{widthGood}
 use Rattle.primitives.specs.Aes.{keySchedule}
-use Rattle.primitives.specs.Questions.{ifZero}
+use Rattle.primitives.specs.Questions.{ask, ifZero}
 use Rattle.primitives.proofs.ByteLists.{bytes-nil, bytes-cons}
 use Rattle.primitives.proofs.Rows.{both, ask-yes, ask-no, ifZero-yes, ifZero-no}
-use Rattle.receipt.specs.Settings.{between, nameText, nameGood, cspGood, serialGood, settingsGood, SettingsLengths, TypedSettings}
+use Rattle.receipt.specs.Settings.{between, nameText, nameGood, cspGood, serialGood, settingsGood, TypedSettings}
 use Rattle.receipt.specs.declared.settings.Name.{Name}
 use Rattle.receipt.specs.declared.settings.Settings.{Settings}
 use Rattle.receipt.specs.declared.settings.Letters.{Letters}
 use Rattle.receipt.specs.declared.settings.Letters.the-variants.{Id, Serial}
 use Rattle.receipt.proofs.Names.{good-name, letters-bytes, name-of}
 use Rattle.receipt.proofs.Entries.{bytes-array}
-use Rattle.journal.specs.Head.{head, headLength, countPlace, headSettings, headGood, pairStart, entryText, there, textAt, serialAt, startThere}
+use Rattle.journal.specs.Head.{head, headSettings, headGood, pairStart, entryText, there, textAt, serialAt, startThere}
 use Rattle.journal.specs.State.{TypedName}
-use Rattle.journal.specs.Step.{fresh, next, renewed, renewNumber, soundAlone}
+use Rattle.journal.specs.Step.{fresh, next, renewed, renewNumber}
 use Rattle.journal.specs.Checking.{found, textNumber, after, entryNumber, stopped, checked, textChecked, placeChecked, startNumber, startChecked, oneStep, steps, entryReady, entryChecked, serialReady, serialNumber, serialChecked, refused, accepted, lastAnswer, headNumber, takeOver}
 use Rattle.journal.specs.Valid.{Owner, settingsFor, ownerText}
 use Rattle.journal.specs.declared.state.State.{State}
 use Rattle.journal.specs.declared.checking.Checked.{Checked}
-use Rattle.journal.specs.declared.state.TakenOver.{TakenOver}
 use Rattle.journal.proofs.Answers.{sound-yes, settings-three}
 use Rattle.journal.proofs.Heads.{length-head, read-count-at, read-settings, head-good}
 use Rattle.journal.proofs.Accepting.{fresh-length, fresh-place, fresh-section, head-pair}
@@ -41,7 +40,7 @@ use Rattle.journal.proofs.Stepping.{full-yes, full-no, step-entry, end-none, en
 use Rattle.journal.proofs.PartSteps.{Ready, ready-step, turn, stuck}
 use Rattle.exports.specs.Text.{every}
 use Rattle.exports.specs.Spelled.{short, sizedTexts, TextPair, pairSpelled, pairsSpelled, journalSpelled}
-use Rattle.exports.specs.TakenOver.{GoodPair, GoodPairs, nothing, also, GoodParts, partsTaken, ReadIsTakenOver}
+use Rattle.exports.specs.TakenOver.{GoodPair, GoodPairs, also, GoodParts, partsTaken, ReadIsTakenOver}
 use Rattle.exports.specs.Running.{runTexts, runPair, runPairs, runAnswer}
 use Rattle.exports.specs.declared.retaking.Run.{Run}
 
@@ -449,7 +448,7 @@ module _ (o : Owner) (p : TextPair) (ps : List TextPair) (g : GoodParts o (p ∷
     width-no : widthGood n ≡ false → takeOver (journalSpelled o (p ∷ ps)) key n ≡ refused 4 0
     unfolding takeOver headNumber
     width-no w =
-        let e = ask-no 4 (Rattle.primitives.specs.Questions.ask (headGood (journalSpelled o (p ∷ ps))) 14 0) w in
+        let e = ask-no 4 (ask (headGood (journalSpelled o (p ∷ ps))) 14 0) w in
         ap (λ (m : ℕ). ifZero m (lastAnswer (steps (keySchedule key) (length (journalSpelled o (p ∷ ps))) (fresh (headSettings (journalSpelled o (p ∷ ps))) n key) (journalSpelled o (p ∷ ps)))) (refused m 0)) e
         ∙ ifZero-no 4 _ _ (λ z. omega arith)
 

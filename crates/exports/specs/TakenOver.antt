@@ -44,7 +44,8 @@ unfoldable pub partsTaken : Owner → TextPair → List TextPair → List ℕ �
 partsTaken o p ps key n =
     cond (widthGood n) (runAnswer (runPairs (keySchedule key) true (fresh (settingsFor o (p .serial)) n key) (p ∷ ps))) (refused 4 0)
 
--- Number, index and state are those of Take over on the journal that the parts spell, whether or not it is written, and whatever the texts are.
+-- Number, index and state are those of Take over on the journal that the parts spell, whether or not it is written; for every key and every width, good or
+-- not, and whatever the texts are.
 abbrev pub ReadIsTakenOver : Type 0
 ReadIsTakenOver =
     (o : Owner) (p : TextPair) (ps : List TextPair) (key : List ℕ) (n : ℕ) → GoodParts o (p ∷ ps)

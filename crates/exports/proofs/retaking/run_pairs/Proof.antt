@@ -1,7 +1,7 @@
 -- `retaking::run_pairs` meets its contract.
 use borrow.Author.Needs.{needs}
 use Prim.Native.Nat.{ℕ}
-use mathlib.Core.Path.{_≡_, refl, sym, _∙_}
+use mathlib.Core.Path.{sym, _∙_}
 use Rattle.exports.specs.Shape.{written}
 use Rattle.exports.specs.Strings.{GroupPlace}
 use Rattle.exports.proofs.Arrays.{remains}
@@ -50,11 +50,11 @@ loop-less c = pass-falls written (c .before .before .before .before .before .bef
 
 loop-again : tie.Need-loop-again Inv-loop μ-loop
 loop-again c = (
-      c .before .before .before .before .before .before .before .before .loop .inv .0,
-      c .before .before .before .before .before .before .before .before .loop .inv .1,
-      pass-more written (c .before .before .before .before .before .before .before .before .loop .inv .2) (c .before .before .before .before .before .before .before .loop-test .taken) (runWritten _ _ _)
+  c .before .before .before .before .before .before .before .before .loop .inv .0,
+  c .before .before .before .before .before .before .before .before .loop .inv .1,
+  pass-more written (c .before .before .before .before .before .before .before .before .loop .inv .2) (c .before .before .before .before .before .before .before .loop-test .taken) (runWritten _ _ _)
       (pairs-more _ _ _ (c .before .before .before .before .before .before .element .ensures) (c .before .before .before .before .run-pair .ensures) (c .before .before .if2 .left)) (c .before .before .before .before .before .before .element .ensures .reads) (c .follow .ensures),
-    )
+)
 
 returns-3 : tie.Need-returns-3 Inv-loop μ-loop
 returns-3 c = pairs-finish _ _ (c .before .loop .inv .1) (λ ws r q. sym (pairs-end _ _ _) ∙ pass-end written (c .before .loop .inv .2) (c .loop-test .left) ws r q)

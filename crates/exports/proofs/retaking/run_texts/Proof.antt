@@ -1,6 +1,6 @@
 -- `retaking::run_texts` meets its contract.
 use borrow.Author.Needs.{needs}
-use mathlib.Core.Path.{_≡_, refl, sym, _∙_}
+use mathlib.Core.Path.{sym, _∙_}
 use native.Mathlib.Omega.{arith}
 use Rattle.exports.specs.Shape.{string}
 use Rattle.exports.specs.Running.{runTexts}
