@@ -1,7 +1,7 @@
 -- The loops of the lexer, step by step.
 use mathlib.Core.Path.{_≡_, refl, sym, ap, _∙_}
-use mathlib.Core.Bool.{Bool, true, false, cond, or-true}
-use mathlib.Core.List.{List, [], _∷_}
+use mathlib.Core.Bool.{Bool, true, false, cond}
+use mathlib.Core.List.{List, [], _∷_, _++_}
 use Prim.Native.Nat.{ℕ, zero, suc, _+_, _-_, _<_, _≤_}
 use native.Mathlib.Omega.{arith}
 use native.Mathlib.Numerals.{add-one}
@@ -11,7 +11,7 @@ use lib.ListN.{length, take, drop, getD, drop-of-length-le}
 use lib.Seq.{drop-drop, drop-cons, drop-length}
 use Rattle.exports.specs.Text.{Token, mark, word, blank, isMark, plain}
 use Rattle.exports.specs.Lexer.{wrong, letterLeft, afterByte, before, content, lex, lexIn}
-use Rattle.exports.specs.Places.{from, Skipped, Closed, Next, holds, Lying, LettersAt, LetterRead}
+use Rattle.exports.specs.Places.{from, Skipped, Closed, Next, Unescaped, nothing, letter, escape, Lying, LettersAt, LetterRead}
 
 pub no-truth {ℓ} : {X : Type ℓ} → false ≡ true → X
 no-truth e = let z : _≡_ {A = ℕ} 0 1 = cc in absurd (omega arith)
@@ -101,8 +101,8 @@ not-word {c = c} e =
 data Step (text c : List ℕ) (ts : List Token) : ℕ → ℕ → Type 0 where
   quoting : Step text c ts 34 0
   slash : lexIn text 5 c ≡ word c ∷ ts → Step text c ts 92 0
-  other : {b : ℕ} → eqb b 34 ≡ false → eqb b 92 ≡ false → lexIn text 0 c ≡ word c ∷ ts → Step text c ts b 0
-  inner : {b k : ℕ} → eqb b 34 ≡ false → lexIn text k c ≡ word c ∷ ts → Step text c ts b (suc k)
+  other : {b : ℕ} → eqb b 34 ≡ false → eqb b 92 ≡ false → plain b ≡ true → lexIn text 0 c ≡ word c ∷ ts → Step text c ts b 0
+  inner : {b k : ℕ} → eqb b 34 ≡ false → b ≡ letterLeft (suc k) → lexIn text k c ≡ word c ∷ ts → Step text c ts b (suc k)
 
 step : (b : ℕ) (text : List ℕ) (k : ℕ) {c : List ℕ} {ts : List Token} → lexIn (b ∷ text) k c ≡ word c ∷ ts → Step text c ts b k
 unfolding lexIn afterByte
@@ -111,7 +111,7 @@ step b text zero {c} {ts} e = go (eqb b 34) (eqb b 92) (plain b) refl refl refl
     go : (s t u : Bool) → eqb b 34 ≡ s → eqb b 92 ≡ t → plain b ≡ u → Step text c ts b 0
     go true t u i j k = rw (eqb-true b 34 i) quoting
     go false true u i j k = rw (eqb-true b 92 j) (slash (rw (i, j) at e))
-    go false false true i j k = other i j (rw (i, j, k) at e)
+    go false false true i j k = other i j k (rw (i, j, k) at e)
     go false false false i j k = not-word (rw (i, j, k) at e)
 step b text (suc k) {c} {ts} e = go (eqb b 34) (eqb b (letterLeft (suc k))) refl refl
   where
@@ -124,55 +124,45 @@ step b text (suc k) {c} {ts} e = go (eqb b 34) (eqb b (letterLeft (suc k))) refl
     go : (s t : Bool) → eqb b 34 ≡ s → eqb b (letterLeft (suc k)) ≡ t → Step text c ts b (suc k)
     go true t i j = not-word (rw (i, above) at e)
     go false false i j = not-word (rw (i, above, j) at e)
-    go false true i j = inner i (ends (eqb (suc k - 1) 9) (rw (i, above, j) at e))
+    go false true i j = inner i (eqb-true b (letterLeft (suc k)) j) (ends (eqb (suc k - 1) 9) (rw (i, above, j) at e))
       where
         ends : (t : Bool) → cond t wrong (lexIn text (suc k - 1) c) ≡ word c ∷ ts → lexIn text k c ≡ word c ∷ ts
         ends true q = not-word q
         ends false q = rw pred at q
 
-module _ {text c : List ℕ} {ts : List Token} where
-  fits-step : {b k : ℕ} → Step text c ts b k → ((j : ℕ) → lexIn text j c ≡ word c ∷ ts → j + length (content text j) ≤ before text)
-      → k + length (content (b ∷ text) k) ≤ before (b ∷ text)
-  unfolding content before
-  fits-step quoting ih = omega arith
-  fits-step (slash e) ih = omega (arith, ih 5 e)
-  fits-step (other {b = b} i j e) ih = rw (i, j) (omega (arith, ih 0 e))
-  fits-step (inner {b = b} {k = k} i e) ih = rw i (omega (arith, ih k e))
+-- the last k letters of an escape
+escapeLeft : ℕ → List ℕ
+escapeLeft zero = []
+escapeLeft (suc k) = letterLeft (suc k) ∷ escapeLeft k
 
-fits : (text : List ℕ) (k : ℕ) {c : List ℕ} {ts : List Token} → lexIn text k c ≡ word c ∷ ts → k + length (content text k) ≤ before text
-unfolding lexIn
-fits [] k e = not-word e
-fits (b ∷ text) k e = fits-step (step b text k e) (λ j q. fits text j q)
+-- the bytes before the next quote: what is left of an escape, and then letters that spell the content
+record Spelling (text : List ℕ) (k : ℕ) : Type 0 where
+  rest : List ℕ
+  is : take (before text) text ≡ escapeLeft k ++ rest
+  spelled : Unescaped rest (content text k)
 
 module _ {text c : List ℕ} {ts : List Token} where
-  lies-step : {b : ℕ} → Step text c ts b 0 → (lexIn text 0 c ≡ word c ∷ ts → length (content text 0) ≡ before text → content text 0 ≡ take (before text) text)
-      → length (content (b ∷ text) 0) ≡ before (b ∷ text) → content (b ∷ text) 0 ≡ take (before (b ∷ text)) (b ∷ text)
-  unfolding content before
-  lies-step quoting ih h = refl
-  lies-step (slash e) ih h = absurd (omega (arith, fits text 5 e))
-  lies-step (other {b = b} i j e) ih h =
-      let l : suc (length (content text 0)) ≡ suc (before text) = rw (i, j) at h in
-      rw (i, j) (ap (λ (x : List ℕ). b ∷ x) (ih e (omega arith)))
+  spelling-step : {b k : ℕ} → Step text c ts b k → ((j : ℕ) → lexIn text j c ≡ word c ∷ ts → Spelling text j) → Spelling (b ∷ text) k
+  unfolding content before escapeLeft letterLeft
+  spelling-step quoting ih = record { rest = []; is = refl; spelled = nothing }
+  spelling-step (slash e) ih =
+      let s = ih 5 e in
+      record { rest = 92 ∷ take (before text) text; is = refl; spelled = rw (s .is) (escape (s .spelled)) }
+  spelling-step (other {b = b} i j p e) ih =
+      let s = ih 0 e in
+      record { rest = b ∷ take (before text) text; is = rw i; spelled = rw (i, j, s .is) (letter p (s .spelled)) }
+  spelling-step (inner {b = b} {k = k} i l e) ih =
+      let s = ih k e in
+      record { rest = s .rest; is = rw i (λ t. l t ∷ s .is t); spelled = s .spelled }
 
-  escaped-step : {b : ℕ} → Step text c ts b 0 → (lexIn text 0 c ≡ word c ∷ ts → (length (content text 0) ≡ before text → ⊥) → holds 61 (content text 0) ≡ true)
-      → (length (content (b ∷ text) 0) ≡ before (b ∷ text) → ⊥) → holds 61 (content (b ∷ text) 0) ≡ true
-  unfolding content before holds
-  escaped-step quoting ih h = absurd (h refl)
-  escaped-step (slash e) ih h = refl
-  escaped-step (other {b = b} i j e) ih h = rw (i, j) (rw (ih e (λ q. h (rw (i, j) (ap suc q)))) (or-true (eqb b 61)))
-
-lies-whole : (text : List ℕ) {c : List ℕ} {ts : List Token} → lexIn text 0 c ≡ word c ∷ ts → length (content text 0) ≡ before text → content text 0 ≡ take (before text) text
+spelling : (text : List ℕ) (k : ℕ) {c : List ℕ} {ts : List Token} → lexIn text k c ≡ word c ∷ ts → Spelling text k
 unfolding lexIn
-lies-whole [] e h = not-word e
-lies-whole (b ∷ text) e h = lies-step (step b text 0 e) (λ q l. lies-whole text q l) h
-
-lies-escaped : (text : List ℕ) {c : List ℕ} {ts : List Token} → lexIn text 0 c ≡ word c ∷ ts → (length (content text 0) ≡ before text → ⊥) → holds 61 (content text 0) ≡ true
-unfolding lexIn
-lies-escaped [] e h = not-word e
-lies-escaped (b ∷ text) e h = escaped-step (step b text 0 e) (λ q l. lies-escaped text q l) h
+spelling [] k e = not-word e
+spelling (b ∷ text) k e = spelling-step (step b text k e) (λ j q. spelling text j q)
 
 lies : (text : List ℕ) {ts : List Token} → lexIn text 0 [] ≡ word [] ∷ ts → Lying text
-lies text {ts} e = record { good = (ts, e); is = lies-whole text e; escaped = lies-escaped text e }
+unfolding escapeLeft
+lies text {ts} e = let s = spelling text 0 e in record { good = (ts, e); spells = rw (s .is) (s .spelled) }
 
 -- ---- letter by letter
 
@@ -188,7 +178,7 @@ following-escape (suc k) [] e = not-word e
 following-escape (suc k) (b ∷ text) e = following-escape k text (go (step b text (suc k) e))
   where
     go : {c : List ℕ} {ts : List Token} → Step text c ts b (suc k) → lexIn text k c ≡ word c ∷ ts
-    go (inner i q) = q
+    go (inner i l q) = q
 
 pub letters-inside : (text : List ℕ) (at : ℕ) → LettersAt text at → at < length text
 unfolding lexIn
@@ -213,12 +203,12 @@ module _ {text : List ℕ} {at : ℕ} (l : LettersAt text at) where
   slashed : {b : ℕ} → Step (drop (suc at) text) [] (l .good .0) b 0 → b ≡ 92 → lexIn (drop (suc at) text) 5 [] ≡ word [] ∷ l .good .0
   slashed quoting q = absurd (omega arith)
   slashed (slash e) q = e
-  slashed (other i j e) q = no-truth (sym j ∙ eq-eqb _ 92 q)
+  slashed (other i j p e) q = no-truth (sym j ∙ eq-eqb _ 92 q)
 
   plainly : {b : ℕ} → Step (drop (suc at) text) [] (l .good .0) b 0 → (b ≡ 34 → ⊥) → (b ≡ 92 → ⊥) → lexIn (drop (suc at) text) 0 [] ≡ word [] ∷ l .good .0
   plainly quoting q r = absurd (q refl)
   plainly (slash e) q r = absurd (r refl)
-  plainly (other i j e) q r = e
+  plainly (other i j p e) q r = e
 
   pub letter-escape : getD text at 0 ≡ 92 → LetterRead text at (record { some = true; byte = 61; next = at + 6 })
   unfolding content

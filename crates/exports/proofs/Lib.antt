@@ -1,4 +1,5 @@
 pub mod Lexing
+pub mod Unescaping
 pub mod Names
 pub mod Tokening
 pub mod Arrays
@@ -7,6 +8,9 @@ pub mod Objects
 pub mod Lexical
 pub mod Documents
 pub mod Passing
+pub mod Surveying
+pub mod Canonical
 pub mod Unique
 pub mod Back
 pub mod NamedBack
+pub mod NamedRaw

@@ -5,21 +5,22 @@ use mathlib.Core.List.{List, [], _∷_, _++_}
 use Prim.Native.Nat.{ℕ, zero, suc, _+_, _-_, _<_, _≤_}
 use native.Mathlib.Omega.{arith}
 use native.Mathlib.Numerals.{add-one}
-use borrow.Author.Tests.{eqb-true, eqb-false, lt-leb, le-leb}
 use lib.Dec.{eqb, eqb·suc-zero}
-use lib.ListN.{length, take, drop, getD, drop-of-length-le}
-use lib.Seq.{drop-cons}
+use lib.ListN.{length, take, drop, getD, drop-of-length-le, length-drop}
+use lib.Seq.{drop-cons, length-take-le}
 use Rattle.exports.specs.Text.{Token, mark, word, every}
 use Rattle.exports.specs.Lexer.{content, before}
 use Rattle.exports.specs.Shape.{array, following, string, strings, groupName, Element, Written, written, document, elements, Shape}
-use Rattle.exports.specs.Places.{from, Next, Reads, one, Keyed, Begun, Followed, ElementRead, holds, PartRead}
-use Rattle.exports.specs.Strings.{leftAfter, counted, closing, short, shortReceipts, GroupPlace}
+use Rattle.exports.specs.Places.{from, Next, Reads, one, Keyed, Begun, Followed, noPart, PartRead}
+use Rattle.exports.specs.Strings.{leftAfter, counted, closing, GroupPlace}
+use Rattle.exports.specs.Running.{someOf}
 use Rattle.exports.specs.declared.lexer.Found.{Found}
 use Rattle.exports.specs.declared.walk.Key.{Key}
 use Rattle.exports.specs.declared.walk.Cursor.{Cursor}
-use Rattle.exports.specs.declared.shape.Places.{Places}
+use Rattle.exports.specs.declared.strings.Part.{Part}
 use Rattle.exports.proofs.Lexing.{no-truth}
-use Rattle.exports.proofs.Tokening.{head-is, tail-is, other-mark, stands, found-word, read-word, read-no-word}
+use Rattle.exports.proofs.Unescaping.{spells-shorter}
+use Rattle.exports.proofs.Tokening.{nil-cons, head-is, tail-is, other-mark, stands, found-word, read-word, read-no-word}
 use Rattle.exports.proofs.Arrays.{Opens, cons-array, nil-array, cons-following, nil-following, remains, falls, string-opens}
 use Rattle.exports.proofs.Members.{group-is}
 use Rattle.exports.proofs.Lexical.{lexed}
@@ -49,6 +50,23 @@ module _ {A : Type 0} (item : A → List Token) where
       go : c .more ≡ false → (n : ℕ) → c .at ≡ n → ⊥
       go e zero z = b .none e z _ (q ∙ cons-array item x xs r)
       go e (suc n) z = o .differs x _ _ (sym (tail-is (sym (b .ended e (omega arith)) ∙ q ∙ cons-array item x xs r)))
+
+  -- whether there is an item
+  pub some-left : {text : List ℕ} {c : Cursor} (xs : List A) (r : List Token) → Left text c xs r → c .more ≡ someOf xs
+  unfolding someOf
+  some-left {text} {c} [] r l = go (c .more) refl
+    where
+      go : (t : Bool) → c .more ≡ t → c .more ≡ false
+      go true e = nil-cons (l .more e .2)
+      go false e = e
+  some-left {text} {c} (x ∷ xs) r l = go (c .more) refl
+    where
+      go : (t : Bool) → c .more ≡ t → c .more ≡ true
+      go true e = e
+      go false e = nil-cons (sym (l .ended e .0))
+
+  pub some-begun : {text : List ℕ} {at : ℕ} {c : Cursor} → Opens item → Begun text at c → (xs : List A) (r : List Token) → from text at ≡ array item xs ++ r → c .more ≡ someOf xs
+  some-begun o b xs r q = some-left xs r (left-start o b xs r q)
 
   -- one item more
   pub left-more : {text : List ℕ} {at p : ℕ} {d : Cursor} (x : A) (xs : List A) (r : List Token) → from text at ≡ item x ++ (following item xs ++ r) → Reads item text at p → Followed text p d → Left text d xs r
@@ -182,29 +200,7 @@ module _ {text : List ℕ} {start i k n : ℕ} (m : Measuring text start i k n) 
       let q : length (content (drop i text) k) ≡ 0 = rw (drop-of-length-le text h) in
       omega (arith, m .same)
 
-module _ {text : List ℕ} {at : ℕ} {t : Found} (n : Next text at t) where
-  pub no-word : (t .kind ≡ 34 → ⊥) → (x : List ℕ) (r : List Token) → from text at ≡ string x ++ r → short x ≡ false
-  no-word h x r q = absurd (h (stands n (word x) r q .kind))
-
-  pub word-above : t .kind ≡ 34 → t .next ≡ 0 → ⊥
-  word-above e z = omega (arith, found-word n e .0)
-
-  module _ (e : t .kind ≡ 34) {l : ℕ} (is : l ≡ length (content (drop (t .start) text) 0)) where
-    pub spelled : (x : List ℕ) (r : List Token) → from text at ≡ string x ++ r → length x ≡ l
-    spelled x r q = ap length (ap (λ (k : Token). k .content) (head-is (sym q ∙ found-word n e .1))) ∙ sym is
-
-    pub too-long : 65535 < l → (x : List ℕ) (r : List Token) → from text at ≡ string x ++ r → short x ≡ false
-    unfolding short
-    too-long h x r q = lt-leb (length x) 65535 (omega (arith, spelled x r q))
-
-    pub not-long : l ≤ 65535 → (x : List ℕ) (r : List Token) → from text at ≡ string x ++ r → short x ≡ true
-    unfolding short
-    not-long h x r q = le-leb (length x) 65535 (omega (arith, spelled x r q))
-
 -- ---- all elements
-
-abbrev pub goodWritten : Written → Bool
-goodWritten w = shortReceipts (w .element)
 
 pub group-found : {text : List ℕ} {p : ℕ} {k : Key} → Reads (one 123) text 0 p → Keyed text p k → GroupPlace text (k .next)
 unfolding document
@@ -217,27 +213,19 @@ group-found {text} {p} {k} r d =
           c .1 (omega arith);
     }
 
-every-written : (ws : List Written) → every goodWritten ws ≡ every shortReceipts (elements ws)
-unfolding every elements
-every-written [] = refl
-every-written (w ∷ ws) = ap (λ (b : Bool). shortReceipts (w .element) && b) (every-written ws)
-
--- what a walk over the elements finds is true of what the text spells
-pub finish : {text : List ℕ} {g : ℕ} {b : Bool} → GroupPlace text g → ((ws : List Written) (r : List Token) → from text g ≡ array written ws ++ r → b ≡ every goodWritten ws)
-    → (es : List Element) → Shape text es → b ≡ every shortReceipts es
+-- what a pass over the elements finds is true of what the text spells
+pub of-elements : {B : Type 0} (F : List Element → B) {b : B} {text : List ℕ} {g : ℕ} → GroupPlace text g
+    → ((ws : List Written) (r : List Token) → from text g ≡ array written ws ++ r → b ≡ F (elements ws))
+    → (es : List Element) → Shape text es → b ≡ F es
 unfolding from
-finish p h es s = h (s .order) _ (p .is (s .order) (lexed (s .spelled))) ∙ every-written (s .order) ∙ ap (every shortReceipts) (s .same)
+of-elements F p h es s = h (s .order) _ (p .is (s .order) (lexed (s .spelled))) ∙ ap F (s .same)
 
-module _ {text : List ℕ} {at : ℕ} {p : Places} (e : ElementRead text at p) where
-  pub no-element : p .next ≡ 0 → (w : Written) (r : List Token) → from text at ≡ written w ++ r → goodWritten w ≡ false
-  no-element z w r q = absurd (omega (arith, e .reads .complete w r q .0))
+pub some-written : (ws : List Written) → someOf ws ≡ someOf (elements ws)
+unfolding someOf elements
+some-written [] = refl
+some-written (w ∷ ws) = refl
 
-  pub its-receipts : {b : Bool} → ((ws : List (List ℕ)) (r : List Token) → from text (p .receipts) ≡ strings ws ++ r → b ≡ every short ws)
-      → (w : Written) (r : List Token) → from text at ≡ written w ++ r → goodWritten w ≡ b
-  unfolding shortReceipts
-  its-receipts h w r q = let f = e .found w r q .receipts in sym (h (w .element .receipts) (f .0) (f .1))
-
--- ---- counting, as an example of a state that is carried along
+-- ---- counting: a state that is carried along
 
 pub record Counting (text : List ℕ) (at n : ℕ) (c : Cursor) : Type 0 where
   pub pass : Passing string length (λ (ws : List (List ℕ)). n + length ws) text at c
@@ -268,30 +256,35 @@ count-end {n = n} k e ws r q = let h : n + 0 ≡ length ws = pass-end string (k 
 -- ---- a string where it lies
 
 module _ {text : List ℕ} {at : ℕ} {t : Found} (n : Next text at t) where
-  pub no-part : (t .kind ≡ 34 → ⊥) → PartRead text at (record { whole = false; start = 0; end = 0; next = 0 })
-  no-part h =
-      record {
+  pub no-part : {p : Part} → p ≡ noPart → (t .kind ≡ 34 → ⊥) → PartRead text at p
+  no-part e h =
+      rw e (record {
         reads = read-no-word n h;
-        ordered = omega arith;
         inside = omega arith;
+        quote = λ z. absurd (omega arith);
+        good = λ z. absurd (omega arith);
         is = λ w r q. absurd (h (stands n (word w) r q .kind));
-        escaped = λ w r q. absurd (h (stands n (word w) r q .kind));
-      }
+        long = λ w r q. absurd (h (stands n (word w) r q .kind));
+        spells = λ w r q. absurd (h (stands n (word w) r q .kind));
+      })
 
   pub part-found : t .kind ≡ 34 → {l : ℕ} → l ≡ length (content (drop (t .start) text) 0)
-      → PartRead text at (record { whole = eqb l (t .next - 1 - t .start); start = t .start; end = t .next - 1; next = t .next })
+      → PartRead text at (record { start = t .start; length = l; next = t .next })
   part-found e {l} m =
       let q = n .quote e in
       let i = n .inside in
+      let y = n .lying e in
       let u : t .next - 1 - t .start ≡ before (drop (t .start) text) = omega arith in
+      let b : before (drop (t .start) text) ≤ length (drop (t .start) text) = omega (arith, length-drop (t .start) text) in
+      let most : l ≤ before (drop (t .start) text) = omega (arith, m, spells-shorter (y .spells), length-take-le (before (drop (t .start) text)) (drop (t .start) text) b) in
       let same : (w : List ℕ) (r : List Token) → from text at ≡ string w ++ r → w ≡ content (drop (t .start) text) 0
       = λ w r s. ap (λ (k : Token). k .content) (head-is (sym s ∙ found-word n e .1)) in
       record {
         reads = read-word n e;
-        ordered = omega arith;
         inside = omega arith;
-        is = λ w r s h.
-            let z : length (content (drop (t .start) text) 0) ≡ before (drop (t .start) text) = sym m ∙ eqb-true l (t .next - 1 - t .start) h ∙ u in
-            ap (λ (x : ℕ). take x (drop (t .start) text)) u ∙ sym (n .lying e .is z) ∙ sym (same w r s);
-        escaped = λ w r s h. ap (holds 61) (same w r s) ∙ n .lying e .escaped (λ z. eqb-false l (t .next - 1 - t .start) h (m ∙ z ∙ sym u));
+        quote = λ z. omega arith;
+        good = λ z. record { good = y .good };
+        is = same;
+        long = λ w r s. m ∙ ap length (sym (same w r s));
+        spells = λ w r s. rw (u, same w r s) (y .spells);
       }
