@@ -14,3 +14,5 @@ pub mod Unique
 pub mod Back
 pub mod NamedBack
 pub mod NamedRaw
+pub mod Putting
+pub mod Sized

@@ -8,8 +8,6 @@ ghost use lib.ListN.{length, drop, take};
 ghost use Rattle.primitives.specs.Number.{bytesOf};
 ghost use Rattle.primitives.specs.Base64.{encoding};
 ghost use Rattle.primitives.specs.declared.base64.Alphabet.the-variants.{Standard};
-ghost use Rattle.exports.specs.Lexer.{content};
-ghost use Rattle.exports.specs.Places.{LettersAt};
 ghost use Rattle.exports.specs.Output.{noRoom, moved, Puts};
 
 // The place after what was written or measured so far, if it fits the output.
