@@ -16,3 +16,5 @@ pub mod NamedBack
 pub mod NamedRaw
 pub mod Putting
 pub mod Sized
+pub mod PayloadLetters
+pub mod PayloadMarks
