@@ -35,3 +35,7 @@ pub mod ReadBack
 pub mod PlainLetters
 pub mod Copying
 pub mod Exporting
+pub mod Putting
+pub mod Sized
+pub mod PayloadLetters
+pub mod PayloadMarks
