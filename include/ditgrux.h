@@ -221,9 +221,9 @@ enum ditgrux_number {
  *
  * After DITGRUX_BAD_STATE the state's bytes are as they were before the call, in every function.
  *
- * The unopened state is 447 zeros. A refused ditgrux_open, ditgrux_open_shared, ditgrux_take_over or ditgrux_check_head writes it, so
- * do not pass the live state to these four: pass a second array, and copy it when the call has returned DITGRUX_DONE (after
- * ditgrux_check_head, when the whole journal is checked).
+ * The unopened state is 447 zeros. A refused ditgrux_open, ditgrux_open_shared, ditgrux_take_over, ditgrux_check_head or
+ * ditgrux_read_export writes it, so do not pass the live state to these five: pass a second array, and copy it when the call has
+ * returned DITGRUX_DONE (after ditgrux_check_head, when the whole journal is checked).
  *
  * A lost state comes back by ditgrux_take_over, byte for byte, from the journal, the key and the width. It needs exactly the bytes
  * of the journal, and not its whole buffer, so store the length beside the journal as well. If the length is lost, too,
@@ -589,12 +589,15 @@ uint32_t ditgrux_fields(const uint8_t *code, size_t code_length, size_t *start, 
  *     width                       bytes of the turnover counter, 5 to 8
  *     certificates, certificates_length
  *                                 one group for each pair of the journal, see above
- *     output, output_length       output: the text; nothing is written after it
+ *     output, output_length       output: the text; nothing is written after it. docs/EMBEDDING.md says how many bytes are enough
  *     length                      output: the length of the text
  *     index                       output: where the journal is refused, as in ditgrux_take_over
  *
- * Returns DITGRUX_DONE, or what ditgrux_take_over returns for this journal, key and width, with its *index (never DITGRUX_BAD_STATE);
- * then DITGRUX_BAD_EXPORT (the certificates are not exactly one group for each pair), or DITGRUX_OUTPUT_SHORT, both with *index 0.
+ * Returns DITGRUX_DONE, or what ditgrux_take_over returns for this journal, key and width: DITGRUX_BAD_WIDTH, DITGRUX_BAD_HEAD,
+ * DITGRUX_ENTRY_CUT, DITGRUX_ENTRY_MISSPELLED, DITGRUX_ENTRY_NUMBER, DITGRUX_ENTRY_NO_START, DITGRUX_ENTRY_CHAIN,
+ * DITGRUX_ENTRY_COUNTER, DITGRUX_BYTES_LEFT, DITGRUX_SERIAL_USED or DITGRUX_SERIALS_FULL; then DITGRUX_BAD_EXPORT (the
+ * certificates are not exactly one group for each pair), or DITGRUX_OUTPUT_SHORT.
+ * *index is that of ditgrux_take_over with its numbers, and 0 with every other result.
  * Refused: `output` is unchanged and *length is 0. */
 uint32_t ditgrux_export(const uint8_t *journal, size_t journal_length, const uint8_t *key, size_t key_length, size_t width,
                         const uint8_t *certificates, size_t certificates_length, uint8_t *output, size_t output_length,
@@ -608,7 +611,7 @@ uint32_t ditgrux_export(const uint8_t *journal, size_t journal_length, const uin
  * Anything else, though JSON has it, is refused: another name, a name twice or missing, another escape, a byte order mark.
  *
  * The journal gets CSP and register ID from the first receipt of the first element, and the serial of each pair from the first
- * receipt of its element. All other receipts must name the same.
+ * receipt of its element. All other receipts must name the same: one that does not gets DITGRUX_ENTRY_MISSPELLED.
  *
  *     text, text_length           the export
  *     key, key_length             the AES-256 key, 32 bytes
@@ -618,13 +621,15 @@ uint32_t ditgrux_export(const uint8_t *journal, size_t journal_length, const uin
  *     length                      output: the length of the journal
  *     index                       output: where the journal is refused, as in ditgrux_take_over
  *
- * Returns DITGRUX_DONE, or DITGRUX_BAD_STATE (state_length is not 447); then, each asked of all elements before the next one is asked,
- * DITGRUX_BAD_EXPORT (the text is not of the shape above or has no element, a certificate is not in canonical BASE64, a receipt is
- * over 65,535 bytes long, or an element has over 4,294,967,295 receipts), DITGRUX_NO_RECEIPTS (an element has none), DITGRUX_BAD_EXPORT
- * (the first receipt of an element is not three parts with '.' between them, the middle one canonical BASE64-URL of "_" and twelve
- * fields joined by '_', with a good CSP after "R1-" in the first, a good ID in the second and a good serial in the eleventh), and
- * DITGRUX_OUTPUT_SHORT; then what ditgrux_take_over returns for the journal that the text spells, with its *index. Of those,
- * DITGRUX_BAD_HEAD, DITGRUX_ENTRY_CUT and DITGRUX_BYTES_LEFT cannot come.
+ * Returns DITGRUX_DONE, or DITGRUX_BAD_STATE (state_length is not 447); then, each asked of all elements before the next one is
+ * asked, DITGRUX_BAD_EXPORT (the text is not of the shape above or has no element, a certificate is not in canonical BASE64, a
+ * receipt is over 65,535 bytes long, or an element has over 4,294,967,295 receipts), DITGRUX_NO_RECEIPTS (an element has none),
+ * DITGRUX_BAD_EXPORT (the first receipt of an element is not three parts with '.' between them, the middle one canonical BASE64-URL
+ * of "_" and twelve fields joined by '_', with a good CSP after "R1-" in the first, a good ID in the second and a good serial in the
+ * eleventh), and DITGRUX_OUTPUT_SHORT; then what ditgrux_take_over returns for the journal that the text spells: DITGRUX_BAD_WIDTH,
+ * DITGRUX_ENTRY_MISSPELLED, DITGRUX_ENTRY_NUMBER, DITGRUX_ENTRY_NO_START, DITGRUX_ENTRY_CHAIN, DITGRUX_ENTRY_COUNTER,
+ * DITGRUX_SERIAL_USED or DITGRUX_SERIALS_FULL. (Its other numbers cannot come, since that journal is whole.)
+ * *index is that of ditgrux_take_over with its numbers, and 0 with every other result.
  * Refused: `output` is unchanged and *length is 0. With DITGRUX_BAD_STATE `state` is unchanged, too; with any other number it is 447
  * zeros. */
 uint32_t ditgrux_read_export(const uint8_t *text, size_t text_length, const uint8_t *key, size_t key_length, size_t width,

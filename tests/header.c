@@ -1,9 +1,10 @@
 /* What include/ditgrux.h says besides the contracts: the wrappers pass every detail to its place and back, an empty signature may be
  * NULL, the walk of the entries ends at the length of the journal, what is left after a refusal, what to do when the buffer is full,
  * where power fails, what every byte of state and journal is after a change of the certificate, what becomes of a state of version 1,
- * which registers a shared key may have, what the optical line is of a code, what a list of receipts leaves, issued and refused, and that
- * a journal that is checked in parts comes through the register's own states, up to where it is refused. Prints each line that fails; exit
- * status 1 where one does. Compiles as C99 and as C++11. */
+ * which registers a shared key may have, what the optical line is of a code, what a list of receipts leaves, issued and refused, that
+ * a journal that is checked in parts comes through the register's own states, up to where it is refused, and in which order an export
+ * and its reader ask, what they leave, and how much room they need. Prints each line that fails; exit status 1 where one does. Compiles
+ * as C99 and as C++11. */
 #include "ditgrux.h"
 
 #include <stdio.h>
@@ -1484,7 +1485,7 @@ static void packing(void)
 
 /* ---- a journal checked in parts */
 
-enum { MOST_CALLS = 11 };
+enum { MOST_CALLS = 15 };
 
 /* The state of a register and its whole buffer after each of its calls. A step checks what one call wrote, so a check comes through these
  * states: the way. */
@@ -2276,6 +2277,439 @@ static void checks_in_parts(void)
     finds_torn_carry();
 }
 
+/* ---- the export for an inspector */
+
+static char spelled[1 << 14], respelled[1 << 14]; /* an export, and one with something changed in it; a zero follows each */
+static uint8_t groups[4096], restored[1 << 14];
+static size_t groups_length;
+
+static uint8_t *bytes_in(char *letters)
+{
+    return (uint8_t *)letters;
+}
+
+/* Appends a group with so many certificates. The first is two bytes long; they differ in length and in their bytes. */
+static void add_group(size_t certificates, uint8_t byte)
+{
+    size_t i, length = 2;
+    groups[groups_length++] = (uint8_t)certificates;
+    for (i = 0; i < certificates; i++, length = (length + 5) % 13) {
+        put(groups + groups_length, 2, length);
+        memset(groups + groups_length + 2, byte++, length);
+        groups_length += 2 + length;
+    }
+}
+
+/* A group for each pair of the register, with one to four certificates. The first bytes of the groups are 0x10, 0x20, 0x30. */
+static void make_groups(void)
+{
+    size_t i;
+    groups_length = 0;
+    for (i = 0; i < ditgrux_serials(state, sizeof state); i++)
+        add_group(1 + i % 4, (uint8_t)(0x10 * (i + 1)));
+}
+
+/* The room of docs/EMBEDDING.md: enough for the export of the journal that belongs to a state. */
+static size_t export_room(const uint8_t *bytes, const uint8_t *certificates, size_t length)
+{
+    size_t room = 8 + ditgrux_journal_length(bytes, DITGRUX_STATE) + ditgrux_receipts(bytes, DITGRUX_STATE) +
+                  63 * (size_t)ditgrux_serials(bytes, DITGRUX_STATE);
+    size_t at = 0, count, size;
+    while (at < length)
+        for (count = certificates[at++]; count > 0; count--) {
+            size = (size_t)certificates[at] << 8 | certificates[at + 1];
+            room += 3 + 4 * ((size + 2) / 3);
+            at += 2 + size;
+        }
+    return room;
+}
+
+/* The number of an export, whose text is `spelled`. It writes nothing after the text, and nothing at all where it is refused. */
+static uint32_t exported(const uint8_t *bytes, size_t length, size_t key_length, size_t width, size_t certificates, size_t room,
+                         uint32_t *index)
+{
+    size_t wrote = SIZE_MAX;
+    uint32_t number;
+    *index = UINT32_MAX;
+    memset(spelled, 0xA5, sizeof spelled);
+    number = ditgrux_export(bytes, length, key, key_length, width, groups, certificates, bytes_in(spelled), room, &wrote, index);
+    CHECK(number == DITGRUX_DONE ? wrote > 0 && wrote <= room : wrote == 0);
+    CHECK(is_all(0xA5, bytes_in(spelled) + wrote, sizeof spelled - wrote));
+    spelled[wrote] = 0;
+    return number;
+}
+
+/* The number of a text that is read. Its journal is `restored`, its state `other`. Nothing is written after the journal, and where the text
+ * is refused only the 447 zeros are. */
+static uint32_t read_text(const char *letters, size_t key_length, size_t width, size_t room, uint32_t *index)
+{
+    uint8_t beside[DITGRUX_STATE + 2];
+    size_t wrote = SIZE_MAX;
+    uint32_t number;
+    *index = UINT32_MAX;
+    memset(restored, 0xA5, sizeof restored);
+    memset(beside, 0xA5, sizeof beside);
+    number = ditgrux_read_export(text_of(letters), strlen(letters), key, key_length, width, restored, room, beside + 1, DITGRUX_STATE, &wrote,
+                                 index);
+    memcpy(other, beside + 1, sizeof other);
+    CHECK(beside[0] == 0xA5 && beside[DITGRUX_STATE + 1] == 0xA5 && is_all(0xA5, restored + wrote, sizeof restored - wrote));
+    if (number == DITGRUX_DONE)
+        CHECK(wrote == ditgrux_journal_length(other, sizeof other) && wrote <= room && *index == 0);
+    else
+        CHECK(wrote == 0 && is_all(0, other, sizeof other));
+    CHECK(number != DITGRUX_BAD_HEAD && number != DITGRUX_ENTRY_CUT && number != DITGRUX_BYTES_LEFT);
+    return number;
+}
+
+/* With as many bytes of output as the text has, which are always enough. */
+static uint32_t read_all(const char *letters, size_t width, uint32_t *index)
+{
+    const uint32_t number = read_text(letters, sizeof key, width, strlen(letters), index);
+    CHECK(number != DITGRUX_OUTPUT_SHORT);
+    return number;
+}
+
+/* The text gives the journal and the state of the register. */
+static int restores(const char *letters)
+{
+    uint32_t index;
+    return read_all(letters, number_at(state + WIDTH_AT, 8), &index) == DITGRUX_DONE && memcmp(other, state, sizeof state) == 0 &&
+           memcmp(restored, journal, journal_length()) == 0;
+}
+
+/* `respelled` is the text with the occurrence of `old` that has this number, from 0, replaced. */
+static void respell(const char *letters, const char *old, size_t which, const char *by)
+{
+    static char before[sizeof respelled];
+    char *at;
+    strcpy(before, letters);
+    for (at = strstr(before, old); which > 0 && at != NULL; which--)
+        at = strstr(at + 1, old);
+    CHECK(at != NULL);
+    if (at == NULL)
+        return;
+    *at = 0;
+    strcpy(respelled, before);
+    strcat(respelled, by);
+    strcat(respelled, at + strlen(old));
+}
+
+/* The text without the receipts of the element that has this number. */
+static void without_receipts(const char *letters, size_t which)
+{
+    static const char name[] = "\"Belege-kompakt\":[";
+    char *at;
+    respell(letters, name, which, name);
+    for (at = strstr(respelled, name); which > 0; which--)
+        at = strstr(at + 1, name);
+    at += strlen(name);
+    memmove(at, strchr(at, ']'), strlen(strchr(at, ']')) + 1);
+}
+
+/* The export of a register that lived so, in outputs of every size around its length, and back. */
+static void exports_and_back(size_t width, const char *life)
+{
+    const int readable = strstr(life, "cc") == NULL && life[0] != 'c' && life[strlen(life) - 1] != 'c';
+    static char first[sizeof spelled];
+    size_t bound, length, room;
+    uint32_t index;
+    live(width, life);
+    make_groups();
+    bound = export_room(state, groups, groups_length);
+    CHECK(exported(journal, journal_length(), sizeof key, width, groups_length, bound, &index) == DITGRUX_DONE && index == 0);
+    length = strlen(spelled);
+    memcpy(first, spelled, sizeof first);
+    CHECK(exported(journal, journal_length(), sizeof key, width, groups_length, length, &index) == DITGRUX_DONE && index == 0);
+    CHECK(strcmp(first, spelled) == 0);
+    for (room = 0; room < length; room += room + 40 < length && room > 40 ? 37 : 1)
+        CHECK(exported(journal, journal_length(), sizeof key, width, groups_length, room, &index) == DITGRUX_OUTPUT_SHORT && index == 0);
+    if (!readable) { /* a pair without receipts is written, and not read */
+        CHECK(strstr(first, "\"Belege-kompakt\":[]}") != NULL && read_all(first, width, &index) == DITGRUX_NO_RECEIPTS && index == 0);
+        return;
+    }
+    CHECK(restores(first));
+    CHECK(read_text(first, sizeof key, width, journal_length(), &index) == DITGRUX_DONE && memcmp(restored, journal, journal_length()) == 0);
+    for (room = 0; room < journal_length(); room += room + 40 < journal_length() && room > 40 ? 37 : 1)
+        CHECK(read_text(first, sizeof key, width, room, &index) == DITGRUX_OUTPUT_SHORT && index == 0);
+    CHECK(read_all(first, width, &index) == DITGRUX_DONE && memcmp(other, state, sizeof state) == 0);
+    CHECK(exported(restored, journal_length(), sizeof key, width, groups_length, bound, &index) == DITGRUX_DONE);
+    CHECK(strcmp(first, spelled) == 0);
+}
+
+/* How near the room of docs/EMBEDDING.md comes: with the shortest names and the fewest strings it has a byte for the text and one for each
+ * pair too many, with the longest names and receipts never too few. */
+static void export_rooms(void)
+{
+    static const char *const letters[] = {"2", "3", "4", "5", "6", "7", "8"};
+    uint8_t own[DITGRUX_SETTINGS];
+    size_t pair, certificates;
+    uint32_t index;
+    CHECK(ditgrux_settings(text_of("AT0"), 3, text_of("K"), 1, text_of("1"), 1, 8, key, sizeof key, own, sizeof own) == DITGRUX_DONE);
+    memset(journal, 0xA5, sizeof journal);
+    CHECK(ditgrux_open(own, sizeof own, journal, sizeof journal, state, sizeof state) == DITGRUX_DONE);
+    for (pair = 1;; pair++) {
+        for (certificates = 1; certificates < 256; certificates += 127) {
+            groups_length = 0;
+            while (ditgrux_serials(state, sizeof state) > groups_length / (1 + 2 * certificates)) {
+                groups[groups_length++] = (uint8_t)certificates; /* all of them empty */
+                memset(groups + groups_length, 0, 2 * certificates);
+                groups_length += 2 * certificates;
+            }
+            CHECK(exported(journal, journal_length(), sizeof key, 8, groups_length, sizeof spelled, &index) == DITGRUX_DONE);
+            CHECK(strlen(spelled) + 1 + (certificates > 1 ? 2 : 1) * pair == export_room(state, groups, groups_length));
+        }
+        if (pair == DITGRUX_MOST_SERIALS)
+            break;
+        changes_to(letters[pair - 1]);
+    }
+}
+
+/* The export asks 4, then what Take over asks, with its index, then 28, then 23. */
+static void order_of_export(void)
+{
+    uint32_t index, number, expected, place;
+    size_t i;
+    live(8, "rrcurcrt");
+    make_groups();
+    memcpy(twin, journal, sizeof twin);
+    twin[0] = 1;
+    CHECK(exported(twin, 0, sizeof key, 9, 0, 0, &index) == DITGRUX_BAD_WIDTH && index == 0);
+    CHECK(exported(twin, 0, sizeof key - 1, 8, 0, 0, &index) == DITGRUX_BAD_WIDTH && index == 0);
+    CHECK(exported(twin, journal_length(), sizeof key, 8, 0, 0, &index) == DITGRUX_BAD_HEAD && index == 0);
+    for (i = 0; i < journal_length(); i++) { /* cut there, and a bit of the byte there changed */
+        expected = taken_over(journal, i, &place);
+        number = exported(journal, i, sizeof key, 8, 0, 0, &index);
+        CHECK(expected ? number == expected && index == place : number == DITGRUX_BAD_EXPORT && index == 0);
+        memcpy(twin, journal, sizeof twin);
+        twin[i] ^= 1;
+        expected = taken_over(twin, journal_length(), &place);
+        number = exported(twin, journal_length(), sizeof key, 8, 0, 0, &index);
+        CHECK(expected ? number == expected && index == place : number == DITGRUX_BAD_EXPORT && index == 0);
+    }
+    CHECK(exported(journal, journal_length() + 1, sizeof key, 8, 0, 0, &index) == DITGRUX_BYTES_LEFT && index == 6);
+
+    for (i = 0; i <= groups_length + 3; i++) /* the first group is 5 bytes long */
+        CHECK(exported(journal, journal_length(), sizeof key, 8, i, 0, &index) ==
+                  (uint32_t)(i == groups_length ? DITGRUX_OUTPUT_SHORT : DITGRUX_BAD_EXPORT) && index == 0);
+    groups[0] = 0;
+    CHECK(exported(journal, journal_length(), sizeof key, 8, groups_length, 0, &index) == DITGRUX_BAD_EXPORT && index == 0);
+    groups[0] = 2;
+    CHECK(exported(journal, journal_length(), sizeof key, 8, groups_length, 0, &index) == DITGRUX_BAD_EXPORT && index == 0);
+    make_groups();
+    memmove(groups, groups + 5, groups_length -= 5); /* a group too few */
+    CHECK(exported(journal, journal_length(), sizeof key, 8, groups_length, 0, &index) == DITGRUX_BAD_EXPORT && index == 0);
+    make_groups();
+    add_group(1, 1); /* a group too many */
+    CHECK(exported(journal, journal_length(), sizeof key, 8, groups_length, 0, &index) == DITGRUX_BAD_EXPORT && index == 0);
+    make_groups();
+    CHECK(exported(journal, journal_length(), sizeof key, 8, groups_length, sizeof spelled, &index) == DITGRUX_DONE && index == 0);
+}
+
+/* A state of another length: 6, and nothing is changed, whatever else is wrong. */
+static void of_other_length(const char *letters)
+{
+    static const size_t lengths[] = {0, 155, DITGRUX_STATE - 1, DITGRUX_STATE + 1};
+    uint8_t bytes[DITGRUX_STATE + 2];
+    size_t i, wrote;
+    uint32_t index;
+    for (i = 0; i < sizeof lengths / sizeof *lengths; i++) {
+        wrote = 1;
+        index = 1;
+        memset(bytes, 0xA5, sizeof bytes);
+        memset(restored, 0xA5, sizeof restored);
+        CHECK(ditgrux_read_export(text_of(letters), strlen(letters), key, sizeof key, 8, restored, sizeof restored, bytes, lengths[i], &wrote,
+                                  &index) == DITGRUX_BAD_STATE);
+        CHECK(wrote == 0 && index == 0 && is_all(0xA5, bytes, sizeof bytes) && is_all(0xA5, restored, sizeof restored));
+        CHECK(ditgrux_read_export(text_of(letters), strlen(letters), key, 0, 9, restored, 0, bytes, lengths[i], &wrote, &index) ==
+              DITGRUX_BAD_STATE);
+    }
+}
+
+/* The number of a text: first with a wrong width, a wrong key and no room, then with all of them right. Questions before 23 do not see the
+ * difference, nor their index. */
+static uint32_t before_room(const char *letters)
+{
+    uint32_t index, again, number = read_text(letters, 0, 9, 0, &index);
+    CHECK(index == 0);
+    CHECK(read_all(letters, 8, &again) == number && again == 0);
+    of_other_length(letters);
+    return number;
+}
+
+/* Reading asks 6, then 28 of all elements, 29 of all, 28 of the first receipts of all, 23, and at last what Take over asks, 4 at first. */
+static void order_of_reading(void)
+{
+    static char good[sizeof spelled];
+    static const char *const certificates[] = {"\"EBA=\"", "\"ICA=\"", "\"MDA=\""};
+    uint32_t index;
+    size_t one, another;
+    live(8, "rrcurcrt");
+    make_groups();
+    CHECK(exported(journal, journal_length(), sizeof key, 8, groups_length, sizeof spelled, &index) == DITGRUX_DONE);
+    memcpy(good, spelled, sizeof good);
+    of_other_length(good);
+    CHECK(restores(good));
+    for (one = 0; one < 3; one++)
+        for (another = 0; another < 3; another++) {
+            without_receipts(good, one);
+            CHECK(before_room(respelled) == DITGRUX_NO_RECEIPTS);
+            respell(respelled, certificates[another], 0, "\"AB==\""); /* 28 before 29, whichever element comes first */
+            CHECK(before_room(respelled) == DITGRUX_BAD_EXPORT);
+            respell(good, "[\"eyJ", another, "[\"e.J"); /* a first receipt of four parts */
+            CHECK(before_room(respelled) == DITGRUX_BAD_EXPORT);
+            if (one != another) {
+                without_receipts(respelled, one); /* 29 before it */
+                CHECK(before_room(respelled) == DITGRUX_NO_RECEIPTS);
+            }
+        }
+    /* 23 before 4, and 4 before the rest */
+    CHECK(read_text(good, sizeof key, 9, journal_length() - 1, &index) == DITGRUX_OUTPUT_SHORT && index == 0);
+    CHECK(read_text(good, sizeof key, 9, journal_length(), &index) == DITGRUX_BAD_WIDTH && index == 0);
+    CHECK(read_text(good, sizeof key - 1, 8, journal_length() - 1, &index) == DITGRUX_OUTPUT_SHORT && index == 0);
+    CHECK(read_text(good, sizeof key - 1, 8, journal_length(), &index) == DITGRUX_BAD_WIDTH && index == 0);
+    respell(good, "[\"eyJ", 1, "[\"eyK"); /* another first part is left to Take over: 16 */
+    CHECK(read_text(respelled, sizeof key, 8, journal_length() - 1, &index) == DITGRUX_OUTPUT_SHORT && index == 0);
+    CHECK(read_text(respelled, sizeof key, 4, journal_length(), &index) == DITGRUX_BAD_WIDTH && index == 0);
+    CHECK(read_text(respelled, sizeof key, 8, journal_length(), &index) == DITGRUX_ENTRY_MISSPELLED && index == 2);
+    CHECK(read_all(good, 7, &index) == DITGRUX_ENTRY_MISSPELLED && index == 0);
+}
+
+/* Every letter of every receipt but the first of an element, with a bit changed in the text: what Take over says of the journal with the
+ * same bit changed. */
+static void as_taken_over(void)
+{
+    size_t at, entry, receipts, length, form, i;
+    uint32_t index, place, expected;
+    const char *letters = spelled;
+    for (at = 4 + 3 + 4 + 6; at < journal_length();) {
+        at += 4 + number_at(journal + at, 4);
+        receipts = number_at(journal + at, 4);
+        at += 4;
+        for (entry = 0; entry < receipts; entry++) {
+            length = number_at(journal + at, 2);
+            form = at + 2;
+            at = form + length;
+            memcpy(twin, journal + form, length);
+            twin[length] = 0;
+            letters = strstr(letters, (const char *)twin);
+            CHECK(letters != NULL);
+            for (i = 0; entry > 0 && letters != NULL && i < length; i++) {
+                strcpy(respelled, spelled);
+                respelled[(size_t)(letters - spelled) + i] ^= 1;
+                memcpy(twin, journal, sizeof twin);
+                twin[form + i] ^= 1;
+                expected = taken_over(twin, journal_length(), &place);
+                CHECK(read_all(respelled, 8, &index) == expected && index == place);
+                CHECK(expected != DITGRUX_DONE || memcmp(restored, twin, journal_length()) == 0);
+            }
+        }
+    }
+    CHECK(at == journal_length());
+}
+
+/* Every byte of a short export, changed to every other: what is accepted is a journal that Take over accepts, with that state, and spells an
+ * export again. */
+static void changed_exports(void)
+{
+    static char good[sizeof spelled];
+    uint8_t left[DITGRUX_STATE];
+    uint32_t index;
+    size_t i, accepted = 0, length;
+    int byte;
+    live(8, "r");
+    make_groups();
+    CHECK(exported(journal, journal_length(), sizeof key, 8, groups_length, sizeof spelled, &index) == DITGRUX_DONE);
+    strcpy(good, spelled);
+    for (i = 0; good[i] != 0; i++)
+        for (byte = 1; byte < 256; byte++) {
+            strcpy(respelled, good);
+            respelled[i] = (char)byte;
+            if (respelled[i] == good[i] || read_all(respelled, 8, &index) != DITGRUX_DONE)
+                continue;
+            accepted++;
+            memcpy(left, other, sizeof left);
+            length = ditgrux_journal_length(left, sizeof left);
+            CHECK(taken_over(restored, length, &index) == DITGRUX_DONE && memcmp(left, other, sizeof left) == 0);
+            CHECK(exported(restored, length, sizeof key, 8, groups_length, sizeof spelled, &index) == DITGRUX_DONE);
+        }
+    CHECK(accepted > 0);
+}
+
+/* The words on blanks, names and the escape. */
+static void spellings(void)
+{
+    static const char *const blanks[] = {" ", "\t", "\n", "\r", " \t\r\n"}, *const others[] = {"\f", "\v", "\b", "\xC2\xA0", "\xEF\xBB\xBF"};
+    static char good[sizeof spelled];
+    char between[32];
+    uint32_t index;
+    size_t i;
+    live(8, "rcr");
+    make_groups();
+    CHECK(exported(journal, journal_length(), sizeof key, 8, groups_length, sizeof spelled, &index) == DITGRUX_DONE);
+    strcpy(good, spelled);
+    CHECK(strncmp(good, TEXT("{\"Belege-Gruppe\":[{\"Signaturzertifikat\":\"EBA=\",\"Zertifizierungsstellen\":[],\"Belege-kompakt\":[\"eyJ")) == 0);
+    CHECK(strstr(good, "\"]},{\"Signaturzertifikat\":\"ICA=\",\"Zertifizierungsstellen\":[\"ISEhISEhIQ==\"],\"Belege-kompakt\":[\"eyJ") != NULL);
+    CHECK(strcmp(good + strlen(good) - 5, "\"]}]}") == 0);
+    for (i = 0; i < sizeof blanks / sizeof *blanks; i++) {
+        sprintf(respelled, "%s%s%s", blanks[i], good, blanks[i]);
+        CHECK(restores(respelled));
+        sprintf(between, "\"%s:%s[%s", blanks[i], blanks[i], blanks[i]);
+        respell(good, "\":[", 0, between);
+        CHECK(restores(respelled));
+        sprintf(between, "]%s}%s", blanks[i], blanks[i]);
+        respell(good, "]}", 0, between);
+        CHECK(restores(respelled));
+        sprintf(between, "Bel%sege", blanks[i]);
+        respell(good, "Belege", 1, between);
+        CHECK(read_all(respelled, 8, &index) == DITGRUX_BAD_EXPORT && index == 0);
+    }
+    for (i = 0; i < sizeof others / sizeof *others; i++) {
+        sprintf(respelled, "%s%s", others[i], good);
+        CHECK(read_all(respelled, 8, &index) == DITGRUX_BAD_EXPORT && index == 0);
+        sprintf(respelled, "%s%s", good, others[i]);
+        CHECK(read_all(respelled, 8, &index) == DITGRUX_BAD_EXPORT && index == 0);
+    }
+    respell(good, "\"Signaturzertifikat\":\"EBA=\",\"Zertifizierungsstellen\":[],", 0, "");
+    respell(respelled, "\"]}", 0, "\"],\"Zertifizierungsstellen\":[],\"Signaturzertifikat\":\"EBA=\"}");
+    CHECK(restores(respelled));
+    respell(good, "=", 0, "\\u003d");
+    CHECK(restores(respelled));
+    respell(respelled, "==", 0, "\\u003d=");
+    CHECK(restores(respelled));
+    respell(good, "=", 0, "\\u003D");
+    CHECK(read_all(respelled, 8, &index) == DITGRUX_BAD_EXPORT);
+    respell(good, "=", 0, "\\u03d");
+    CHECK(read_all(respelled, 8, &index) == DITGRUX_BAD_EXPORT);
+    respell(good, "EBA=", 0, ""); /* an empty certificate, and no escape in a name */
+    CHECK(restores(respelled));
+    respell(good, "Belege-Gruppe", 0, "\\u0042elege-Gruppe");
+    CHECK(read_all(respelled, 8, &index) == DITGRUX_BAD_EXPORT);
+    respell(good, "\"Zertifizierungsstellen\":[],", 0, "");
+    CHECK(read_all(respelled, 8, &index) == DITGRUX_BAD_EXPORT);
+    respell(good, "\"Zertifizierungsstellen\":[],", 0, "\"Zertifizierungsstellen\":[],\"Zertifizierungsstellen\":[],");
+    CHECK(read_all(respelled, 8, &index) == DITGRUX_BAD_EXPORT);
+    respell(good, "\"Zertifizierungsstellen\":[],", 0, "\"Zertifizierungsstellen\":[],\"Notiz\":\"\",");
+    CHECK(read_all(respelled, 8, &index) == DITGRUX_BAD_EXPORT);
+    CHECK(read_all("{\"Belege-Gruppe\":[]}", 8, &index) == DITGRUX_BAD_EXPORT && read_all("", 8, &index) == DITGRUX_BAD_EXPORT);
+}
+
+static void inspection(void)
+{
+    exports_and_back(8, "r");
+    exports_and_back(5, "rrut");
+    exports_and_back(6, "rucrtcrm");
+    exports_and_back(7, "rcrcrcrcrcrcrcr");
+    exports_and_back(8, "c");
+    exports_and_back(8, "rcccr");
+    exports_and_back(5, "crcrc");
+    export_rooms();
+    order_of_export();
+    order_of_reading();
+    as_taken_over();
+    changed_exports();
+    spellings();
+}
+
 int main(void)
 {
     CHECK(make_settings(sizeof key, sizeof settings, settings) == DITGRUX_DONE);
@@ -2309,5 +2743,6 @@ int main(void)
     power_cut_in_part(DITGRUX_NO_ROOM);
     list_with_old_state();
     checks_in_parts();
+    inspection();
     return failures ? 1 : 0;
 }

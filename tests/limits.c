@@ -1,5 +1,5 @@
-/* The longest receipt that there is: the header's sizes are those of its texts, exactly; the code with the longest optical line; and a
- * register with as many serials as there can be, each of the longest. And how many bytes of stack each exported call uses on them,
+/* The longest receipt that there is: the header's sizes are those of its texts, exactly; the code with the longest optical line; a
+ * register with as many serials as there can be, each of the longest; and its export. And how many bytes of stack each exported call uses on them,
  * answered and refused: the call runs on a stack of its own that was filled with a pattern, and what is no longer the pattern was used.
  * Prints a line for each; exit status 1 where a size or an answer is another or a call goes past the limit that the README names. */
 #include "ditgrux.h"
@@ -22,6 +22,8 @@ static uint32_t number, answer, index_;
 static size_t length, start, form_start, form_length, code_length, line_length, list_length, issued, room, cut, more, steps;
 static uint8_t serial[DITGRUX_LONGEST_NAME], list[RECEIPTS * DITGRUX_DETAILS];
 static uint8_t hash[DITGRUX_HASH], given[DITGRUX_SIGNATURE], form[DITGRUX_LONGEST_COMPACT], text[1024];
+static uint8_t groups[1 << 15], inspected[1 << 17], restored[1 << 17];
+static size_t groups_length, inspected_length, state_cut, width = 8;
 
 static void nothing(void) {}
 
@@ -132,6 +134,18 @@ static void figures(void)
     ditgrux_journal_length(state, sizeof state);
     ditgrux_serials(state, sizeof state);
     answer = 0;
+}
+
+static void export_journal(void)
+{
+    answer = ditgrux_export(journal, ditgrux_journal_length(state, sizeof state) + more - cut, key, sizeof key, width, groups, groups_length,
+                            inspected, room, &length, &index_);
+}
+
+static void read_export(void)
+{
+    answer = ditgrux_read_export(inspected, inspected_length - cut, key, sizeof key, width, restored, room, again, sizeof again - state_cut,
+                                 &length, &index_);
 }
 
 static void sha256(void)
@@ -488,11 +502,135 @@ static int changes(void)
     return bad + change_to('9', DITGRUX_NO_ROOM);
 }
 
+/* A group for each serial, with so many certificates of this length. */
+static void make_groups(size_t certificates, size_t size)
+{
+    size_t i, j;
+    groups_length = 0;
+    for (i = 0; i < ditgrux_serials(state, sizeof state); i++) {
+        groups[groups_length++] = (uint8_t)certificates;
+        for (j = 0; j < certificates; j++) {
+            groups[groups_length++] = (uint8_t)(size >> 8);
+            groups[groups_length++] = (uint8_t)size;
+            memset(groups + groups_length, 0xD7, size);
+            groups_length += size;
+        }
+    }
+}
+
+/* The journal with one byte changed at the place. */
+static int export_damaged(size_t at, uint32_t expected)
+{
+    int bad;
+    journal[at] ^= 1;
+    bad = measure("export", export_journal, expected);
+    journal[at] ^= 1;
+    return bad;
+}
+
+/* The text with these bytes in place of those at the place. */
+static int read_damaged(size_t at, const char *bytes, uint32_t expected)
+{
+    uint8_t kept[64];
+    const size_t count = strlen(bytes);
+    int bad;
+    memcpy(kept, inspected + at, count);
+    memcpy(inspected + at, bytes, count);
+    bad = measure("read export", read_export, expected);
+    memcpy(inspected + at, kept, count);
+    return bad;
+}
+
+/* Where these letters stand in the export, for the last time. */
+static size_t last_of(const char *letters)
+{
+    size_t at = inspected_length - strlen(letters);
+    while (memcmp(inspected + at, letters, strlen(letters)) != 0)
+        at--;
+    return at;
+}
+
+/* The export of the journal and back: the answers, and each refusal of the reader before it takes the journal over. */
+static int export_and_back(void)
+{
+    size_t names;
+    int bad;
+    room = sizeof inspected;
+    bad = measure("export", export_journal, 0);
+    inspected_length = length;
+    bad += in_rooms("export", export_journal, inspected_length);
+    room = inspected_length; /* as many bytes as the text has are always enough */
+    bad += measure("read export", read_export, 0);
+    bad += in_rooms("read export", read_export, ditgrux_journal_length(state, sizeof state));
+    bad += (memcmp(restored, journal, length) != 0) + (memcmp(again, state, sizeof state) != 0);
+    names = last_of("\"Belege-kompakt\":[") + 18;
+    bad += read_damaged(0, "[", DITGRUX_BAD_EXPORT) + read_damaged(inspected_length - 1, ",", DITGRUX_BAD_EXPORT);
+    bad += read_damaged(names + 25, ".", DITGRUX_BAD_EXPORT) + read_damaged(names + 1, "E", DITGRUX_ENTRY_MISSPELLED);
+    cut = 1;
+    bad += measure("read export", read_export, DITGRUX_BAD_EXPORT);
+    cut = 0;
+    state_cut = 1;
+    bad += measure("read export", read_export, DITGRUX_BAD_STATE);
+    state_cut = 0;
+    width = 9;
+    bad += measure("export", export_journal, DITGRUX_BAD_WIDTH) + measure("read export", read_export, DITGRUX_BAD_WIDTH);
+    width = 7;
+    bad += measure("read export", read_export, DITGRUX_ENTRY_MISSPELLED);
+    width = 8;
+    memset(inspected + names, ' ', inspected_length - names);
+    memcpy(inspected + names, "]}]}", 4);
+    return bad + measure("read export", read_export, DITGRUX_NO_RECEIPTS);
+}
+
+/* The export of the longest register: eight pairs, many certificates, refused at each question; and of one pair with one receipt and with
+ * many, which use the same stack. */
+static int exports(void)
+{
+    int bad = eight_serials();
+    size_t single;
+    make_groups(5, 300);
+    bad += export_and_back();
+    bad += export_damaged(0, DITGRUX_BAD_HEAD) + export_damaged(DITGRUX_LONGEST_HEAD + 2, DITGRUX_ENTRY_MISSPELLED);
+    cut = 1;
+    bad += measure("export", export_journal, DITGRUX_ENTRY_CUT);
+    cut = 0;
+    more = 1;
+    bad += measure("export", export_journal, DITGRUX_BYTES_LEFT);
+    more = 0;
+    make_groups(255, 1);
+    room = sizeof inspected;
+    bad += measure("export", export_journal, 0);
+    groups_length--;
+    bad += measure("export", export_journal, DITGRUX_BAD_EXPORT);
+    room = sizeof journal;
+    open_register();
+    memcpy(state, again, sizeof state);
+    make_groups(1, 0);
+    room = sizeof inspected;
+    bad += measure("export", export_journal, 0);
+    room = sizeof journal;
+    number = 1;
+    issue();
+    bad += export_and_back();
+    room = sizeof inspected;
+    bad += measure("export", export_journal, 0);
+    single = last_used;
+    inspected_length = length;
+    bad += measure("read export", read_export, 0);
+    for (number = 2; number < RECEIPTS; number++)
+        issue();
+    room = sizeof inspected;
+    bad += measure("export", export_journal, 0) + (last_used != single);
+    single = last_used;
+    inspected_length = length;
+    return bad + measure("read export", read_export, 0) + export_and_back();
+}
+
 int main(void)
 {
     int bad;
     room = sizeof journal;
     bad = longest();
-    bad += refusals() + texts() + lines() + lists() + changes();
+    bad += refusals() + texts() + lines() + lists() + changes() + exports();
     return bad ? EXIT_FAILURE : EXIT_SUCCESS;
 }
