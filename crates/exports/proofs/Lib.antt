@@ -15,7 +15,6 @@ pub mod Quads
 pub mod Unique
 pub mod Back
 pub mod NamedBack
-pub mod NamedRaw
 pub mod PayloadLetters
 pub mod PayloadMarks
 pub mod Putting
@@ -35,7 +34,4 @@ pub mod ReadBack
 pub mod PlainLetters
 pub mod Copying
 pub mod Exporting
-pub mod Putting
-pub mod Sized
-pub mod PayloadLetters
-pub mod PayloadMarks
+pub mod Promising

@@ -9,7 +9,6 @@ use lib.ListN.{length, take, drop, getD}
 use Rattle.primitives.specs.Bytes.{AllBytes}
 use Rattle.primitives.specs.Place.{overwrite}
 use Rattle.journal.specs.State.{unopened}
-use Rattle.journal.specs.Valid.{Valid}
 use Rattle.journal.specs.Checking.{takeOver}
 use Rattle.exports.specs.Text.{every}
 use Rattle.exports.specs.Shape.{Element, Shape}
@@ -50,8 +49,8 @@ ReadIsExportedAgain =
 
 -- ---- which texts are read
 
--- a text that is read: it spells elements, each is good, has a receipt and names the register by its first one, and the journal that they spell is valid and
--- fits the output
+-- a text that is read: it spells elements, each is good, has a receipt and names the register by its first one, and the journal that they spell fits the output
+-- and is accepted by Take over
 pub record ReadsAs (text key : List ℕ) (n room : ℕ) (es : List Element) : Type 0 where
   pub shape : Shape text es
   pub some : es ≡ [] → ⊥
@@ -59,13 +58,13 @@ pub record ReadsAs (text key : List ℕ) (n room : ℕ) (es : List Element) : Ty
   pub receipts : every hasReceipt es ≡ true
   pub names : every namesRegister es ≡ true
   pub fits : length (journalOf es) ≤ room
-  pub valid : Valid (journalOf es) key n
+  pub taken : takeOver (journalOf es) key n .number ≡ 0
 
 -- exactly these texts are read, and what stands in the output is the journal that they spell
 pub record ReadExactly : Type 0 where
-  pub only : (text key : List ℕ) (n : ℕ) (out : List ℕ) → AllBytes text → restored text key n (length out) .number ≡ 0
+  pub only : (text key : List ℕ) (n : ℕ) (out : List ℕ) → restored text key n (length out) .number ≡ 0
       → (es : List Element) × ReadsAs text key n (length out) es × (restoredBuffer text key n out ≡ overwrite out 0 (journalOf es))
-      × (restored text key n (length out) .length ≡ length (journalOf es))
+      × (restored text key n (length out) .length ≡ length (journalOf es)) × (restored text key n (length out) .state ≡ takeOver (journalOf es) key n .state)
   pub always : (text key : List ℕ) (n : ℕ) (out : List ℕ) (es : List Element) → ReadsAs text key n (length out) es
       → restored text key n (length out) .number ≡ 0
 
