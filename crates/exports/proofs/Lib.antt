@@ -7,7 +7,6 @@ pub mod Members
 pub mod Objects
 pub mod Lexical
 pub mod Documents
-pub mod NamedRaw
 pub mod Passing
 pub mod Surveying
 pub mod Canonical

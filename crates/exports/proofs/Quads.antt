@@ -14,7 +14,7 @@ use Rattle.primitives.specs.declared.base64.Alphabet.the-variants.{Standard}
 use Rattle.exports.specs.Text.{Token, every}
 use Rattle.exports.specs.Lexer.{content}
 use Rattle.exports.specs.Shape.{string, strings}
-use Rattle.exports.specs.Places.{from, LettersAt, LetterRead, PartRead, Begun, Followed}
+use Rattle.exports.specs.Places.{from, LettersAt, LetterRead, PartRead, Followed}
 use Rattle.exports.specs.Spelled.{isEmpty}
 use Rattle.exports.specs.Reading.{canonical}
 use Rattle.exports.specs.Passing.{QuadRead, quadGood}

@@ -1,6 +1,6 @@
 -- The survey of the elements.
 use mathlib.Core.Path.{_≡_, refl, sym, ap, _∙_}
-use mathlib.Core.Bool.{Bool, true, false, cond, _&&_, not}
+use mathlib.Core.Bool.{Bool, true, false, _&&_, not, and-true, and-false, and-assoc}
 use mathlib.Core.List.{List, [], _∷_, _++_}
 use Prim.Native.Nat.{ℕ, _+_, _-_, _<_, _≤_}
 use native.Mathlib.Omega.{arith}
@@ -26,7 +26,7 @@ use Rattle.exports.specs.declared.survey.Survey.{Survey}
 use Rattle.exports.proofs.Arrays.{string-opens}
 use Rattle.exports.proofs.Objects.{written-opens}
 use Rattle.exports.proofs.NamedRaw.{named-raw, named-small}
-use Rattle.exports.proofs.Passing.{Passing, left-start, pass-start, pass-out, pass-more, pass-end, some-begun, some-written, of-elements}
+use Rattle.exports.proofs.Passing.{Passing, left-start, pass-out, pass-more, pass-end, some-begun, some-written, of-elements}
 
 -- ---- a text has an element
 
@@ -134,10 +134,6 @@ OfString good text at b = (w : List ℕ) (rest : List Token) → from text at �
 abbrev pub OfStrings : (List (List ℕ) → Bool) → List ℕ → ℕ → Bool → Type 0
 OfStrings good text at b = (ws : List (List ℕ)) (rest : List Token) → from text at ≡ strings ws ++ rest → b ≡ good ws
 
-and-no : (a : Bool) → a && false ≡ false
-and-no true = refl
-and-no false = refl
-
 module _ {text : List ℕ} {e : Places} where
   pub good-no-1 : {b : Bool} → OfString canonical text (e .certificate) b → b ≡ false → (x : Element) → Placed text e x → false ≡ elementGood x
   unfolding elementGood
@@ -145,7 +141,7 @@ module _ {text : List ℕ} {e : Places} where
 
   pub good-no-2 : {b : Bool} → OfStrings (every canonical) text (e .issuers) b → b ≡ false → (x : Element) → Placed text e x → false ≡ elementGood x
   unfolding elementGood
-  good-no-2 h f x p = sym (rw (sym (h (x .issuers) (p .issuers .0) (p .issuers .1)) ∙ f, and-no (canonical (x .certificate))))
+  good-no-2 h f x p = sym (rw (sym (h (x .issuers) (p .issuers .0) (p .issuers .1)) ∙ f, and-false (canonical (x .certificate))))
 
   pub good-rest : {a b c : Bool} → OfString canonical text (e .certificate) a → a ≡ true → OfStrings (every canonical) text (e .issuers) b → b ≡ true
       → OfStrings fitting text (e .receipts) c → (x : Element) → Placed text e x → c ≡ elementGood x
@@ -183,20 +179,20 @@ element-asked s f k l p q r x y =
 pub surveying : Survey → List Written → Survey
 surveying s ws = surveyed s (elements ws)
 
-abbrev pub Survivors : List ℕ → ℕ → Survey → Cursor → Type 0
-Survivors text g s c = Passing written (surveying unasked) (surveying s) text g c
+abbrev pub SurveyPass : List ℕ → ℕ → Survey → Cursor → Type 0
+SurveyPass text g s c = Passing written (surveying unasked) (surveying s) text g c
 
 module _ {text : List ℕ} {g : ℕ} where
-  pub survey-end : (s : Survey) {c : Cursor} → GroupPlace text g → Survivors text g s c → c .more ≡ false → (es : List Element) → Shape text es → s ≡ surveyed unasked es
+  pub survey-end : (s : Survey) {c : Cursor} → GroupPlace text g → SurveyPass text g s c → c .more ≡ false → (es : List Element) → Shape text es → s ≡ surveyed unasked es
   unfolding surveying surveyed elements
   survey-end s p k e = of-elements (surveyed unasked) p (λ ws r q. pass-end written k e ws r q)
 
-  module _ (s : Survey) {c : Cursor} (k : Survivors text g s c) (m : c .more ≡ true) {e : Places} (i : ElementRead text (c .at) e) where
+  module _ (s : Survey) {c : Cursor} (k : SurveyPass text g s c) (m : c .more ≡ true) {e : Places} (i : ElementRead text (c .at) e) where
     pub survey-refused : GroupPlace text g → e .next ≡ 0 → (es : List Element) → Shape text es → s ≡ surveyed unasked es
     unfolding surveying
     survey-refused p z = of-elements (surveyed unasked) p (pass-out written k m s (λ x xs r q. absurd (omega (arith, i .reads .complete x r q .0))))
 
-    pub survey-more : {s′ : Survey} {d : Cursor} → ((x : Element) → Placed text e x → s′ ≡ asked s x) → Followed text (e .next) d → Survivors text g s′ d
+    pub survey-more : {s′ : Survey} {d : Cursor} → ((x : Element) → Placed text e x → s′ ≡ asked s x) → Followed text (e .next) d → SurveyPass text g s′ d
     unfolding surveying surveyed elements
     survey-more {s′} {d} h f = pass-more written k m (surveying s′) (λ x xs r q. ap (λ (t : Survey). surveyed t (elements xs)) (sym (h (x .element) (i .found x r q)))) (i .reads) f
 
@@ -205,17 +201,9 @@ places-inside i = record { certificate = i .certificateInside; issuers = i .issu
 
 -- ---- the number
 
-and-assoc : (a b c : Bool) → (a && b) && c ≡ a && (b && c)
-and-assoc true b c = refl
-and-assoc false b c = refl
-
-and-true : (a : Bool) → a ≡ a && true
-and-true true = refl
-and-true false = refl
-
 surveyed-is : (s : Survey) (es : List Element) → surveyed s es ≡ record { good = s .good && every elementGood es; some = s .some && every hasReceipt es; named = s .named && every namesRegister es }
 unfolding surveyed asked every
-surveyed-is s [] = λ i. record { good = and-true (s .good) i; some = and-true (s .some) i; named = and-true (s .named) i }
+surveyed-is s [] = sym (λ i. record { good = and-true (s .good) i; some = and-true (s .some) i; named = and-true (s .named) i })
 surveyed-is s (e ∷ es) =
     surveyed-is (asked s e) es
     ∙ (λ i. record {

@@ -5,12 +5,12 @@ use Rattle.exports.specs.Passing.{unasked}
 use Rattle.exports.proofs.Arrays.{remains}
 use Rattle.exports.proofs.Objects.{written-opens}
 use Rattle.exports.proofs.Passing.{pass-start, pass-falls}
-use Rattle.exports.proofs.Surveying.{Survivors, surveying, survey-end, survey-refused, survey-more, places-inside}
+use Rattle.exports.proofs.Surveying.{SurveyPass, surveying, survey-end, survey-refused, survey-more, places-inside}
 use Rattle.exports.proofs.survey.survey_elements.Statement.{statement}
 use Rattle.exports.proofs.survey.survey_elements.Tie as tie
 
 abbrev Inv-loop : tie.InvT-loop
-Inv-loop text g s₀ c₀ s c = Survivors text g s c
+Inv-loop text g s₀ c₀ s c = SurveyPass text g s c
 
 abbrev μ-loop : tie.MeasureT-loop
 μ-loop text g s₀ c₀ s c = remains text c
