@@ -15,3 +15,4 @@ pub mod GroupsBack
 pub mod PairsBack
 pub mod Copying
 pub mod Exporting
+pub mod ExportAnswers
