@@ -34,3 +34,4 @@ pub mod PlainLetters
 pub mod Copying
 pub mod Exporting
 pub mod Promising
+pub mod ExportAnswers

@@ -2,6 +2,7 @@
 use super::certificates::groups_there;
 use super::certificates::sized_end;
 use super::output::End;
+use super::output::moved;
 use super::output::put_base64;
 use super::output::put_bytes;
 use receipt::Number;
@@ -61,7 +62,7 @@ pub(crate) fn put_certificate(dry: bool, more: bool, s: &[u8], out: &mut [u8], p
 pub(crate) fn put_receipts(dry: bool, j: &[u8], at: usize, count: usize, out: &mut [u8], p: End) -> Copied
     ensures { λ r. ⌜ ReceiptsPut dry (now (j .entry)) at count (now (out .entry)) (now (out .exit)) p r ⌝ }
 {
-    let mut end = p;
+    let mut end = moved(out.len(), p, 0);
     let mut a = at;
     let mut i: usize = 0;
     while i < count {
@@ -81,7 +82,7 @@ pub(crate) fn put_receipts(dry: bool, j: &[u8], at: usize, count: usize, out: &m
 pub(crate) fn put_issuers(dry: bool, groups: &[u8], at: usize, count: usize, out: &mut [u8], p: End) -> Copied
     ensures { λ r. ⌜ IssuersPut dry (now (groups .entry)) at count (now (out .entry)) (now (out .exit)) p r ⌝ }
 {
-    let mut end = p;
+    let mut end = moved(out.len(), p, 0);
     let mut a = at;
     let mut i: usize = 0;
     while i < count {
@@ -173,7 +174,7 @@ pub(crate) fn put_pair(dry: bool, j: &[u8], at: usize, out: &mut [u8], p: End) -
 pub(crate) fn put_elements(dry: bool, j: &[u8], at: usize, groups: &[u8], k: usize, out: &mut [u8], p: End) -> End
     ensures { λ r. ⌜ ElementsPut dry (now (j .entry)) at (now (groups .entry)) k (now (out .entry)) (now (out .exit)) p r ⌝ }
 {
-    let mut end = p;
+    let mut end = moved(out.len(), p, 0);
     let mut a = at;
     let mut g: usize = 0;
     let mut i: usize = 0;

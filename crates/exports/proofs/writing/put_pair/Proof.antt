@@ -1,0 +1,54 @@
+-- `writing::put_pair` meets its contract.
+use mathlib.Core.Path.{refl}
+use Rattle.primitives.proofs.Questions.{at-most, above}
+use Rattle.exports.specs.Writing.{ending}
+use Rattle.exports.proofs.Exporting.{pair-cut, pair-put}
+use borrow.Author.Needs.{needs}
+use Rattle.exports.proofs.writing.put_pair.Statement.{statement}
+use Rattle.exports.proofs.writing.put_pair.Tie as tie
+
+section-end-requires : tie.Need-section-end-requires
+section-end-requires c κs = search needs
+
+has-room-requires : tie.Need-has-room-requires
+has-room-requires c κs = search needs
+
+returns : tie.Need-returns
+returns c = pair-cut _ _ _ _ _ (c .before .before .section-end .ensures) (above _ _ (c .before .has-room .ensures) (c .if1 .taken)) _
+
+four-at-requires : tie.Need-four-at-requires
+four-at-requires c κs = search needs
+
+add-put-receipts : tie.Need-add-put-receipts
+add-put-receipts c = search needs
+
+put-receipts-requires : tie.Need-put-receipts-requires
+put-receipts-requires c κs = search needs
+
+slice-aggregate-put-bytes : tie.Need-slice-aggregate-put-bytes
+slice-aggregate-put-bytes c = search needs
+
+put-bytes-requires : tie.Need-put-bytes-requires
+put-bytes-requires c κs = search needs
+
+same-length : tie.Need-same-length
+same-length c = search needs
+
+returns-2 : tie.Need-returns-2
+unfolding ending
+returns-2 c = pair-put _ _ _ _ _ (c .before .before .before .before .before .before .before .before .before .before .before .before .section-end .ensures) (c .before .before .before .before .before .before .before .before .before .four-at .ensures) (c .before .before .before .before .before .before .before .put-receipts .ensures) (c .before .before .put-bytes .ensures)
+
+pub put-pair-spec : {M : Type 1} → statement M
+put-pair-spec =
+    tie.close
+    (tie.spec
+    section-end-requires
+    has-room-requires
+    returns
+    four-at-requires
+    add-put-receipts
+    put-receipts-requires
+    slice-aggregate-put-bytes
+    put-bytes-requires
+    same-length
+    returns-2)
