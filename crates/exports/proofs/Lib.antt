@@ -15,6 +15,7 @@ pub mod Back
 pub mod NamedBack
 pub mod NamedRaw
 pub mod Putting
+pub mod Carrying
 pub mod Sized
 pub mod PayloadLetters
 pub mod PayloadMarks
