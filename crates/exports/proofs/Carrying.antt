@@ -295,9 +295,9 @@ unfolding pairsWritten pairsSpelled elements
 pairs-start {g = g} s h b = record { place = g; group = h; carry = carry-start written pairsWritten written-opens (puts-still s) b }
 
 pub pairs-next : {d : Bool} {out₀ out text : List ℕ} {p q : End} {c : Cursor} → Pairing d out₀ p text out q c → c .more ≡ true
-    → {e : Places} {out′ : List ℕ} {q′ : End} {c′ : Cursor} → ElementRead text (c .at) e → length out′ ≡ length out
+    → {e : Places} {q′ : End} {c′ : Cursor} → ElementRead text (c .at) e → (out′ : List ℕ) → length out′ ≡ length out
     → ((x : Element) → Placed text e x → Puts d out out′ q q′ (pairSpelled (pairOf x))) → Followed text (e .next) c′ → Pairing d out₀ p text out′ q′ c′
-pairs-next k m i l u t =
+pairs-next k m i out′ l u t =
     record {
       place = k .place;
       group = k .group;
