@@ -1,13 +1,12 @@
 -- Canonical BASE64, four letters at a time.
 use mathlib.Core.Path.{_≡_, refl, sym, ap, _∙_}
-use mathlib.Core.Bool.{Bool, true, false, cond, _&&_}
-use mathlib.Core.List.{List, [], _∷_, _++_}
-use mathlib.Core.Option.{none, some}
+use mathlib.Core.Bool.{Bool, true, false, cond, _&&_, and-true, and-false}
+use mathlib.Core.List.{List, [], _∷_}
 use Prim.Native.Nat.{ℕ, zero, suc, _+_, _-_, _%_, _<_, _≤_}
 use native.Mathlib.Omega.{arith}
 use borrow.Author.Tests.{eq-eqb, ne-eqb, eqb-true, eqb-false}
 use lib.Dec.{eqb, ltb}
-use lib.ListN.{length, take, drop, getD}
+use lib.ListN.{length, take, getD}
 use Rattle.primitives.specs.Place.{room}
 use Rattle.primitives.specs.Base64.{digit, pad, known, ended, unmarked, letterCount, unpadded, bytes, accepted, decoding, decodeAnswer}
 use Rattle.primitives.specs.declared.base64.Alphabet.the-variants.{Standard}
@@ -62,11 +61,6 @@ module _ (w x y z : ℕ) (rest : List ℕ) where
       go true true true false = refl
       go true true true true = refl
 
--- four letters alone, without padding
-bare-four : (w x y z : ℕ) → eqb z 61 ≡ false → accepted Standard (w ∷ x ∷ y ∷ z ∷ []) ≡ known Standard (w ∷ x ∷ y ∷ z ∷ [])
-unfolding accepted unmarked ended
-bare-four w x y z e = rw e
-
 -- padding is no letter
 padded-four : (w x y z : ℕ) → eqb z 61 ≡ true → known Standard (w ∷ x ∷ y ∷ z ∷ []) ≡ false
 unfolding known digit
@@ -78,14 +72,6 @@ padded-four w x y z e = rw (eqb-true z 61 e) (go (ltb (digit Standard w) 64) (lt
     go true true false = refl
     go true true true = refl
 
-and-no : (a : Bool) → a && false ≡ false
-and-no true = refl
-and-no false = refl
-
-and-yes : (a : Bool) → a && true ≡ a
-and-yes true = refl
-and-yes false = refl
-
 not-whole : (text : List ℕ) → (length text % 4 ≡ 0 → ⊥) → accepted Standard text ≡ false
 unfolding accepted
 not-whole text h = rw (ne-eqb (length text % 4) 0 h)
@@ -93,6 +79,19 @@ not-whole text h = rw (ne-eqb (length text % 4) 0 h)
 is-whole : (text : List ℕ) → length text % 4 ≡ 0 → accepted Standard text ≡ ended Standard (unpadded Standard text) && known Standard (unpadded Standard text)
 unfolding accepted
 is-whole text h = rw (eq-eqb (length text % 4) 0 h)
+
+-- four letters alone, without padding
+module _ (w x y z : ℕ) (e : eqb z 61 ≡ false) where
+  bare-count : unmarked (w ∷ x ∷ y ∷ z ∷ []) 4 ≡ 4
+  unfolding unmarked
+  bare-count = rw e
+
+  bare-unpadded : unpadded Standard (w ∷ x ∷ y ∷ z ∷ []) ≡ w ∷ x ∷ y ∷ z ∷ []
+  bare-unpadded = ap (λ (k : ℕ). take k (w ∷ x ∷ y ∷ z ∷ [])) (ap (unmarked (w ∷ x ∷ y ∷ z ∷ [])) bare-count ∙ bare-count)
+
+  bare-four : accepted Standard (w ∷ x ∷ y ∷ z ∷ []) ≡ known Standard (w ∷ x ∷ y ∷ z ∷ [])
+  unfolding ended
+  bare-four = is-whole (w ∷ x ∷ y ∷ z ∷ []) refl ∙ ap (λ (u : List ℕ). ended Standard u && known Standard u) bare-unpadded
 
 -- nothing is canonical
 pub none-canonical : accepted Standard [] ≡ true
@@ -115,8 +114,8 @@ module _ (w x y z : ℕ) where
         not-whole (w ∷ x ∷ y ∷ z ∷ rest) k ∙ sym (rw (not-whole rest n) (go (eqb z 61)))
       where
         go : (t : Bool) → four && cond t false false ≡ false
-        go true = and-no four
-        go false = and-no four
+        go true = and-false four
+        go false = and-false four
 
     even : length rest % 4 ≡ 0 → accepted Standard (w ∷ x ∷ y ∷ z ∷ rest) ≡ four && cond (eqb z 61) false (accepted Standard rest)
     unfolding ended
@@ -130,9 +129,9 @@ module _ (w x y z : ℕ) where
       where
         go : (t e k : Bool) → eqb z 61 ≡ t → accepted Standard rest ≡ e && k
             → e && (known Standard (w ∷ x ∷ y ∷ z ∷ []) && k) ≡ four && cond t false (accepted Standard rest)
-        go true e k p q = rw (padded-four w x y z p) (and-no e ∙ sym (and-no four))
+        go true e k p q = rw (padded-four w x y z p) (and-false e ∙ sym (and-false four))
         go false true k p q = rw (q, bare-four w x y z p)
-        go false false k p q = rw q (sym (and-no four))
+        go false false k p q = rw q (sym (and-false four))
 
     follows : accepted Standard (w ∷ x ∷ y ∷ z ∷ rest) ≡ four && cond (eqb z 61) false (accepted Standard rest)
     follows = go (eqb (length rest % 4) 0) refl
@@ -146,8 +145,8 @@ module _ (w x y z : ℕ) where
   by-fours [] = rw none-canonical (go (eqb z 61))
     where
       go : (t : Bool) → four ≡ four && cond t true true
-      go true = sym (and-yes four)
-      go false = sym (and-yes four)
+      go true = sym (and-true four)
+      go false = sym (and-true four)
   by-fours (b ∷ rest) = follows (b ∷ rest) (omega arith)
 
 -- one to three letters are not canonical

@@ -10,6 +10,7 @@ pub mod Documents
 pub mod Passing
 pub mod Surveying
 pub mod Canonical
+pub mod Quads
 pub mod Unique
 pub mod Back
 pub mod NamedBack
@@ -19,3 +20,7 @@ pub mod Carrying
 pub mod Sized
 pub mod PayloadLetters
 pub mod PayloadMarks
+pub mod PayloadNames
+pub mod ReceiptDots
+pub mod Splits
+pub mod NamedExactly

@@ -1,8 +1,8 @@
 -- A receipt names the same settings as it lies in a JSON string and as it is spelled there: an escape has no ".", and no payload has one.
-use Prim.Native.Nat.{ℕ, suc, _+_, _-_, _≤_}
+use Prim.Native.Nat.{ℕ, suc, _+_, _-_}
 use mathlib.Core.Path.{_≡_, refl, sym, ap, _∙_}
 use mathlib.Core.Bool.{Bool, true, false, cond, _&&_, and-false}
-use mathlib.Core.List.{List, [], _∷_}
+use mathlib.Core.List.{List, _∷_}
 use mathlib.Core.Logic.{_⊎_, inl, inr, ⊎-elim}
 use mathlib.Core.Option.{Option, none, some}
 use native.Mathlib.Numerals.{add-one}
@@ -19,7 +19,6 @@ use Rattle.receipt.specs.Form.{firstAt, nextAt}
 use Rattle.receipt.specs.Line.{countOf}
 use Rattle.receipt.specs.Settings.{settingsGood}
 use Rattle.receipt.proofs.Names.{good-settings}
-use Rattle.exports.specs.Text.{plain}
 use Rattle.exports.specs.Places.{Unescaped, nothing, letter, escape}
 use Rattle.exports.specs.Naming.{middle, fieldOf, settingsIn, payloadNames, notNamed, namedBy, named}
 use Rattle.exports.specs.Running.{SmallNames}
@@ -27,10 +26,10 @@ use Rattle.exports.specs.Running.{SmallNames}
 -- ---- the middle part
 
 -- what stands before the first ".", and what after it
-pub upto : List ℕ → List ℕ
+unfoldable pub upto : List ℕ → List ℕ
 upto w = take (firstAt dot w) w
 
-pub past : List ℕ → List ℕ
+unfoldable pub past : List ℕ → List ℕ
 past w = drop (suc (firstAt dot w)) w
 
 pub middle-is : (w : List ℕ) → middle w ≡ upto (past w)

@@ -6,17 +6,16 @@ use mathlib.Core.List.{List, [], _∷_, _++_}
 use mathlib.Core.Logic.{_⊎_, ⊎-elim}
 use mathlib.Core.Option.{Option, none, some}
 use native.Mathlib.Omega.{arith}
-use borrow.Author.Tests.{ltb-true, ltb-false}
-use lib.Dec.{ltb, eqb}
+use lib.Dec.{ltb}
 use lib.ListN.{length, take, drop, getD, length-take, length-drop, List·getD-append}
 use lib.Seq.{take-all, take-length}
-use Rattle.primitives.specs.Place.{overwrite, room, placed}
+use Rattle.primitives.specs.Place.{overwrite, room}
 use Rattle.primitives.specs.Base64.{digit, fromDigits, triple, bytes, known, ended, accepted, decoding, answerOf, bufferOf}
 use Rattle.primitives.specs.declared.base64.Alphabet.the-variants.{UrlSafe}
 use Rattle.primitives.specs.declared.base64.Decoded.{Decoded}
 use Rattle.primitives.specs.declared.base64.Decoded.the-variants.{Upto, Refused, NoRoom}
 use Rattle.primitives.proofs.Over.{placed-room}
-use Rattle.primitives.proofs.Rows.{both, true-is-not-false}
+use Rattle.primitives.proofs.Rows.{both}
 use Rattle.primitives.proofs.Base64Lengths.{length-bytes}
 
 -- ---- what is accepted

@@ -7,7 +7,7 @@ use mathlib.Core.Logic.{_⊎_, ⊎-elim}
 use native.Mathlib.Numerals.{add-one}
 use native.Mathlib.Omega.{arith}
 use lib.Dec.{eqb}
-use lib.ListN.{length, take, drop, getD, set, replicate, length-take, length-drop, drop-of-length-le}
+use lib.ListN.{length, take, drop, getD, set, replicate, length-drop, drop-of-length-le}
 use lib.Seq.{drop-drop, take-suc, append-snoc, set-at, length-take-le, getD-take, getD-drop}
 use Rattle.receipt.specs.Texts.{separator}
 use Rattle.receipt.specs.Form.{firstAt, nextAt, part}
@@ -72,6 +72,9 @@ pub place-end : {p : List ℕ} {k i a : ℕ} → (i ≤ k) × PayloadPlace p i a
 place-end {p} {k} {i} {a} h l =
     let e : i ≡ k = omega (arith, h .0) in
     record { inside = h .1 .inside; is = h .1 .is ∙ ap (λ (m : ℕ). skip m p) e }
+
+pub place-ordered : (p : List ℕ) (a : ℕ) {e : ℕ} → e ≡ nextAt separator p a → a ≤ e
+place-ordered p a e = omega (arith, e, next-from separator p a)
 
 -- ---- the next "_"
 

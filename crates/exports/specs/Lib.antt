@@ -13,3 +13,4 @@ pub mod Reading
 pub mod Writing
 pub mod Passing
 pub mod Running
+pub mod Names

@@ -21,6 +21,7 @@ use Rattle.exports.specs.declared.survey.Survey.{Survey}
 
 pub record QuadRead (text : List ℕ) (at : ℕ) (q : Quad) : Type 0 where
   pub few : q .count ≤ 4
+  pub four : length (q .bytes) ≡ 4
   pub is : content (drop at text) 0 ≡ take (q .count) (q .bytes) ++ content (drop (q .next) text) 0
   pub ended : q .count < 4 → content (drop (q .next) text) 0 ≡ []
   pub onward : 0 < q .count → at < q .next

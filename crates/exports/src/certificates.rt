@@ -1,8 +1,8 @@
 // Certificates: in canonical BASE64 in the strings of an export, and as groups in a lent buffer.
 use super::strings::letter_at;
+use super::strings::part_at;
 use super::walk::begin;
 use super::walk::follow;
-use super::strings::part_at;
 use primitives::Alphabet;
 use primitives::Decoded;
 use receipt::Number;

@@ -161,4 +161,3 @@ pub(crate) fn group_place(text: &[u8]) -> usize
     let k = key_at(text, p);
     k.next
 }
-

@@ -1,5 +1,4 @@
 -- `naming::byte_at` meets its contract.
-use native.Mathlib.Omega.{arith}
 use borrow.Author.Needs.{needs}
 use mathlib.Core.Logic.{⊎-elim, inl, inr}
 use Rattle.exports.proofs.PayloadLetters.{group-inside, lent-inside, byte-read}
