@@ -24,3 +24,7 @@ pub mod PayloadNames
 pub mod ReceiptDots
 pub mod Splits
 pub mod NamedExactly
+pub mod TakenAsSpelled
+pub mod ElementsTaken
+pub mod EntryLying
+pub mod RunsAlong

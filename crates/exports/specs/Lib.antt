@@ -14,3 +14,4 @@ pub mod Writing
 pub mod Passing
 pub mod Running
 pub mod Names
+pub mod TakenOver

@@ -63,7 +63,13 @@ pub(crate) fn run_texts(schedule: &[[u8; 4]; 60], start: State, text: &[u8], at:
 }
 
 // One element: its serial, except in the first one, whose serial is in the head; then its receipts.
-pub(crate) fn run_pair(schedule: &[[u8; 4]; 60], first: bool, st: State, text: &[u8], e: Places) -> Run
+pub(crate) fn run_pair(
+    schedule: &[[u8; 4]; 60],
+    first: bool,
+    st: State,
+    text: &[u8],
+    e: Places,
+) -> Run
     requires { ⌜ PlacesInside (now text) e ⌝ }
     ensures { λ r. ⌜ ((x : Element) → Placed (now (text .entry)) e x → r ≡ runPair (now (schedule .entry)) first st (pairOf x)) ⌝ }
 {
