@@ -22,6 +22,12 @@ pub mod TakenAsSpelled
 pub mod ElementsTaken
 pub mod EntryLying
 pub mod PlainText
+pub mod NamedRaw
+pub mod Putting
+pub mod Carrying
+pub mod Sized
+pub mod PayloadLetters
+pub mod PayloadMarks
 pub mod PayloadNames
 pub mod ReceiptDots
 pub mod Splits
@@ -35,3 +41,7 @@ pub mod Copying
 pub mod Exporting
 pub mod Promising
 pub mod ExportAnswers
+pub mod TakenAsSpelled
+pub mod ElementsTaken
+pub mod EntryLying
+pub mod RunsAlong

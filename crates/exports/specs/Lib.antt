@@ -13,7 +13,7 @@ pub mod Reading
 pub mod Writing
 pub mod Passing
 pub mod Running
-pub mod TakenOver
 pub mod Names
 pub mod GroupLaws
 pub mod Promises
+pub mod TakenOver

@@ -69,7 +69,7 @@ pub(crate) fn put_entries(dry: bool, text: &[u8], at: usize, out: &mut [u8], p: 
     requires { ⌜ at ≤ length (now text) ⌝ }
     ensures { λ r. ⌜ ((ws : List (List ℕ)) (rest : List Token) → from (now (text .entry)) at ≡ strings ws ++ rest → Puts dry (now (out .entry)) (now (out .exit)) p r (sizedTexts ws)) ⌝ }
 {
-    let mut q = p;
+    let mut q = moved(out.len(), p, 0);
     let mut c = begin(text, at);
     while c.more {
         let s = part_at(text, c.at);
