@@ -12,6 +12,7 @@ pub mod compare;
 pub mod crypto;
 #[cfg(feature = "device")]
 pub mod device;
+pub mod export;
 #[cfg(feature = "device")]
 pub mod filling;
 #[cfg(feature = "device")]
