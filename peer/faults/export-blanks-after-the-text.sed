@@ -1,0 +1,2 @@
+# src/export.rs: blanks after the text refused
+s/    json\.blanks\(\);//
