@@ -17,6 +17,8 @@ pub mod export;
 pub mod filling;
 #[cfg(feature = "device")]
 pub mod fuzz;
+#[cfg(feature = "jansson")]
+pub mod jansson;
 pub mod layout;
 pub mod line;
 pub mod model;
