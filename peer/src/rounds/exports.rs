@@ -494,12 +494,53 @@ impl Round<'_> {
             let Wrong { inspected, number, index } = self.wrong(number);
             let text = self.respelled_text(&inspected.export);
             self.refused_with(&inspected, &text, number, index, "a text passes on number and index of Take over")?;
+            self.room_of_a_refused_text(&inspected, &text, number, index)?;
         }
+        self.many_elements()?;
         self.other_certificates()?;
         self.first_receipts()?;
         self.other_registers()?;
         self.moved_elements()?;
         self.moved_receipts()
+    }
+
+    /// A text that Take over refuses, into an output that has just room for its journal, and into one that is a byte shorter.
+    fn room_of_a_refused_text(
+        &mut self,
+        inspected: &Inspected,
+        text: &[u8],
+        number: u32,
+        index: usize,
+    ) -> Compared<()> {
+        let needed = inspected.journal.bytes().len();
+        let refused = Exported::refused(number, index as u32);
+        for (room, expected) in [(needed, refused), (needed - 1, Exported::refused(23, 0))] {
+            let (mut output, mut state) = (self.garbage(room), self.garbage(STATE));
+            let (key, width) = (inspected.settings.key, inspected.width());
+            let read = self.compare.read_export(text, &key, width, &mut output, &mut state)?;
+            demand(read == expected, "room is asked for the whole journal, before Take over", text)?;
+        }
+        Ok(())
+    }
+
+    /// More elements than a register has serials: all of them are asked before Take over, and count for the room.
+    fn many_elements(&mut self) -> Compared<()> {
+        let pairs = self.random.pick(&[SERIALS + 1, SERIALS + 2, 12, 12, 40]);
+        let inspected = self.inspected(&vec![1; pairs]);
+        let text = inspected.text();
+        self.refused_with(&inspected, &text, 31, SERIALS, "a ninth element gets 31")?;
+        self.room_of_a_refused_text(&inspected, &text, 31, SERIALS)?;
+        let which = self.random.between(SERIALS as i64, pairs as i64 - 1) as usize;
+        let text = inspected.with_element(which, |element| element.receipts.clear());
+        self.refused_with(&inspected, &text, 29, 0, "29 is asked of every element")?;
+        let text = inspected.with_receipt(which, 0, b"eyJhbGciOiJFUzI1NiJ9.X1IxLUFUMF8.".to_vec());
+        self.refused_with(&inspected, &text, 28, 0, "first receipts are asked of every element")?;
+        let text = inspected.with_element(which, |element| element.issuers.push(b"AR==".to_vec()));
+        self.refused_with(&inspected, &text, 28, 0, "certificates are asked in every element")?;
+        let mut entry = inspected.journal.pairs[SERIALS].entries[0].clone();
+        entry.fields[SERIAL] = inspected.journal.pairs[self.random.below(SERIALS)].serial.clone();
+        let text = inspected.with_receipt(SERIALS, 0, entry.form());
+        self.refused_with(&inspected, &text, 30, SERIALS, "a ninth element with a used serial gets 30")
     }
 
     /// A text under another key or width, or such that there are none.
@@ -527,7 +568,7 @@ impl Round<'_> {
         let escapes: [&[u8]; 5] =
             [b"AQ\\u003d\\u003d", b"AQ\\u003d=", b"AQ=\\u003d", b"AQI\\u003d", b"AQIDBA\\u003d\\u003d"];
         let escapes = escapes.into_iter().map(|text| (text.to_vec(), true));
-        let wrong: [&[u8]; 26] = [
+        let wrong: [&[u8]; 28] = [
             b"AQ",
             b"AQI",
             b"AQ=",
@@ -554,6 +595,8 @@ impl Round<'_> {
             b"AQID ",
             b"AQ.D",
             b"AQI\\u003D",
+            b"AQ\\u003d\\u003dAQID",
+            b"AQ\\u003dI",
         ];
         let wrong = wrong.into_iter().map(|text| (text.to_vec(), false));
         for (spelled, canonical) in good.chain(escapes).chain(wrong) {
@@ -641,6 +684,16 @@ impl Round<'_> {
         for serial in [&serial[..], b"", &[b'a'; 33], b"AB", b"0x1", b"g"] {
             add(&|entry| entry.fields[SERIAL] = serial.to_vec());
         }
+        // a long payload, which has one field more or ends badly
+        let digits = vec![b'1'; 250 + self.random.below(3)];
+        add(&|entry| {
+            entry.fields[NUMBER] = digits.clone();
+            entry.fields.push(Vec::new());
+        });
+        add(&|entry| {
+            entry.fields[NUMBER] = digits.clone();
+            entry.fields[SERIAL] = b"2A".to_vec();
+        });
         // not three elements, or another middle one
         let [header, payload, signature] =
             [entry.header.clone(), url_text(&entry.payload()), url_text(&entry.signature)];
@@ -651,6 +704,14 @@ impl Round<'_> {
         }
         let mut stray = url_text(&one_more.payload());
         *stray.last_mut().expect("letters") += 1;
+        let mut long = one_more;
+        long.fields[CHAIN].resize(300, b'A');
+        while long.payload().len() % 3 == 0 {
+            long.fields[CHAIN].push(b'A');
+        }
+        let mut long = url_text(&long.payload());
+        let place = long.len() - 1 - self.random.below(3) * 50;
+        long[place] = self.random.pick(b"+/=~ ");
         let whole = if payload.len() % 4 == 0 { payload.clone() } else { b"".to_vec() };
         let mut foreign = payload.clone();
         let place = self.random.below(payload.len());
@@ -669,6 +730,7 @@ impl Round<'_> {
             join(&[&header, b"", &signature]),
             join(&[&header, &signature, &payload]),
             join(&[&header, &stray, &signature]),
+            join(&[&header, &long, &signature]),
             join(&[&header, &[&payload[..], b"="].concat(), &signature]),
             join(&[&header, &[&payload[..], b"\\u003d"].concat(), &signature]),
             join(&[&header, &[&payload[..], b" "].concat(), &signature]),
@@ -1157,6 +1219,9 @@ impl Round<'_> {
         long.fields[NUMBER] = vec![b'1'; self.random.pick(&[200, 1000, 48_000])];
         let text = inspected.with_receipt(0, 0, long.form());
         self.refused_with(&inspected, &text, 16, 0, "a first receipt has no limit but that of an entry")?;
+        long.fields.push(Vec::new());
+        let text = inspected.with_receipt(0, 0, long.form());
+        self.refused_with(&inspected, &text, 28, 0, "a long first receipt has twelve fields, too")?;
 
         // more certificates than a group has, and longer ones
         let long = padded_text(&self.garbage(65_536 + self.random.below(3)));
@@ -1170,7 +1235,14 @@ impl Round<'_> {
         longest.groups = vec![vec![b"c".to_vec(); 255], vec![self.garbage(65_535), Vec::new()]];
         longest.export = Export::with(&longest.journal, &longest.groups);
         self.written_and_read(&longest)?;
-        self.other_groups(&longest)
+        self.other_groups(&longest)?;
+
+        // a count of more than a byte, and an index
+        let many = self.inspected(&[self.random.pick(&[1, 2]), self.random.pick(&[255, 256, 257, 300])]);
+        self.written_and_read(&many)?;
+        let last = many.export.elements[1].receipts.len() - 1;
+        let text = many.with_receipt(1, last, b"..".to_vec());
+        self.refused_with(&many, &text, 16, many.receipts() - 1, "the index of a late receipt")
     }
 
     // ---- every place
