@@ -110,7 +110,7 @@ pub fn round(compare: &mut Compare, seed: u64, number: u64) -> Compared<()> {
     round.exports_refused()?;
     round.texts_read()?;
     round.texts_refused()?;
-    if round.random.once_in(4) {
+    if round.random.once_in(8) {
         round.long_exports()?;
     }
     if round.random.once_in(16) {

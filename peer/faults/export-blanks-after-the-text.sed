@@ -1,2 +1,0 @@
-# src/export.rs: blanks after the text refused
-s/    json\.blanks\(\);//
