@@ -5,8 +5,11 @@ use std::time::{Duration, Instant};
 use crate::calls::{Calls, Listed, Peer, Written};
 use crate::code::LONGEST_CODE;
 use crate::device::Library;
+#[cfg(feature = "jansson")]
+use crate::jansson;
 use crate::layout::{DETAILS, SETTINGS, SIGNATURE, STATE, details_bytes, list_bytes, state_bytes, state_of};
 use crate::line::LONGEST_LINE;
+use crate::model::group_bytes;
 use crate::receipt::{Date, Details, LONGEST_COMPACT, LONGEST_INPUT};
 use crate::register::State;
 
@@ -39,6 +42,12 @@ fn details(i: usize) -> Details {
     Details { number: i as u32 + 1, date, amounts, kind }
 }
 
+/// One group: a certificate of 1,000 bytes and one of 1,200.
+fn certificates() -> Vec<u8> {
+    let certificate = |length: usize| (0..length).map(|k| (k * 7 + length) as u8).collect();
+    group_bytes(&[certificate(1_000), certificate(1_200)])
+}
+
 fn signature(i: usize) -> [u8; 64] {
     std::array::from_fn(|k| (i * 37 + k * 11 + i / 256 + 5) as u8)
 }
@@ -60,9 +69,12 @@ struct Work {
     /// The code of each receipt and its line, both made by the peer.
     codes: Vec<Vec<u8>>,
     lines: Vec<Vec<u8>>,
+    /// Certificates of the signature device and its issuer, and the export, made by the peer.
+    certificates: Vec<u8>,
+    text: Vec<u8>,
     /// The state after the start receipt.
     started: [u8; STATE],
-    /// A buffer with room for all receipts.
+    /// A buffer with room for all receipts, as a journal and as a text.
     buffer: Vec<u8>,
 }
 
@@ -82,8 +94,10 @@ impl Work {
             forms: Vec::new(),
             codes: Vec::new(),
             lines: Vec::new(),
+            certificates: certificates(),
+            text: Vec::new(),
             started: [0; STATE],
-            buffer: vec![0; 83 + receipts * (2 + LONGEST_COMPACT)],
+            buffer: vec![0; 4_000 + receipts * (3 + LONGEST_COMPACT)],
         };
         let mut state = work.opened(&Peer);
         for i in 0..receipts {
@@ -96,6 +110,8 @@ impl Work {
         }
         work.journal = work.buffer[..Peer.journal_length(&state)].to_vec();
         work.state = state;
+        let length = work.export(&Peer);
+        work.text = work.buffer[..length].to_vec();
         let written = |written: Written, output: &[u8]| output[..written.length].to_vec();
         for i in 0..receipts {
             let (mut code, mut line) = ([0; LONGEST_CODE], [0; LONGEST_LINE]);
@@ -191,6 +207,42 @@ impl Work {
         self.journal.len()
     }
 
+    /// One Export of the whole journal; the bytes of the text.
+    fn export(&mut self, side: &dyn Calls) -> usize {
+        let exported = side.export(&self.journal, &KEY, WIDTH, &self.certificates, &mut self.buffer);
+        assert_eq!((exported.number, exported.index), (0, 0));
+        exported.length
+    }
+
+    /// One Read export of the whole text; its bytes.
+    fn read_export(&mut self, side: &dyn Calls) -> usize {
+        let mut state = [0; STATE];
+        let read = side.read_export(&self.text, &KEY, WIDTH, &mut self.buffer, &mut state);
+        assert_eq!((read.number, read.length), (0, self.journal.len()));
+        assert_eq!(state, self.state);
+        self.text.len()
+    }
+
+    /// The same two by the peer over a JSON library.
+    #[cfg(feature = "jansson")]
+    fn call_over_json(&mut self, call: &str) -> Option<usize> {
+        let width = WIDTH as u64;
+        match call {
+            "export" => jansson::export(&self.journal, &KEY, width, &self.certificates, &mut self.buffer).ok(),
+            "read-export" => {
+                let read = jansson::read_export(&self.text, &KEY, width, &mut self.buffer);
+                assert_eq!(read, Ok((self.journal.len(), state_of(&self.state))));
+                Some(self.text.len())
+            }
+            _ => None,
+        }
+    }
+
+    #[cfg(not(feature = "jansson"))]
+    fn call_over_json(&mut self, _call: &str) -> Option<usize> {
+        None
+    }
+
     /// One Code for each receipt; the bytes written.
     fn code(&mut self, side: &dyn Calls) -> usize {
         let mut output = [0; LONGEST_CODE];
@@ -250,6 +302,8 @@ impl Work {
             "check-10" => Some(self.check_steps(side, 10)),
             "check-100" => Some(self.check_steps(side, 100)),
             "check-1000" => Some(self.check_steps(side, 1000)),
+            "export" => Some(self.export(side)),
+            "read-export" => Some(self.read_export(side)),
             "code" => Some(self.code(side)),
             "read" => Some(self.read(side)),
             "line" => Some(self.line(side)),
@@ -271,6 +325,7 @@ fn same_answers(work: &mut Work) {
             assert!(work.buffer.starts_with(&work.failed_journal));
         }
     }
+    same_exports(work);
     for i in 0..work.forms.len() {
         let mut outputs = [[0; LONGEST_CODE]; 2];
         assert_eq!(Library.code(work.form(i), &mut outputs[0]), Peer.code(work.form(i), &mut outputs[1]));
@@ -290,6 +345,22 @@ fn same_answers(work: &mut Work) {
         let details = &work.details[i];
         assert_eq!(Library.prepare(&state, details, &mut outputs[0]), Peer.prepare(&state, details, &mut outputs[1]));
         assert_eq!(outputs[0], outputs[1]);
+    }
+}
+
+/// Both sides, and the peer over a JSON library where there is one, write the same text and read the same journal.
+fn same_exports(work: &mut Work) {
+    let ways: [fn(&mut Work, &str) -> Option<usize>; 3] = [
+        |work, call| work.call(call, &Library),
+        |work, call| work.call(call, &Peer),
+        |work, call| if cfg!(feature = "jansson") { work.call_over_json(call) } else { work.call(call, &Peer) },
+    ];
+    for way in ways {
+        for call in ["export", "read-export"] {
+            work.buffer.fill(0);
+            assert_eq!(way(work, call), Some(work.text.len()));
+            assert!(work.buffer.starts_with(if call == "export" { &work.text } else { &work.journal }));
+        }
     }
 }
 
@@ -341,6 +412,8 @@ pub fn run() {
                 "unline",
                 "read",
                 "check-1000",
+                "export",
+                "read-export",
                 "take-over",
             ]
         } else {
@@ -364,15 +437,16 @@ pub fn run() {
 /// Does `repeats` passes of one call on so many receipts by one side and prints the bytes of a pass. What is made before
 /// is the same for both sides and for 0 repeats, whose cost is to be taken off.
 pub fn work(call: &str, who: &str, receipts: usize, repeats: usize) -> bool {
-    let side: &dyn Calls = match who {
-        "library" => &Library,
-        "peer" => &Peer,
+    let way: fn(&mut Work, &str) -> Option<usize> = match who {
+        "library" => |work, call| work.call(call, &Library),
+        "peer" => |work, call| work.call(call, &Peer),
+        "json" => |work, call| work.call_over_json(call),
         _ => return false,
     };
     let mut work = Work::of(receipts);
     let mut bytes = 0;
     for _ in 0..repeats {
-        match work.call(call, side) {
+        match way(&mut work, call) {
             Some(once) => bytes += once,
             None => return false,
         }

@@ -7,7 +7,7 @@ use crate::layout::{
 use crate::receipt::{Details, Receipt};
 use crate::register::{Refused, State};
 use crate::settings::{Name, Settings, csp_good, id_good, serial_good, width_good};
-use crate::{base32, base64, code, crypto, line, register};
+use crate::{base32, base64, code, crypto, export, line, register};
 
 /// A number and a length.
 #[derive(Clone, Copy, Debug, PartialEq, Eq)]
@@ -37,6 +37,21 @@ impl TakenOver {
 impl From<Refused> for TakenOver {
     fn from(refused: Refused) -> Self {
         TakenOver { number: refused.number, index: refused.index }
+    }
+}
+
+/// A number, an index and a length.
+#[derive(Clone, Copy, Debug, PartialEq, Eq)]
+pub struct Exported {
+    pub number: u32,
+    pub index: u32,
+    pub length: usize,
+}
+
+impl Exported {
+    /// The answer of a refused call.
+    pub fn refused(number: u32, index: u32) -> Exported {
+        Exported { number, index, length: 0 }
     }
 }
 
@@ -72,6 +87,8 @@ pub trait Calls {
     fn code(&self, form: &[u8], output: &mut [u8]) -> Written;
     fn uncode(&self, code: &[u8], output: &mut [u8]) -> Written;
     fn fields(&self, code: &[u8]) -> Part;
+    fn export(&self, journal: &[u8], key: &[u8], width: usize, certificates: &[u8], output: &mut [u8]) -> Exported;
+    fn read_export(&self, text: &[u8], key: &[u8], width: usize, output: &mut [u8], state: &mut [u8]) -> Exported;
     fn line(&self, code: &[u8], output: &mut [u8]) -> Written;
     fn unline(&self, line: &[u8], output: &mut [u8]) -> Written;
     fn sha256(&self, data: &[u8], output: &mut [u8]) -> u32;
@@ -88,6 +105,13 @@ fn written(answer: Result<usize, u32>) -> Written {
     match answer {
         Ok(length) => Written { number: 0, length },
         Err(number) => Written { number, length: 0 },
+    }
+}
+
+fn exported(answer: Result<usize, Refused>) -> Exported {
+    match answer {
+        Ok(length) => Exported { number: 0, index: 0, length },
+        Err(refused) => Exported::refused(refused.number, refused.index),
     }
 }
 
@@ -276,6 +300,19 @@ impl Calls for Peer {
             Some(id) => Part { number: 0, start: id.start, length: id.len() },
             None => Part { number: 24, start: 0, length: 0 },
         }
+    }
+
+    fn export(&self, journal: &[u8], key: &[u8], width: usize, certificates: &[u8], output: &mut [u8]) -> Exported {
+        exported(export::export(journal, key, width as u64, certificates, output))
+    }
+
+    fn read_export(&self, text: &[u8], key: &[u8], width: usize, output: &mut [u8], state: &mut [u8]) -> Exported {
+        if state.len() != STATE {
+            return Exported::refused(6, 0);
+        }
+        let answer = export::read_export(text, key, width as u64, output);
+        state.copy_from_slice(&state_bytes(&answer.map_or(State::default(), |(_, held)| held)));
+        exported(answer.map(|(length, _)| length))
     }
 
     fn line(&self, code: &[u8], output: &mut [u8]) -> Written {

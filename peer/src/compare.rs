@@ -3,7 +3,7 @@
 
 use std::fmt::Debug;
 
-use crate::calls::{Calls, Listed, Part, Peer, TakenOver, Written};
+use crate::calls::{Calls, Exported, Listed, Part, Peer, TakenOver, Written};
 use crate::code::LONGEST_CODE;
 use crate::device::Library;
 use crate::layout::DETAILS;
@@ -12,7 +12,7 @@ use crate::receipt::Details;
 use crate::text::hex;
 
 /// The calls in the order of the table, with the numbers that each can return.
-pub const CALLS: [(&str, &[u32]); 25] = [
+pub const CALLS: [(&str, &[u32]); 27] = [
     ("version", &[0]),
     ("settings", &[0, 1, 2, 3, 4, 23]),
     ("figures", &[0]),
@@ -31,6 +31,8 @@ pub const CALLS: [(&str, &[u32]); 25] = [
     ("code", &[0, 22, 23]),
     ("uncode", &[0, 23, 24]),
     ("fields", &[0, 24]),
+    ("export", &[0, 4, 14, 15, 16, 17, 18, 19, 20, 21, 23, 28, 30, 31]),
+    ("read_export", &[0, 4, 6, 16, 17, 18, 19, 20, 23, 28, 29, 30, 31]),
     ("line", &[0, 23, 24, 26]),
     ("unline", &[0, 23, 27]),
     ("sha256", &[0, 23]),
@@ -86,6 +88,14 @@ pub fn demand(holds: bool, what: &str, bytes: &[u8]) -> Compared<()> {
         return Ok(());
     }
     Err(Difference { text: format!("does not hold: {what}\nbytes {}\n", hex(bytes)) })
+}
+
+/// Takes over what a call left in an output, of which it wrote so many bytes and no more.
+fn written_to(output: &mut [u8], after: &[u8], length: usize, given: &[u8]) -> Compared<()> {
+    demand(length <= output.len(), "the length is within the output", given)?;
+    demand(output[length..] == after[length..], "no byte after the end is written", given)?;
+    output.copy_from_slice(after);
+    Ok(())
 }
 
 /// Both sides, and how often each call returned each number.
@@ -401,10 +411,7 @@ impl Compare {
             |side, [text, output]| work(side, text.get(), output.get_mut()),
             |written| written.number,
         )?;
-        let after = after[1].get();
-        demand(written.length <= output.len(), "the length is within the output", text)?;
-        demand(output[written.length..] == after[written.length..], "no byte after the end is written", text)?;
-        output.copy_from_slice(after);
+        written_to(output, after[1].get(), written.length, text)?;
         Ok(written)
     }
 
@@ -428,6 +435,60 @@ impl Compare {
             |part| part.number,
         )?;
         Ok(part)
+    }
+
+    /// Export; `output` is what lies there before.
+    pub fn export(
+        &mut self,
+        journal: &[u8],
+        key: &[u8],
+        width: usize,
+        certificates: &[u8],
+        output: &mut [u8],
+    ) -> Compared<Exported> {
+        let (exported, after) = self.run(
+            "export",
+            &format_args!("width {width}"),
+            [("journal", journal), ("key", key), ("certificates", certificates), ("output", output)],
+            &[],
+            |side, [journal, key, certificates, output]| {
+                side.export(journal.get(), key.get(), width, certificates.get(), output.get_mut())
+            },
+            |exported| exported.number,
+        )?;
+        written_to(output, after[3].get(), exported.length, journal)?;
+        Ok(exported)
+    }
+
+    /// Read export; `output` and `state` are what lies there before.
+    pub fn read_export(
+        &mut self,
+        text: &[u8],
+        key: &[u8],
+        width: usize,
+        output: &mut [u8],
+        state: &mut [u8],
+    ) -> Compared<Exported> {
+        let (exported, after) = self.run(
+            "read_export",
+            &format_args!("width {width}"),
+            [("text", text), ("key", key), ("output", output), ("state", state)],
+            &[3],
+            |side, [text, key, output, state]| {
+                side.read_export(text.get(), key.get(), width, output.get_mut(), state.get_mut())
+            },
+            |exported| exported.number,
+        )?;
+        written_to(output, after[2].get(), exported.length, text)?;
+        let (held, given) = (after[3].get(), &*state);
+        let left = match exported.number {
+            0 => true,
+            6 => held == given,
+            _ => held.iter().all(|&byte| byte == 0),
+        };
+        demand(left, "a refused text leaves the unopened state, but with 6 the state as it was", text)?;
+        state.copy_from_slice(held);
+        Ok(exported)
     }
 
     pub fn line(&mut self, code: &[u8], output: &mut [u8]) -> Compared<Written> {

@@ -1,6 +1,6 @@
 //! The static library under test: a safe wrapper over include/ditgrux.h.
 
-use crate::calls::{Calls, Listed, Part, TakenOver, Written};
+use crate::calls::{Calls, Exported, Listed, Part, TakenOver, Written};
 use crate::receipt::Details;
 
 /// Every result by pointer starts as this, so that one that is not written shows.
@@ -49,6 +49,12 @@ unsafe extern "C" {
     fn ditgrux_uncode(code: *const u8, code_length: usize, output: *mut u8, output_length: usize,
         length: *mut usize) -> u32;
     fn ditgrux_fields(code: *const u8, code_length: usize, start: *mut usize, length: *mut usize) -> u32;
+    fn ditgrux_export(journal: *const u8, journal_length: usize, key: *const u8, key_length: usize, width: usize,
+        certificates: *const u8, certificates_length: usize, output: *mut u8, output_length: usize, length: *mut usize,
+        index: *mut u32) -> u32;
+    fn ditgrux_read_export(text: *const u8, text_length: usize, key: *const u8, key_length: usize, width: usize,
+        output: *mut u8, output_length: usize, state: *mut u8, state_length: usize, length: *mut usize,
+        index: *mut u32) -> u32;
     fn ditgrux_line(code: *const u8, code_length: usize, output: *mut u8, output_length: usize,
         length: *mut usize) -> u32;
     fn ditgrux_unline(line: *const u8, line_length: usize, output: *mut u8, output_length: usize,
@@ -305,6 +311,46 @@ impl Calls for Library {
         let mut length = UNWRITTEN_LENGTH;
         let number = unsafe { ditgrux_fields(code.as_ptr(), code.len(), &mut start, &mut length) };
         Part { number, start, length }
+    }
+
+    fn export(&self, journal: &[u8], key: &[u8], width: usize, certificates: &[u8], output: &mut [u8]) -> Exported {
+        let (mut length, mut index) = (UNWRITTEN_LENGTH, UNWRITTEN);
+        let number = unsafe {
+            ditgrux_export(
+                journal.as_ptr(),
+                journal.len(),
+                key.as_ptr(),
+                key.len(),
+                width,
+                certificates.as_ptr(),
+                certificates.len(),
+                output.as_mut_ptr(),
+                output.len(),
+                &mut length,
+                &mut index,
+            )
+        };
+        Exported { number, index, length }
+    }
+
+    fn read_export(&self, text: &[u8], key: &[u8], width: usize, output: &mut [u8], state: &mut [u8]) -> Exported {
+        let (mut length, mut index) = (UNWRITTEN_LENGTH, UNWRITTEN);
+        let number = unsafe {
+            ditgrux_read_export(
+                text.as_ptr(),
+                text.len(),
+                key.as_ptr(),
+                key.len(),
+                width,
+                output.as_mut_ptr(),
+                output.len(),
+                state.as_mut_ptr(),
+                state.len(),
+                &mut length,
+                &mut index,
+            )
+        };
+        Exported { number, index, length }
     }
 
     fn line(&self, code: &[u8], output: &mut [u8]) -> Written {

@@ -4,7 +4,7 @@
 use crate::calls::{Calls, TakenOver};
 use crate::compare::{Compare, Compared, demand};
 use crate::layout::{STATE, settings_bytes, state_of};
-use crate::model::{Entry, Journal};
+use crate::model::{Entry, Journal, group_bytes};
 use crate::random::Random;
 use crate::receipt::{AMOUNT_LIMIT, Date, Details, LONGEST_COMPACT};
 use crate::sample::{self, FIVE_LARGEST};
@@ -26,6 +26,7 @@ pub fn fill_width(
     filling.write(side, [sign * AMOUNT_LIMIT; 5], largest)?;
     filling.reach(compare, sample::amounts_with_sum(random, last % FIVE_LARGEST), last)?;
     filling.take_over(compare)?;
+    filling.export(compare)?;
     for kind in [0, 1] {
         filling.go_beyond(compare, [sign, 0, 0, 0, 0], kind)?;
     }
@@ -88,6 +89,20 @@ impl<'a> Filling<'a> {
         months[12] = usize::MAX;
         let answer = compare.take_over_in_parts(self.whole(), &self.settings.key, self.width(), &months, &mut taken)?;
         demand(answer.number == 0 && taken == self.state, "a long journal is accepted", &self.state)
+    }
+
+    /// The export of the whole journal reads back to it.
+    fn export(&self, compare: &mut Compare) -> Compared<()> {
+        let (journal, key) = (self.whole(), &self.settings.key);
+        let receipts = state_of(&self.state).receipts as usize;
+        let certificates = group_bytes(&[b"certificate".to_vec()]);
+        let mut text = vec![0; journal.len() + receipts + 200];
+        let exported = compare.export(journal, key, self.width(), &certificates, &mut text)?;
+        demand(exported.number == 0, "a long journal is exported", &self.state)?;
+        text.truncate(exported.length);
+        let (mut back, mut state) = (vec![0; journal.len()], [0; STATE]);
+        let read = compare.read_export(&text, key, self.width(), &mut back, &mut state)?;
+        demand(read.number == 0 && back == journal && state == self.state, "a long export reads back", &self.state)
     }
 
     /// One more receipt, which is beyond the end: 11, and 20 for a journal that has it.

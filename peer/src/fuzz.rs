@@ -7,7 +7,7 @@ use crate::base32::padded_letters;
 use crate::calls::{Calls, Listed, Peer};
 use crate::compare::{Compare, Compared, demand};
 use crate::layout::{DETAILS, SETTINGS, SIGNATURE, STATE, details_of};
-use crate::model::{Journal, Pair, SERIAL};
+use crate::model::{Export, Journal, Pair, SERIAL};
 use crate::receipt::{Date, Details, LONGEST_INPUT};
 
 const KEY: [u8; 32] = [7; 32];
@@ -16,7 +16,7 @@ const WIDTH: usize = 5;
 /// Does one input.
 pub fn one_input(compare: &mut Compare, input: &[u8]) -> Compared<()> {
     let Some((choice, rest)) = input.split_first() else { return Ok(()) };
-    match choice % 16 {
+    match choice % 19 {
         0 => take_over(compare, rest),
         1 => edited_journal(compare, rest),
         2 => code(compare, rest),
@@ -32,7 +32,10 @@ pub fn one_input(compare: &mut Compare, input: &[u8]) -> Compared<()> {
         12 => edited_pairs(compare, rest),
         13 => issue_list(compare, rest),
         14 => check_steps(compare, rest),
-        _ => in_parts(compare, rest),
+        15 => in_parts(compare, rest),
+        16 => export(compare, rest),
+        17 => read_export(compare, rest),
+        _ => edited_export(compare, rest),
     }
 }
 
@@ -341,4 +344,82 @@ fn unbase32(compare: &mut Compare, input: &[u8]) -> Compared<()> {
     let mut back = vec![0xaa; text.len()];
     compare.base32(&data[..read.length], &mut back)?;
     demand(back == text, "bytes give their BASE32 back", text)
+}
+
+/// N in one byte, 32 of key, the length of the certificates in two bytes, the certificates, and the journal. What is written must
+/// read back to the journal, or lack a receipt in an element.
+fn export(compare: &mut Compare, input: &[u8]) -> Compared<()> {
+    let Some((width, rest)) = input.split_first() else { return Ok(()) };
+    let Some((key, rest)) = rest.split_at_checked(32) else { return Ok(()) };
+    let Some(([high, low], rest)) = rest.split_first_chunk() else { return Ok(()) };
+    let length = u16::from_be_bytes([*high, *low]) as usize;
+    let (certificates, journal) = rest.split_at(rest.len().min(length));
+    let mut text = vec![0xaa; 3 * input.len() + 1000];
+    let exported = compare.export(journal, key, *width as usize, certificates, &mut text)?;
+    if exported.number != 0 {
+        return Ok(());
+    }
+    text.truncate(exported.length);
+    compare.export(journal, key, *width as usize, certificates, &mut vec![0xaa; exported.length - 1])?;
+    let mut back = vec![0xaa; text.len()];
+    let read = compare.read_export(&text, key, *width as usize, &mut back, &mut [0xaa; STATE])?;
+    back.truncate(read.length);
+    demand(read.number == 29 || back == journal, "an export reads back to its journal", input)
+}
+
+/// N in one byte, 32 of key, the room in the output in two bytes, and the text.
+fn read_export(compare: &mut Compare, input: &[u8]) -> Compared<()> {
+    let Some((width, rest)) = input.split_first() else { return Ok(()) };
+    let Some((key, rest)) = rest.split_at_checked(32) else { return Ok(()) };
+    let Some(([high, low], text)) = rest.split_first_chunk() else { return Ok(()) };
+    let mut output = vec![0xaa; u16::from_be_bytes([*high, *low]) as usize];
+    compare.read_export(text, key, *width as usize, &mut output, &mut [0xaa; STATE])?;
+    text_read(compare, text, key, *width as usize)
+}
+
+/// Read export into an output as long as the text: it is enough, and what is accepted is a journal that Take over accepts.
+fn text_read(compare: &mut Compare, text: &[u8], key: &[u8], width: usize) -> Compared<()> {
+    let (mut journal, mut state, mut taken) = (vec![0xaa; text.len()], [0xaa; STATE], [0xaa; STATE]);
+    let read = compare.read_export(text, key, width, &mut journal, &mut state)?;
+    demand(read.number != 23, "an output as long as the text is enough", text)?;
+    if read.number == 0 {
+        let answer = compare.take_over(&journal[..read.length], key, width, &mut taken)?;
+        demand(answer.number == 0 && taken == state, "the journal of a text is accepted", text)?;
+    }
+    Ok(())
+}
+
+/// Edits of the marks and strings of a valid export: three bytes each (place, part, length) and the new bytes of that part.
+fn edited_export(compare: &mut Compare, input: &[u8]) -> Compared<()> {
+    let mut rest = input;
+    let mut tokens = valid_export().tokens();
+    while let [place, part, length, after @ ..] = rest {
+        let place = *place as usize % tokens.len();
+        let (text, after) = after.split_at(after.len().min(*length as usize));
+        rest = after;
+        let last = tokens[place].len() - 1;
+        match part % 6 {
+            0 => tokens[place] = [b"\"", text, b"\""].concat(),
+            1 => tokens.insert(place, text.to_vec()),
+            2 if last > 0 => drop(tokens[place].splice(last..last, text.iter().copied())),
+            3 => {
+                let other = (place + text.len()) % tokens.len();
+                tokens.swap(place, other);
+            }
+            4 => tokens.insert(place, tokens[(place + text.len()) % tokens.len()].clone()),
+            _ => tokens[place] = [&tokens[place][..], text].concat(),
+        }
+        tokens.retain(|token| !token.is_empty());
+    }
+    text_read(compare, &tokens.concat(), &KEY, WIDTH)
+}
+
+/// The export of the valid journal in two pairs.
+fn valid_export() -> &'static Export {
+    static EXPORT: OnceLock<Export> = OnceLock::new();
+    EXPORT.get_or_init(|| {
+        let mut journal = valid_pairs().clone();
+        journal.pairs.retain(|pair| !pair.entries.is_empty());
+        Export::with(&journal, &[vec![vec![1]], vec![vec![1, 2], vec![3]]])
+    })
 }

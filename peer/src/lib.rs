@@ -12,10 +12,13 @@ pub mod compare;
 pub mod crypto;
 #[cfg(feature = "device")]
 pub mod device;
+pub mod export;
 #[cfg(feature = "device")]
 pub mod filling;
 #[cfg(feature = "device")]
 pub mod fuzz;
+#[cfg(feature = "jansson")]
+pub mod jansson;
 pub mod layout;
 pub mod line;
 pub mod model;

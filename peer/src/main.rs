@@ -15,8 +15,9 @@ use peer::rounds::round;
 
 const USAGE: &str = "usage: peer [--minutes N | --rounds N | --round R] [--seed S]
        peer --bench
-       peer --work CALL library|peer RECEIPTS [REPEATS]
-CALL: issue|issue-failed|issue-list|prepare|take-over|check-1|check-10|check-100|check-1000|code|line|unline|read";
+       peer --work CALL library|peer|json RECEIPTS [REPEATS]
+CALL: issue|issue-failed|issue-list|prepare|take-over|check-1|check-10|check-100|check-1000|export|read-export|code|line|unline|read
+json: export and read-export by the peer over a JSON library, where it is built with the feature jansson";
 
 /// How long to compare.
 enum Length {

@@ -1,8 +1,9 @@
-//! A journal and a code in their parts, to be changed and put together again.
+//! A journal, a code and an export in their parts, to be changed and put together again.
 
 use std::ops::Range;
 
 use crate::crypto::Aes256;
+use crate::export::{CERTIFICATE, GROUPS, ISSUERS, RECEIPTS};
 use crate::receipt::{
     Details, FAILURE, HEADER, Kind, chain_value, counter_after, counter_iv, encrypt_counter, push_date, read_cents,
     read_compact,
@@ -386,4 +387,103 @@ impl Journal {
 fn push_section(bytes: &mut Vec<u8>, section: &[u8]) {
     bytes.extend((section.len() as u32).to_be_bytes());
     bytes.extend(section);
+}
+
+// ---- the export
+
+/// A group of certificates as bytes: their number, and each after its length in two bytes.
+pub fn group_bytes(group: &[Vec<u8>]) -> Vec<u8> {
+    let mut bytes = vec![group.len() as u8];
+    for certificate in group {
+        bytes.extend((certificate.len() as u16).to_be_bytes());
+        bytes.extend(certificate);
+    }
+    bytes
+}
+
+/// The names of an element as the request lists them.
+pub const ELEMENT_NAMES: [&[u8]; 3] = [CERTIFICATE, ISSUERS, RECEIPTS];
+
+/// An element of an export: what stands between the quotes of its strings, and the order of its names.
+#[derive(Clone)]
+pub struct Element {
+    pub certificate: Vec<u8>,
+    pub issuers: Vec<Vec<u8>>,
+    pub receipts: Vec<Vec<u8>>,
+    pub order: [usize; 3],
+}
+
+/// An export in its parts.
+#[derive(Clone)]
+pub struct Export {
+    pub elements: Vec<Element>,
+}
+
+fn quoted(string: &[u8]) -> Vec<u8> {
+    [b"\"", string, b"\""].concat()
+}
+
+/// Adds a list of items, each of some marks and strings, with its brackets and commas.
+fn push_items(tokens: &mut Vec<Vec<u8>>, items: impl Iterator<Item = Vec<Vec<u8>>>) {
+    tokens.push(b"[".to_vec());
+    for (place, item) in items.enumerate() {
+        if place > 0 {
+            tokens.push(b",".to_vec());
+        }
+        tokens.extend(item);
+    }
+    tokens.push(b"]".to_vec());
+}
+
+impl Element {
+    /// The marks and strings of one of the three members, its name first.
+    pub fn member(&self, which: usize) -> Vec<Vec<u8>> {
+        let mut tokens = vec![quoted(ELEMENT_NAMES[which]), b":".to_vec()];
+        let strings = |strings: &[Vec<u8>]| strings.iter().map(|string| vec![quoted(string)]).collect::<Vec<_>>();
+        match which {
+            0 => tokens.push(quoted(&self.certificate)),
+            1 => push_items(&mut tokens, strings(&self.issuers).into_iter()),
+            _ => push_items(&mut tokens, strings(&self.receipts).into_iter()),
+        }
+        tokens
+    }
+
+    /// An object of these members.
+    pub fn object(&self, members: &[usize]) -> Vec<Vec<u8>> {
+        let mut tokens = vec![b"{".to_vec()];
+        for (place, &which) in members.iter().enumerate() {
+            if place > 0 {
+                tokens.push(b",".to_vec());
+            }
+            tokens.extend(self.member(which));
+        }
+        tokens.push(b"}".to_vec());
+        tokens
+    }
+}
+
+impl Export {
+    /// The export of a journal, whatever its parts are, with a group of certificates for each pair.
+    pub fn with(journal: &Journal, groups: &[Vec<Vec<u8>>]) -> Export {
+        let element = |(pair, group): (&Pair, &Vec<Vec<u8>>)| Element {
+            certificate: padded_text(&group[0]),
+            issuers: group[1..].iter().map(|certificate| padded_text(certificate)).collect(),
+            receipts: pair.entries.iter().map(Entry::form).collect(),
+            order: [0, 1, 2],
+        };
+        Export { elements: journal.pairs.iter().zip(groups).map(element).collect() }
+    }
+
+    /// All marks and strings of the text.
+    pub fn tokens(&self) -> Vec<Vec<u8>> {
+        let mut tokens = vec![b"{".to_vec(), quoted(GROUPS), b":".to_vec()];
+        push_items(&mut tokens, self.elements.iter().map(|element| element.object(&element.order)));
+        tokens.push(b"}".to_vec());
+        tokens
+    }
+
+    /// The text without blanks.
+    pub fn text(&self) -> Vec<u8> {
+        self.tokens().concat()
+    }
 }

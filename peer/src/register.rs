@@ -263,12 +263,12 @@ pub struct Refused {
 }
 
 /// The bytes of a journal that are not read yet.
-struct Reader<'a> {
-    rest: &'a [u8],
+pub(crate) struct Reader<'a> {
+    pub(crate) rest: &'a [u8],
 }
 
 impl<'a> Reader<'a> {
-    fn take(&mut self, length: usize) -> Option<&'a [u8]> {
+    pub(crate) fn take(&mut self, length: usize) -> Option<&'a [u8]> {
         let (taken, rest) = self.rest.split_at_checked(length)?;
         self.rest = rest;
         Some(taken)
@@ -280,13 +280,13 @@ impl<'a> Reader<'a> {
     }
 
     /// A section of bytes after its count.
-    fn section(&mut self) -> Option<&'a [u8]> {
+    pub(crate) fn section(&mut self) -> Option<&'a [u8]> {
         let length = self.count()?;
         self.take(length as usize)
     }
 
     /// The compact form of an entry, after its length in two bytes.
-    fn entry(&mut self) -> Option<&'a [u8]> {
+    pub(crate) fn entry(&mut self) -> Option<&'a [u8]> {
         let length = u16::from_be_bytes(self.take(2)?.try_into().ok()?);
         self.take(length as usize)
     }
@@ -302,7 +302,7 @@ impl<'a> Reader<'a> {
     }
 
     /// The start of a pair: a good serial, and a whole receipts count.
-    fn pair(&mut self) -> Option<(&'a [u8], u32)> {
+    pub(crate) fn pair(&mut self) -> Option<(&'a [u8], u32)> {
         let serial = self.section().filter(|serial| serial_good(serial))?;
         Some((serial, self.count()?))
     }

@@ -1,5 +1,6 @@
 //! The rounds of the differential run. A round is made from the seed and its number alone, so that it can be repeated.
 
+mod exports;
 mod limits;
 mod lines;
 mod lists;
@@ -103,7 +104,19 @@ pub fn round(compare: &mut Compare, seed: u64, number: u64) -> Compared<()> {
     for _ in 0..8 {
         round.calls_and_their_steps()?;
     }
-    round.steps_by_design()
+    round.steps_by_design()?;
+    round.exports_of(&written)?;
+    round.exports_by_design()?;
+    round.exports_refused()?;
+    round.texts_read()?;
+    round.texts_refused()?;
+    if round.random.once_in(8) {
+        round.long_exports()?;
+    }
+    if round.random.once_in(16) {
+        round.texts_with_every_change()?;
+    }
+    Ok(())
 }
 
 /// A journal that a list of calls wrote, under what, and the receipts in it.
@@ -570,8 +583,14 @@ impl Round<'_> {
         }
     }
 
-    /// The bytes of an accepted journal, damaged.
+    /// An accepted journal, damaged.
     fn damaged(&mut self, accepted: &Accepted) -> Compared<()> {
+        let journal = self.damaged_journal(accepted);
+        self.take_over(accepted, &journal)
+    }
+
+    /// The bytes of an accepted journal, damaged.
+    fn damaged_journal(&self, accepted: &Accepted) -> Vec<u8> {
         let mut journal = accepted.journal.clone();
         let pairs = pair_places(&journal);
         let entries: Vec<usize> = pairs.iter().flat_map(|pair| &pair.entries).map(|entry| entry.start).collect();
@@ -642,7 +661,7 @@ impl Round<'_> {
                 }
             }
         }
-        self.take_over(accepted, &journal)
+        journal
     }
 
     /// A head or a part of one and random bytes.
@@ -677,9 +696,14 @@ impl Round<'_> {
     /// An accepted journal with some of its parts changed, and mostly chain and counters of what follows made right
     /// again, so that later questions are reached.
     fn rebuilt(&mut self, accepted: &Accepted) -> Compared<()> {
+        let bytes = self.rebuilt_journal(accepted).bytes();
+        self.take_over(accepted, &bytes)
+    }
+
+    fn rebuilt_journal(&self, accepted: &Accepted) -> Journal {
         let mut journal = Journal::of(&accepted.journal);
         if journal.entries().is_empty() {
-            return self.take_over(accepted, &accepted.journal);
+            return journal;
         }
         let mut first = journal.entries().len();
         for _ in 0..self.random.pick(&[1, 1, 1, 2]) {
@@ -721,8 +745,7 @@ impl Round<'_> {
                 journal.chain_right(from);
             }
         }
-        let bytes = journal.bytes();
-        self.take_over(accepted, &bytes)
+        journal
     }
 
     /// Another spelling of one field, mostly a wrong one.

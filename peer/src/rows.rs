@@ -1,8 +1,9 @@
 //! Rows of the test tables that the peer computes: what lies at the limits of request E4 and next to them, both ways to open a
-//! register (request E7), and changes of the certificate (request E5). In their tables they come last, after the published
+//! register (request E7), changes of the certificate (request E5), and exports of several pairs (request E2). In their tables they come last, after the published
 //! rows. The answers are the peer's; the tests ask them of the library, too.
 
 mod change;
+mod exports;
 mod pairs;
 
 use crate::calls::{Calls, Peer, Written};
@@ -15,17 +16,19 @@ use crate::settings::{Name, Settings};
 use crate::text::hex;
 
 pub use change::change_answer;
+pub use exports::{Asked, export_answer};
 
 /// Computes the rows of a table.
 pub type Rows = fn() -> Vec<String>;
 
 /// The tables with such rows, by their place as seen from the peer's folder.
-pub const TABLES: [(&str, Rows); 8] = [
+pub const TABLES: [(&str, Rows); 9] = [
     ("../tests/takeover-pairs.tsv", pairs::takeover_pairs),
     ("../tests/takeover.tsv", takeover),
     ("tests/data/amount.tsv", amount),
     ("tests/data/change.tsv", change::change),
     ("tests/data/code.tsv", code),
+    ("tests/data/export.tsv", exports::exports),
     ("tests/data/issue-limits.tsv", issue_limits),
     ("tests/data/ocr-line.tsv", ocr_line),
     ("tests/data/open.tsv", open),

@@ -195,6 +195,21 @@ fn month_by_month() {
 }
 
 #[test]
+fn export() {
+    vectors::exports::export(&Library);
+}
+
+#[test]
+fn exports_by_hand() {
+    vectors::exports::exports_by_hand(&Library);
+}
+
+#[test]
+fn exports_at_the_limits() {
+    vectors::exports::exports_at_the_limits(&Library);
+}
+
+#[test]
 fn read_by_hand() {
     vectors::read_by_hand(&Library);
 }

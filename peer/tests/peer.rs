@@ -204,6 +204,21 @@ fn month_by_month() {
 }
 
 #[test]
+fn export() {
+    vectors::exports::export(&Peer);
+}
+
+#[test]
+fn exports_by_hand() {
+    vectors::exports::exports_by_hand(&Peer);
+}
+
+#[test]
+fn exports_at_the_limits() {
+    vectors::exports::exports_at_the_limits(&Peer);
+}
+
+#[test]
 fn read_by_hand() {
     vectors::read_by_hand(&Peer);
 }

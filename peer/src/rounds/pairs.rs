@@ -39,8 +39,8 @@ pub(super) fn changed_state(state: &State, serial: &[u8]) -> State {
 /// A journal of several pairs, made of parts, its settings, and the receipts that it was made of.
 #[derive(Clone)]
 pub(super) struct Design {
-    settings: Settings,
-    journal: Journal,
+    pub(super) settings: Settings,
+    pub(super) journal: Journal,
     given: Vec<Given>,
 }
 
@@ -50,16 +50,16 @@ impl Design {
     }
 
     /// All receipts.
-    fn receipts(&self) -> usize {
+    pub(super) fn receipts(&self) -> usize {
         self.journal.entries().len()
     }
 
-    fn serials(&self) -> Vec<Vec<u8>> {
+    pub(super) fn serials(&self) -> Vec<Vec<u8>> {
         self.journal.pairs.iter().map(|pair| pair.serial.clone()).collect()
     }
 
     /// Makes counters and chain right from this entry on.
-    fn right(mut self, from: usize) -> Self {
+    pub(super) fn right(mut self, from: usize) -> Self {
         self.journal.all_right(from, &self.settings);
         self
     }

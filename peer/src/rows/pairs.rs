@@ -18,7 +18,7 @@ fn receipts(number: usize) -> Vec<Given> {
 }
 
 /// A journal with so many receipts in each of its pairs.
-fn journal(counts: &[usize]) -> Journal {
+pub(super) fn journal(counts: &[usize]) -> Journal {
     let settings = short_settings(5);
     let mut rest = receipts(counts.iter().sum::<usize>().max(1)).into_iter();
     let pairs: Vec<(Vec<u8>, Vec<Given>)> =

@@ -1,5 +1,6 @@
 //! The vectors, published ones and those of the peer, asked of either side through the interface.
 
+pub mod exports;
 pub mod steps;
 
 use peer::calls::{Calls, Listed, TakenOver, Written};

@@ -1,0 +1,2 @@
+# src/calls.rs: 6 after all other questions of the reader
+/    fn read_export\(&self, .* -> Exported \{/,/^    }/ s/            return Exported::refused\(6, 0\);/            return match export::read_export(text, key, width as u64, \&mut output.to_vec()) {\n                Ok(_) => Exported::refused(6, 0),\n                Err(refused) => Exported::refused(refused.number, refused.index),\n            };/

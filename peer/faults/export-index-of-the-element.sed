@@ -1,0 +1,2 @@
+# src/export.rs: the index counts the receipts of the element
+s/let state = taken_over\(&journal, key, width\)\?;/let state = taken_over(\&journal, key, width).map_err(|mut refused| {\n        for receipts in elements {\n            if (refused.index as usize) < receipts.len() {\n                break;\n            }\n            refused.index -= receipts.len() as u32;\n        }\n        refused\n    })?;/
