@@ -73,9 +73,9 @@ abbrev pub OtherTextsGet28 : Type 0
 OtherTextsGet28 =
     (text key : List ℕ) (n room : ℕ) → ((es : List Element) → Shape text es → ⊥) → restored text key n room .number ≡ 28
 
--- an output as long as the text is always enough
+-- an output as long as the text is always enough: with a longer one the answer is the same
 abbrev pub TextIsRoomEnough : Type 0
-TextIsRoomEnough = (text key : List ℕ) (n : ℕ) (room : ℕ) → length text ≤ room → restored text key n room .number ≡ 23 → ⊥
+TextIsRoomEnough = (text key : List ℕ) (n size : ℕ) → length text ≤ size → restored text key n size ≡ restored text key n (length text)
 
 -- ---- refused calls, and what follows the text
 
