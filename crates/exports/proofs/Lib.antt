@@ -16,3 +16,4 @@ pub mod PairsBack
 pub mod Copying
 pub mod Exporting
 pub mod ExportAnswers
+pub mod PlainText
