@@ -153,11 +153,13 @@ module _ {A : Type 0} (item : A → List Token) (f : List A → List ℕ) where
             long = l ∙ k .long;
             left = λ xs r s.
                 let b = k .left xs r s in
-                let m = b .3 .more e in
-                (b .0 ++ (m .0 ∷ []), m .1,
-                b .2 ∙ ap (λ (ys : List A). b .0 ++ ys) (m .2) ∙ sym (append-assoc (b .0) (m .0 ∷ []) (m .1)),
-                left-more item (m .0) (m .1) r (m .3) i t,
-                puts-is (sym (h (b .0) (m .0))) (puts-then (b .4) (w (m .0) _ (m .3))));
+                let m = b .3 .more e in (
+                  b .0 ++ (m .0 ∷ []),
+                  m .1,
+                  b .2 ∙ ap (λ (ys : List A). b .0 ++ ys) (m .2) ∙ sym (append-assoc (b .0) (m .0 ∷ []) (m .1)),
+                  left-more item (m .0) (m .1) r (m .3) i t,
+                  puts-is (sym (h (b .0) (m .0))) (puts-then (b .4) (w (m .0) _ (m .3))),
+                );
           }
 
 -- ---- the strings of an array

@@ -104,7 +104,7 @@ module _ (j key : List ℕ) (n : ℕ) (s out : List ℕ) where
   export-refused {t} e h =
       let z : takeOver j key n .number ≡ 0 → ⊥ = λ q. h (ap (λ (x : TakenOver). x .number) e ∙ q) in (
         ap notWritten e ∙ sym (ifZero-no (takeOver j key n .number) (answered (answerWith 28 (exportOf j s) out)) (notWritten (takeOver j key n)) z),
-        sym (ifZero-no (takeOver j key n .number) (bufferWith (exportOf j s) out) out z)
+        sym (ifZero-no (takeOver j key n .number) (bufferWith (exportOf j s) out) out z),
       )
 
   module _ {t : TakenOver} (e : t ≡ takeOver j key n) (z : t .number ≡ 0) where
@@ -161,7 +161,7 @@ module _ (j key : List ℕ) (n : ℕ) (s out : List ℕ) where
           export-full l =
               let c = no-run measured (not-true (r .fits) l) in (
                 sym (answer-is (some whole) text-some ∙ ap answered (written-full out whole c)),
-                measured .kept refl ∙ sym (buffer-is (some whole) text-some ∙ placed-no out whole c)
+                measured .kept refl ∙ sym (buffer-is (some whole) text-some ∙ placed-no out whole c),
               )
 
           -- written
@@ -171,5 +171,5 @@ module _ (j key : List ℕ) (n : ℕ) (s out : List ℕ) where
           export-written l {out₂} {r₂} second =
               let w = two-runs measured (not-false (r .fits) l) (run-puts valid s groups false out₁ out₂ r₂ (subst (λ (m : ℕ). ExportPut false j s m out₁ out₂ r₂) many second)) in (
                 ap (λ (m : ℕ). record { number = 0; index = 0; length = m }) (w .at) ∙ sym (answer-is (some whole) text-some ∙ ap answered (written-room out whole (w .room))),
-                w .is ∙ sym (buffer-is (some whole) text-some ∙ placed-yes out whole (w .room))
+                w .is ∙ sym (buffer-is (some whole) text-some ∙ placed-yes out whole (w .room)),
               )

@@ -85,9 +85,9 @@ exactly-from k buf gs = go (every groupGood (groupsIn k buf) && same (groupsText
 
 pub groups-exactly : GroupsExactly
 groups-exactly k buf gs = (
-    exactly-from k buf gs,
-    λ h. (λ i. groupsOf (sym (h .0) i) (h .2 i)) ∙ groups-read gs (h .1)
-  )
+  exactly-from k buf gs,
+  λ h. (λ i. groupsOf (sym (h .0) i) (h .2 i)) ∙ groups-read gs (h .1),
+)
 
 pub groups-of-there : GroupsOfThere
 groups-of-there k buf t = groups-exactly k buf (t .groups) .1 (t .count, t .good, t .bytes)

@@ -23,11 +23,7 @@ pub mod ElementsTaken
 pub mod EntryLying
 pub mod PlainText
 pub mod NamedRaw
-pub mod Putting
 pub mod Carrying
-pub mod Sized
-pub mod PayloadLetters
-pub mod PayloadMarks
 pub mod PayloadNames
 pub mod ReceiptDots
 pub mod Splits
@@ -41,8 +37,4 @@ pub mod Copying
 pub mod Exporting
 pub mod Promising
 pub mod ExportAnswers
-pub mod TakenAsSpelled
-pub mod ElementsTaken
-pub mod EntryLying
-pub mod RunsAlong
 pub mod RoomEnough

@@ -95,7 +95,7 @@ pub named-raw : {raw w : List ℕ} → Unescaped raw w → named raw ≡ named w
 unfolding named
 named-raw {raw} {w} u =
     let d : decoding UrlSafe (middle raw) ≡ decoding UrlSafe (middle w) =
-        ap (decoding UrlSafe) (middle-is raw) ∙ decoding-both (upto-both (past-both u)) ∙ sym (ap (decoding UrlSafe) (middle-is w)) in
+    ap (decoding UrlSafe) (middle-is raw) ∙ decoding-both (upto-both (past-both u)) ∙ sym (ap (decoding UrlSafe) (middle-is w)) in
     λ i. cond (eqb (count-both u i) 2) (namedBy (d i)) notNamed
 
 -- ---- names that end within their arrays

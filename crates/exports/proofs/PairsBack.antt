@@ -75,9 +75,9 @@ module _ (x : TextPair) (f : PairFits x) (rest : List ℕ) where
   pub pair-in : length (x .serial .bytes) ≡ 32 → serialGood (x .serial) ≡ true → pairIn (pairSpelled x ++ rest) ≡ x
   unfolding pairIn serialAt
   pair-in l g = λ i. record {
-      serial = (ap nameOf pair-name ∙ name-of Serial (x .serial) l g) i;
-      texts = ((λ j. textsIn (pair-count j) (pair-entries j)) ∙ texts-in (x .texts) rest (f .short)) i
-    }
+    serial = (ap nameOf pair-name ∙ name-of Serial (x .serial) l g) i;
+    texts = ((λ j. textsIn (pair-count j) (pair-entries j)) ∙ texts-in (x .texts) rest (f .short)) i;
+  }
 
   pub pair-after : afterPair (pairSpelled x ++ rest) ≡ rest
   unfolding afterPair

@@ -146,7 +146,6 @@ module _ {p : List ℕ} {a e n : ℕ} {b : List ℕ} {i : ℕ} (f : Filling p a 
   long : length (part a e p) ≡ e - a
   long = length-take-le (e - a) (drop a p) (omega (arith, length-drop a p, f .inside))
 
-
   pub filling-inside : i < n → (a + i < length p) × (i < 32)
   filling-inside h = (omega (arith, f .ordered, f .inside, f .most), omega (arith, f .most))
 

@@ -161,8 +161,7 @@ read-exactly = record { only = only; always = always }
     only text key n out z =
         let r = read text key n out z in
         let a = asked-survey (r .elements) (length out) (r .asked) in
-        let e = answer-is text key n out r in
-        (
+        let e = answer-is text key n out r in (
           r .elements,
           record {
             shape = exact text (r .elements) .0 (r .is);

@@ -370,8 +370,7 @@ export-reads-back j key n certificates first second bj bc z each fits =
     let m = made j key n certificates first z in
     let v = accepted-is-valid j key n bj .0 (m .accepted) in
     let same : take (exported j key n certificates first .length) (exportBuffer j key n certificates first) ≡ m .text
-    = (λ i. take (m .long i) (m .buffer i)) ∙ over-front first (m .text) (m .fits) in
-    (
+    = (λ i. take (m .long i) (m .buffer i)) ∙ over-front first (m .text) (m .fits) in (
       ap (λ (t : List ℕ). restored t key n (length second)) same ∙ back j key n certificates v bc (m .text) (m .is) each (m .accepted) second fits,
       ap (λ (t : List ℕ). restoredBuffer t key n second) same ∙ buffer-back j key n certificates v bc (m .text) (m .is) each (m .accepted) second fits,
     )

@@ -122,13 +122,20 @@ element-long : (w : Written) → 69 + length (sizedTexts (w .element .receipts))
 unfolding written object leasts
 element-long w =
     let o = one-of-each w in
-    omega (arith, o, member-long (w .first), member-long (w .second), member-long (w .third)
-    , weight-mark 123 (member (w .first) ++ (mark 44 ∷ (member (w .second) ++ (mark 44 ∷ (member (w .third) ++ (mark 125 ∷ [])))))) refl
-    , weight-append (member (w .first)) (mark 44 ∷ (member (w .second) ++ (mark 44 ∷ (member (w .third) ++ (mark 125 ∷ [])))))
-    , weight-mark 44 (member (w .second) ++ (mark 44 ∷ (member (w .third) ++ (mark 125 ∷ [])))) refl
-    , weight-append (member (w .second)) (mark 44 ∷ (member (w .third) ++ (mark 125 ∷ [])))
-    , weight-mark 44 (member (w .third) ++ (mark 125 ∷ [])) refl
-    , weight-append (member (w .third)) (mark 125 ∷ []), weight-mark 125 [] refl)
+    omega (
+      arith,
+      o,
+      member-long (w .first),
+      member-long (w .second),
+      member-long (w .third),
+      weight-mark 123 (member (w .first) ++ (mark 44 ∷ (member (w .second) ++ (mark 44 ∷ (member (w .third) ++ (mark 125 ∷ [])))))) refl,
+      weight-append (member (w .first)) (mark 44 ∷ (member (w .second) ++ (mark 44 ∷ (member (w .third) ++ (mark 125 ∷ []))))),
+      weight-mark 44 (member (w .second) ++ (mark 44 ∷ (member (w .third) ++ (mark 125 ∷ [])))) refl,
+      weight-append (member (w .second)) (mark 44 ∷ (member (w .third) ++ (mark 125 ∷ []))),
+      weight-mark 44 (member (w .third) ++ (mark 125 ∷ [])) refl,
+      weight-append (member (w .third)) (mark 125 ∷ []),
+      weight-mark 125 [] refl,
+    )
 
 -- the elements' share of the text
 unfoldable spelledSize : List Element → ℕ
@@ -150,8 +157,15 @@ elements-long (w ∷ ws) =
 document-long : (ws : List Written) → spelledSize (elements ws) + 20 ≤ weight (document ws)
 unfolding document groupName
 document-long ws =
-    omega (arith, weight-mark 123 (word groupName ∷ mark 58 ∷ (array written ws ++ (mark 125 ∷ []))) refl, weight-word groupName (mark 58 ∷ (array written ws ++ (mark 125 ∷ [])))
-    , weight-mark 58 (array written ws ++ (mark 125 ∷ [])) refl, weight-append (array written ws) (mark 125 ∷ []), weight-mark 125 [] refl, elements-long ws)
+    omega (
+      arith,
+      weight-mark 123 (word groupName ∷ mark 58 ∷ (array written ws ++ (mark 125 ∷ []))) refl,
+      weight-word groupName (mark 58 ∷ (array written ws ++ (mark 125 ∷ []))),
+      weight-mark 58 (array written ws ++ (mark 125 ∷ [])) refl,
+      weight-append (array written ws) (mark 125 ∷ []),
+      weight-mark 125 [] refl,
+      elements-long ws,
+    )
 
 shape-long : (text : List ℕ) (es : List Element) → Shape text es → spelledSize es + 20 ≤ length text
 shape-long text es s = omega (arith, document-long (s .order), tokens-long (s .spelled), ap spelledSize (s .same))
@@ -162,10 +176,14 @@ pair-short : (e : Element) → namesRegister e ≡ true → length (pairSpelled 
 unfolding pairSpelled pairStart pairOf
 pair-short e h =
     let g = element-names e h in
-    omega (arith, text-short (settingsOf e .serial) (g .serial-long)
-    , length-append (pairStart (settingsOf e .serial) (length (e .receipts))) (sizedTexts (e .receipts))
-    , length-append (section (nameText (settingsOf e .serial))) (bytesOf 4 (length (e .receipts)))
-    , length-section (nameText (settingsOf e .serial)), length-bytesOf 4 (length (e .receipts)))
+    omega (
+      arith,
+      text-short (settingsOf e .serial) (g .serial-long),
+      length-append (pairStart (settingsOf e .serial) (length (e .receipts))) (sizedTexts (e .receipts)),
+      length-append (section (nameText (settingsOf e .serial))) (bytesOf 4 (length (e .receipts))),
+      length-section (nameText (settingsOf e .serial)),
+      length-bytesOf 4 (length (e .receipts)),
+    )
 
 pairs-short : (es : List Element) → every namesRegister es ≡ true → length (pairsSpelled (map pairOf es)) + 29 * length es ≤ spelledSize es
 unfolding pairsSpelled spelledSize
@@ -177,15 +195,26 @@ owner-short : (e : Element) (es : List Element) → namesRegister e ≡ true →
 unfolding ownerText ownerOf
 owner-short e es h =
     let g = element-names e h in
-    omega (arith, g .three, text-short (settingsOf e .id) (g .id-long), length-append (section (settingsOf e .csp)) (section (nameText (settingsOf e .id)))
-    , length-section (settingsOf e .csp), length-section (nameText (settingsOf e .id)))
+    omega (
+      arith,
+      g .three,
+      text-short (settingsOf e .id) (g .id-long),
+      length-append (section (settingsOf e .csp)) (section (nameText (settingsOf e .id))),
+      length-section (settingsOf e .csp),
+      length-section (nameText (settingsOf e .id)),
+    )
 
 pub journal-short : (text : List ℕ) (es : List Element) → Shape text es → not (isEmpty es) ≡ true → every namesRegister es ≡ true → length (journalOf es) ≤ length text
 unfolding journalOf journalSpelled
 journal-short text [] s n h = true-is-not-false n
 journal-short text (e ∷ es) s n h =
-    omega (arith, shape-long text (e ∷ es) s, pairs-short (e ∷ es) h, owner-short e es (every-head namesRegister e es h)
-    , length-append (ownerText (ownerOf (e ∷ es))) (pairsSpelled (map pairOf (e ∷ es))))
+    omega (
+      arith,
+      shape-long text (e ∷ es) s,
+      pairs-short (e ∷ es) h,
+      owner-short e es (every-head namesRegister e es h),
+      length-append (ownerText (ownerOf (e ∷ es))) (pairsSpelled (map pairOf (e ∷ es))),
+    )
 
 -- ---- the answer
 

@@ -18,21 +18,21 @@ sub-base64-decode : tie.Need-sub-base64-decode
 sub-base64-decode c =
     let start = c .before .before .before in
     let h = lent-inside (start .args .m .now) (start .args .i) (start .pre) (c .before .if1 .e)
-        (⊎-elim (λ w. inl (w .0 .taken, w .1)) (λ w. inr (w .0 .left, w .1)) (c .before .if1 .came)) in
+    (⊎-elim (λ w. inl (w .0 .taken, w .1)) (λ w. inr (w .0 .left, w .1)) (c .before .if1 .came)) in
     search needs
 
 part-base64-decode-start : tie.Need-part-base64-decode-start
 part-base64-decode-start c =
     let start = c .before .before .before in
     let h = lent-inside (start .args .m .now) (start .args .i) (start .pre) (c .before .if1 .e)
-        (⊎-elim (λ w. inl (w .0 .taken, w .1)) (λ w. inr (w .0 .left, w .1)) (c .before .if1 .came)) in
+    (⊎-elim (λ w. inl (w .0 .taken, w .1)) (λ w. inr (w .0 .left, w .1)) (c .before .if1 .came)) in
     search needs
 
 part-base64-decode-end : tie.Need-part-base64-decode-end
 part-base64-decode-end c =
     let start = c .before .before .before in
     let h = lent-inside (start .args .m .now) (start .args .i) (start .pre) (c .before .if1 .e)
-        (⊎-elim (λ w. inl (w .0 .taken, w .1)) (λ w. inr (w .0 .left, w .1)) (c .before .if1 .came)) in
+    (⊎-elim (λ w. inl (w .0 .taken, w .1)) (λ w. inr (w .0 .left, w .1)) (c .before .if1 .came)) in
     search needs
 
 slice-aggregate-base64-decode : tie.Need-slice-aggregate-base64-decode

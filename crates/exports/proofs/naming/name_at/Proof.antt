@@ -18,7 +18,7 @@ sub-len : tie.Need-sub-len Inv-loop μ-loop
 sub-len c = c .before .pre .1
 
 loop-holds : tie.Need-loop-holds Inv-loop μ-loop
-loop-holds c = 
+loop-holds c =
     let pre = c .before .before .pre in
     filling-start _ _ _ _ (pre .1) (pre .2) (⊎-elim (λ w. inl (w .0 .taken, w .1)) (λ w. inr (w .0 .left, w .1)) (c .if1 .came))
 

@@ -35,7 +35,7 @@ loop-less : tie.Need-loop-less Inv-loop μ-loop
 loop-less c = search needs
 
 loop-again : tie.Need-loop-again Inv-loop μ-loop
-loop-again c = 
+loop-again c =
     let loop = c .before .before .before in (
       omega (arith, c .before .before .loop-test .taken),
       place-next _ _ _ (loop .loop .inv .1) (loop .before .payload-length .ensures) (c .before .next-mark .ensures)
