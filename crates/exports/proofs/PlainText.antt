@@ -106,6 +106,7 @@ module _ (e : Element) where
       (text-append (member m) _ ∙ (λ i. first-is i ++ (text-mark 44 (member n ++ (mark 44 ∷ (member o ++ (mark 125 ∷ [])))) refl
       ∙ ap (λ (l : List ℕ). 44 ∷ l) (text-append (member n) _ ∙ (λ k. second-is k ++ (text-mark 44 (member o ++ (mark 125 ∷ [])) refl
       ∙ ap (λ (l : List ℕ). 44 ∷ l) (text-append (member o) (mark 125 ∷ []) ∙ (λ h. third-is h ++ text-last 125 refl h))) k))) i))
+
   apart : 123 ∷ (certificate-part ++ (44 ∷ (issuers-part ++ (44 ∷ (receipts-part ++ (125 ∷ []))))))
       ≡ 123 ∷ (quoted certificateName ++ (58 ∷ (quoted (e .certificate) ++ (44 ∷ (quoted issuersName ++ (58 ∷ (91 ∷ (listed quoted false (e .issuers)
       ++ (93 ∷ (44 ∷ (quoted receiptsName ++ (58 ∷ (91 ∷ (listed quoted false (e .receipts) ++ (93 ∷ (125 ∷ []))))))))))))))))
