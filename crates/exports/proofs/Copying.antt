@@ -1,12 +1,12 @@
 -- Loops that copy texts from a buffer as the items of a list.
-use Prim.Native.Nat.{ℕ, zero, suc, _+_, _-_, _≤_, _<_}
+use Prim.Native.Nat.{ℕ, suc, _+_, _-_, _≤_, _<_}
 use mathlib.Core.Path.{_≡_, refl, sym, ap, _∙_, subst}
-use mathlib.Core.Bool.{Bool, true, false, cond}
+use mathlib.Core.Bool.{Bool, true, false}
 use mathlib.Core.List.{List, [], _∷_, _++_, map, append-assoc, append-nil}
 use native.Mathlib.Omega.{arith}
 use borrow.Author.Tests.{lt-ltb}
 use lib.Dec.{ltb}
-use lib.ListN.{length, take, drop, length-append}
+use lib.ListN.{length, take, drop}
 use lib.Seq.{drop-at, take-at, drop-drop}
 use Rattle.primitives.specs.Number.{bytesOf}
 use Rattle.primitives.proofs.Numbers.{length-bytesOf}
@@ -79,18 +79,18 @@ module _ (item : List ℕ → List ℕ) where
 
   pub copies-start : (d : Bool) (j : List ℕ) (from count : ℕ) (out : List ℕ) (p : End) {end : End} → end ≡ moved (length out) p 0 → Copies d j from count out end out end from 0
   copies-start d j from count out p {end} e = record {
-      few = omega arith;
-      long = refl;
-      is = λ ws rest h l q. record {
-        left = ws;
-        done = [];
-        many = omega (arith, l);
-        brief = h;
-        here = q;
-        put = subst (λ (x : End). Puts d out out x x []) (sym e) (puts-still (puts-nothing d out p));
-        whole = refl
-      }
-    }
+    few = omega arith;
+    long = refl;
+    is = λ ws rest h l q. record {
+      left = ws;
+      done = [];
+      many = omega (arith, l);
+      brief = h;
+      here = q;
+      put = subst (λ (x : End). Puts d out out x x []) (sym e) (puts-still (puts-nothing d out p));
+      whole = refl;
+    };
+  }
 
   module _ {d : Bool} {j : List ℕ} {from count : ℕ} {out₀ : List ℕ} {p : End} {out : List ℕ} {end : End} {a i : ℕ} (t : Copies d j from count out₀ p out end a i) where
     pub record Next (tail : List ℕ) (ws : List (List ℕ)) (rest : List ℕ) (u : Underway d count i out₀ out p end tail ws rest) : Type 0 where
@@ -109,14 +109,14 @@ module _ (item : List ℕ → List ℕ) where
             → u .done ++ listed item (ltb 0 i) l ≡ listed item false ws → Next tail ws rest u
         go [] m b q w = absurd (omega (arith, m))
         go (x ∷ l) m b q w = record {
-            text = x;
-            others = l;
-            many = omega (arith, m);
-            brief = every-head short x l b;
-            briefs = every-tail short x l b;
-            here = q ∙ ap (λ (y : List ℕ). y ++ rest) (sized-cons x l) ∙ append-assoc (entryText x) (sizedTexts l) rest;
-            whole = w
-          }
+          text = x;
+          others = l;
+          many = omega (arith, m);
+          brief = every-head short x l b;
+          briefs = every-tail short x l b;
+          here = q ∙ ap (λ (y : List ℕ). y ++ rest) (sized-cons x l) ∙ append-assoc (entryText x) (sizedTexts l) rest;
+          whole = w;
+        }
 
     module _ (more : i < count) {e : ℕ} (r : SizedRead j a e) where
       -- a text is missing
@@ -129,23 +129,23 @@ module _ (item : List ℕ → List ℕ) where
       pub copies-more : {out₁ : List ℕ} {end₁ : End} → Puts d out out₁ end end₁ (comma (ltb 0 i) ++ item (take (e - (a + 2)) (drop (a + 2) j)))
           → Copies d j from count out₀ p out₁ end₁ e (i + 1)
       copies-more {out₁} {end₁} w = record {
-          few = omega arith;
-          long = w .long ∙ t .long;
-          is = λ ws rest h l q.
-              let u = t .is ws rest h l q in
-              let n = next more (drop a j) ws rest u in
-              let y = r .complete (n .text) (sizedTexts (n .others) ++ rest) (n .brief) (n .here) in
-              let s = piece-is j a e (n .text) (sizedTexts (n .others) ++ rest) (n .here) (y .2) in
-              record {
-                left = n .others;
-                done = u .done ++ (comma (ltb 0 i) ++ item (n .text));
-                many = omega (arith, n .many);
-                brief = n .briefs;
-                here = y .1;
-                put = puts-then (u .put) (puts-is (ap (λ (x : List ℕ). comma (ltb 0 i) ++ item x) s) w);
-                whole = whole-more item i (u .done) (n .text) (n .others) (n .whole)
-              }
-        }
+        few = omega arith;
+        long = w .long ∙ t .long;
+        is = λ ws rest h l q.
+            let u = t .is ws rest h l q in
+            let n = next more (drop a j) ws rest u in
+            let y = r .complete (n .text) (sizedTexts (n .others) ++ rest) (n .brief) (n .here) in
+            let s = piece-is j a e (n .text) (sizedTexts (n .others) ++ rest) (n .here) (y .2) in
+            record {
+              left = n .others;
+              done = u .done ++ (comma (ltb 0 i) ++ item (n .text));
+              many = omega (arith, n .many);
+              brief = n .briefs;
+              here = y .1;
+              put = puts-then (u .put) (puts-is (ap (λ (x : List ℕ). comma (ltb 0 i) ++ item x) s) w);
+              whole = whole-more item i (u .done) (n .text) (n .others) (n .whole);
+            };
+      }
 
     -- all are copied
     pub copies-end : count ≤ i → {start : End} → p ≡ moved (length out₀) start 0 → (ws : List (List ℕ)) (rest : List ℕ) → every short ws ≡ true → count ≡ length ws
@@ -158,10 +158,10 @@ module _ (item : List ℕ → List ℕ) where
             → done ++ listed item (ltb 0 i) l ≡ listed item false ws → Puts d out₀ out start end (listed item false ws) × (drop a j ≡ rest)
         go (x ∷ l) z done w q all = absurd (omega arith)
         go [] z done w q all = (
-            puts-then (subst (λ (x : End). Puts d out₀ out₀ start x []) (sym e) (puts-nothing d out₀ start))
-            (puts-is (sym (append-nil done) ∙ ap (λ (l : List ℕ). done ++ l) (sym (listed-nil item (ltb 0 i))) ∙ all) w),
-            q ∙ ap (λ (l : List ℕ). l ++ rest) sized-nil
-          )
+          puts-then (subst (λ (x : End). Puts d out₀ out₀ start x []) (sym e) (puts-nothing d out₀ start))
+              (puts-is (sym (append-nil done) ∙ ap (λ (l : List ℕ). done ++ l) (sym (listed-nil item (ltb 0 i))) ∙ all) w),
+          q ∙ ap (λ (l : List ℕ). l ++ rest) sized-nil,
+        )
 
 -- ---- receipts, and certificates in BASE64
 
@@ -184,6 +184,6 @@ module _ {d : Bool} {j : List ℕ} {from count : ℕ} {out₀ : List ℕ} {p : E
   pub issuers-whole : Copies inBase64 d j from count out₀ p out end a i → count ≤ i → {start : End} → p ≡ moved (length out₀) start 0
       → IssuersPut d j from count out₀ out start (record { end = end; at = a })
   issuers-whole t m e = record {
-      long = t .long;
-      is = λ ws rest h l q. let x = copies-end inBase64 t m e ws rest h l q in (puts-is (listed-map base64 quoted false ws) (x .0), x .1)
-    }
+    long = t .long;
+    is = λ ws rest h l q. let x = copies-end inBase64 t m e ws rest h l q in (puts-is (listed-map base64 quoted false ws) (x .0), x .1);
+  }

@@ -1,11 +1,10 @@
 -- The answer of `export` and its output, from what the calls in it say.
-use Prim.Native.Nat.{ℕ, _+_, _≤_, _<_}
+use Prim.Native.Nat.{ℕ, _≤_}
 use mathlib.Core.Path.{_≡_, refl, sym, ap, _∙_, subst}
-use mathlib.Core.Bool.{Bool, true, false, cond, not}
+use mathlib.Core.Bool.{Bool, true, false, not}
 use mathlib.Core.List.{List, map}
 use mathlib.Core.Option.{Option, none, some, Option·map}
 use mathlib.Core.Logic.{_↔_}
-use native.Mathlib.Omega.{arith}
 use borrow.Author.Tests.{not-true, not-false}
 use lib.ListN.{length, drop, length-map}
 use Rattle.primitives.specs.Bytes.{AllBytes}
@@ -16,16 +15,14 @@ use Rattle.journal.specs.Head.{sectionEnd}
 use Rattle.journal.specs.State.{used, inEight}
 use Rattle.journal.specs.Checking.{takeOver, accepted}
 use Rattle.journal.specs.Valid.{Owner, Pair, serialsOf, stateAfter, Valid}
-use Rattle.journal.specs.declared.state.State.{State}
 use Rattle.journal.specs.declared.state.TakenOver.{TakenOver}
 use Rattle.journal.proofs.Serials.{used-eight}
 use Rattle.journal.proofs.Placing.{length-serials}
 use Rattle.journal.proofs.Accepting.{accepted-valid, valid-work}
 use Rattle.journal.proofs.AcceptedIsWritten.{names-good}
 use Rattle.journal.proofs.JournalStates.{state-of-journal}
-use Rattle.exports.specs.Shape.{Element}
-use Rattle.exports.specs.Spelled.{TextPair, pairsSpelled, journalSpelled, pairsOf}
-use Rattle.exports.specs.Groups.{Group, groupsOf}
+use Rattle.exports.specs.Spelled.{pairsSpelled, pairsOf}
+use Rattle.exports.specs.Groups.{Group}
 use Rattle.exports.specs.Output.{start, Puts}
 use Rattle.exports.specs.Writing.{exportText, elementsFor, exportOf, answered, notWritten, exported, exportBuffer}
 use Rattle.exports.specs.Passing.{GroupsThere}
@@ -104,7 +101,7 @@ module _ (j key : List ℕ) (n : ℕ) (s out : List ℕ) where
   export-refused {t} e h =
       let z : takeOver j key n .number ≡ 0 → ⊥ = λ q. h (ap (λ (x : TakenOver). x .number) e ∙ q) in (
         ap notWritten e ∙ sym (ifZero-no (takeOver j key n .number) (answered (answerWith 28 (exportOf j s) out)) (notWritten (takeOver j key n)) z),
-        sym (ifZero-no (takeOver j key n .number) (bufferWith (exportOf j s) out) out z)
+        sym (ifZero-no (takeOver j key n .number) (bufferWith (exportOf j s) out) out z),
       )
 
   module _ {t : TakenOver} (e : t ≡ takeOver j key n) (z : t .number ≡ 0) where
@@ -161,7 +158,7 @@ module _ (j key : List ℕ) (n : ℕ) (s out : List ℕ) where
           export-full l =
               let c = no-run measured (not-true (r .fits) l) in (
                 sym (answer-is (some whole) text-some ∙ ap answered (written-full out whole c)),
-                measured .kept refl ∙ sym (buffer-is (some whole) text-some ∙ placed-no out whole c)
+                measured .kept refl ∙ sym (buffer-is (some whole) text-some ∙ placed-no out whole c),
               )
 
           -- written
@@ -171,5 +168,5 @@ module _ (j key : List ℕ) (n : ℕ) (s out : List ℕ) where
           export-written l {out₂} {r₂} second =
               let w = two-runs measured (not-false (r .fits) l) (run-puts valid s groups false out₁ out₂ r₂ (subst (λ (m : ℕ). ExportPut false j s m out₁ out₂ r₂) many second)) in (
                 ap (λ (m : ℕ). record { number = 0; index = 0; length = m }) (w .at) ∙ sym (answer-is (some whole) text-some ∙ ap answered (written-room out whole (w .room))),
-                w .is ∙ sym (buffer-is (some whole) text-some ∙ placed-yes out whole (w .room))
+                w .is ∙ sym (buffer-is (some whole) text-some ∙ placed-yes out whole (w .room)),
               )

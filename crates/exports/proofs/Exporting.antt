@@ -1,7 +1,7 @@
 -- The parts of an export and the whole of it, written one after the other.
-use Prim.Native.Nat.{ℕ, zero, suc, _+_, _-_, _≤_, _<_}
+use Prim.Native.Nat.{ℕ, _+_, _-_, _≤_, _<_}
 use mathlib.Core.Path.{_≡_, refl, sym, ap, _∙_, subst}
-use mathlib.Core.Bool.{Bool, true, false, cond}
+use mathlib.Core.Bool.{Bool, true, false}
 use mathlib.Core.List.{List, [], _∷_, _++_, map, append-assoc, append-nil}
 use native.Mathlib.Omega.{arith}
 use lib.Dec.{ltb}
@@ -18,7 +18,7 @@ use Rattle.journal.proofs.Sections.{length-section}
 use Rattle.exports.specs.Text.{every}
 use Rattle.exports.specs.Spelled.{TextPair, sizedTexts, short, pairSpelled, pairsSpelled}
 use Rattle.exports.specs.Shape.{Element}
-use Rattle.exports.specs.Groups.{Group, groupText, groupsText, groupGood}
+use Rattle.exports.specs.Groups.{Group, groupsText, groupGood}
 use Rattle.exports.specs.Output.{start, moved, Puts}
 use Rattle.exports.specs.Writing.{quoted, listed, base64, opening, beforeCertificate, beforeIssuers, beforeReceipts, ending, certificatesPart, receiptsPart, elementText, exportText, elementFor, elementsFor}
 use Rattle.exports.specs.Passing.{SizedRead}
@@ -27,8 +27,8 @@ use Rattle.exports.specs.Running as running
 use Rattle.exports.specs.declared.output.End.{End}
 use Rattle.exports.specs.declared.writing.Copied.{Copied}
 use Rattle.exports.proofs.Putting.{puts-then, puts-is, puts-nothing, puts-still}
-use Rattle.exports.proofs.Sized.{every-head, every-tail, sized-cons, all, good-texts, group-room, group-many, group-tail, groups-nil, groups-cons}
-use Rattle.exports.proofs.PairsBack.{pair-open, pair-end, pair-count, pair-entries, pairs-nil, pairs-cons}
+use Rattle.exports.proofs.Sized.{every-head, every-tail, sized-cons, all, good-texts, group-room, group-many, group-tail, groups-cons}
+use Rattle.exports.proofs.PairsBack.{pair-open, pair-end, pair-count, pair-entries, pairs-cons}
 use Rattle.exports.proofs.Copying.{piece-is, whole-more, listed-nil}
 
 module _ {d : Bool} {out out₁ : List ℕ} {p a : End} where
@@ -47,12 +47,12 @@ module _ {d : Bool} {out out₁ : List ℕ} {p a : End} where
     pub signing-put : {out₂ out₃ : List ℕ} {b c : End} → Puts d out out₁ p a (comma more) → Puts d out₁ out₂ a b beforeCertificate
         → Puts d out₂ out₃ b c (comma false ++ quoted (base64 (take (e - (at + 2)) (drop (at + 2) s)))) → SigningPut d more s at out out₃ p (record { end = c; at = e })
     signing-put x y z = record {
-        long = z .long ∙ y .long ∙ x .long;
-        is = λ w rest h q.
-            let f = r .complete w rest h q in
-            let i = piece-is s at e w rest q (f .2) in
-            (puts-then x (puts-then y (puts-is (ap (λ (l : List ℕ). quoted (base64 l)) i) z)), f .1)
-      }
+      long = z .long ∙ y .long ∙ x .long;
+      is = λ w rest h q.
+          let f = r .complete w rest h q in
+          let i = piece-is s at e w rest q (f .2) in
+          (puts-then x (puts-then y (puts-is (ap (λ (l : List ℕ). quoted (base64 l)) i) z)), f .1);
+    }
 
 pub signing-none : (d more : Bool) (s : List ℕ) (at : ℕ) (out : List ℕ) (p : End) (r : Copied) {e : ℕ} → SizedRead s at e → e ≡ 0 → SigningPut d more s at out out p r
 signing-none d more s at out p r f z = record { long = refl; is = λ w rest h q. absurd (omega (arith, z, f .complete w rest h q .0)) }
@@ -75,16 +75,16 @@ module _ (d more : Bool) (s : List ℕ) (at : ℕ) (out : List ℕ) (p : End) wh
         → Puts d out₁ out₂ (sg .end) b beforeIssuers → IssuersPut d s (sg .at) (getD s at 0 - 1) out₂ out₃ b t → Puts d out₃ out₄ (t .end) e beforeReceipts
         → GroupPut d more s at out out₄ p (record { end = e; at = t .at })
     group-put {out₁} {out₂} {out₃} {out₄} {sg} {b} {t} {e} x y z v = record {
-        long = v .long ∙ z .long ∙ y .long ∙ x .long;
-        is = λ g rest good q.
-            let k = good-texts g good in
-            let m = group-many s at h g rest q in
-            let l : drop (at + 1) s ≡ entryText (g .certificate) ++ (sizedTexts (g .issuers) ++ rest) =
-            group-tail s at h g rest q ∙ ap (λ (u : List ℕ). u ++ rest) (sized-cons (g .certificate) (g .issuers)) ∙ append-assoc (entryText (g .certificate)) (sizedTexts (g .issuers)) rest in
-            let f = x .is (g .certificate) (sizedTexts (g .issuers) ++ rest) (every-head short (g .certificate) (g .issuers) k) l in
-            let i = z .is (g .issuers) rest (every-tail short (g .certificate) (g .issuers) k) (omega (arith, m)) (f .1) in
-            (puts-is (part-is more (base64 (g .certificate)) (map base64 (g .issuers))) (puts-then (puts-then (puts-then (f .0) y) (i .0)) v), i .1)
-      }
+      long = v .long ∙ z .long ∙ y .long ∙ x .long;
+      is = λ g rest good q.
+          let k = good-texts g good in
+          let m = group-many s at h g rest q in
+          let l : drop (at + 1) s ≡ entryText (g .certificate) ++ (sizedTexts (g .issuers) ++ rest) =
+          group-tail s at h g rest q ∙ ap (λ (u : List ℕ). u ++ rest) (sized-cons (g .certificate) (g .issuers)) ∙ append-assoc (entryText (g .certificate)) (sizedTexts (g .issuers)) rest in
+          let f = x .is (g .certificate) (sizedTexts (g .issuers) ++ rest) (every-head short (g .certificate) (g .issuers) k) l in
+          let i = z .is (g .issuers) rest (every-tail short (g .certificate) (g .issuers) k) (omega (arith, m)) (f .1) in
+          (puts-is (part-is more (base64 (g .certificate)) (map base64 (g .issuers))) (puts-then (puts-then (puts-then (f .0) y) (i .0)) v), i .1);
+    }
 
 -- ---- counts and sections
 
@@ -150,21 +150,21 @@ receipts-is l = refl
 module _ (d : Bool) (j : List ℕ) (at : ℕ) (out : List ℕ) (p : End) {b : ℕ} (sr : SectionRead j at b) where
   pub pair-cut : length j < b + 4 → (r : Copied) → PairPut d j at out out p r
   pair-cut h r = record {
-      long = refl;
-      is = λ x rest f q. let m = pair-room j at x rest f q in absurd (omega (arith, m, h, sr .is (omega (arith, m))))
-    }
+    long = refl;
+    is = λ x rest f q. let m = pair-room j at x rest f q in absurd (omega (arith, m, h, sr .is (omega (arith, m))));
+  }
 
   pub pair-put : {v : ℕ} → FourRead j b v → {out₁ out₂ : List ℕ} {r : Copied} {e : End} → ReceiptsPut d j (b + 4) v out out₁ p r → Puts d out₁ out₂ (r .end) e ending
       → PairPut d j at out out₂ p (record { end = e; at = r .at })
   pair-put {v} four {out₁} {out₂} {r} {e} y z = record {
-      long = z .long ∙ y .long;
-      is = λ x rest f q.
-          let m = pair-room j at x rest f q in
-          let i : b ≡ sectionEnd j at = sr .is (omega (arith, m)) in
-          let c : v ≡ length (x .texts) = four .is (omega (arith, m, i)) ∙ ap (λ (k : ℕ). countAt j k 4) i ∙ pair-many j at x rest f q in
-          let w = y .is (x .texts) rest (f .short) c (ap (λ (k : ℕ). drop (k + 4) j) i ∙ pair-texts j at x rest f q) in
-          (puts-is (receipts-is (x .texts)) (puts-then (w .0) z), w .1)
-    }
+    long = z .long ∙ y .long;
+    is = λ x rest f q.
+        let m = pair-room j at x rest f q in
+        let i : b ≡ sectionEnd j at = sr .is (omega (arith, m)) in
+        let c : v ≡ length (x .texts) = four .is (omega (arith, m, i)) ∙ ap (λ (k : ℕ). countAt j k 4) i ∙ pair-many j at x rest f q in
+        let w = y .is (x .texts) rest (f .short) c (ap (λ (k : ℕ). drop (k + 4) j) i ∙ pair-texts j at x rest f q) in
+        (puts-is (receipts-is (x .texts)) (puts-then (w .0) z), w .1);
+  }
 
 -- ---- elements: `i` of `k` are written
 
@@ -190,22 +190,22 @@ pub record Elements (d : Bool) (j : List ℕ) (at : ℕ) (s : List ℕ) (k : ℕ
 pub elements-start : (d : Bool) (j : List ℕ) (at : ℕ) (s : List ℕ) (k : ℕ) (out : List ℕ) (p : End) {end : End} → end ≡ moved (length out) p 0
     → Elements d j at s k out end out end at 0 0
 elements-start d j at s k out p {end} e = record {
-    few = omega arith;
-    long = refl;
-    is = λ ps gs f h l m q r. record {
-      pairs = ps;
-      groups = gs;
-      done = [];
-      many = omega (arith, l);
-      manys = omega (arith, m);
-      fit = f;
-      good = h;
-      here = q;
-      there = r;
-      put = subst (λ (x : End). Puts d out out x x []) (sym e) (puts-still (puts-nothing d out p));
-      whole = refl
-    }
-  }
+  few = omega arith;
+  long = refl;
+  is = λ ps gs f h l m q r. record {
+    pairs = ps;
+    groups = gs;
+    done = [];
+    many = omega (arith, l);
+    manys = omega (arith, m);
+    fit = f;
+    good = h;
+    here = q;
+    there = r;
+    put = subst (λ (x : End). Puts d out out x x []) (sym e) (puts-still (puts-nothing d out p));
+    whole = refl;
+  };
+}
 
 element-is : (m : Bool) (p : TextPair) (g : Group)
     → (comma m ++ certificatesPart (base64 (g .certificate)) (map base64 (g .issuers))) ++ receiptsPart (p .texts) ≡ comma m ++ elementText (elementFor p g)
@@ -224,12 +224,12 @@ module _ {d : Bool} {j : List ℕ} {at : ℕ} {s : List ℕ} {k : ℕ} {out₀ :
   pub elements-more : i < k → {out₁ out₂ : List ℕ} {x y : Copied} → GroupPut d (ltb 0 i) s g out out₁ end x → PairPut d j a out₁ out₂ (x .end) y
       → Elements d j at s k out₀ p out₂ (y .end) (y .at) (x .at) (i + 1)
   elements-more m {out₁} {out₂} {x} {y} v w = record {
-      few = omega arith;
-      long = w .long ∙ v .long ∙ t .long;
-      is = λ ps gs f h l n q r.
-          let u = t .is ps gs f h l n q r in
-          go ps gs (u .pairs) (u .groups) (u .done) (u .many) (u .manys) (u .fit) (u .good) (u .here) (u .there) (u .put) (u .whole)
-    }
+    few = omega arith;
+    long = w .long ∙ v .long ∙ t .long;
+    is = λ ps gs f h l n q r.
+        let u = t .is ps gs f h l n q r in
+        go ps gs (u .pairs) (u .groups) (u .done) (u .many) (u .manys) (u .fit) (u .good) (u .here) (u .there) (u .put) (u .whole);
+  }
     where
       go : (ps : List TextPair) (gs : List Group) (qs : List TextPair) (hs : List Group) (done : List ℕ) → i + length qs ≡ k → i + length hs ≡ k → AllFit qs → every groupGood hs ≡ true
           → drop a j ≡ pairsSpelled qs → drop g s ≡ groupsText hs → Puts d out₀ out p end done
@@ -250,16 +250,16 @@ module _ {d : Bool} {j : List ℕ} {at : ℕ} {s : List ℕ} {k : ℕ} {out₀ :
             here = e₂ .1;
             there = e₁ .1;
             put = puts-then z (puts-is (element-is (ltb 0 i) b c) (puts-then (e₁ .0) (e₂ .0)));
-            whole = whole-more elementText i done (elementFor b c) (elementsFor qs hs) (ap (λ (es : List Element). done ++ listed elementText (ltb 0 i) es) (sym (elements-cons b qs c hs)) ∙ all)
+            whole = whole-more elementText i done (elementFor b c) (elementsFor qs hs) (ap (λ (es : List Element). done ++ listed elementText (ltb 0 i) es) (sym (elements-cons b qs c hs)) ∙ all);
           }
 
   pub elements-end : k ≤ i → {p₀ : End} → p ≡ moved (length out₀) p₀ 0 → ElementsPut d j at s k out₀ out p₀ end
   elements-end m {p₀} e = record {
-      long = t .long;
-      is = λ ps gs f h l n q r.
-          let u = t .is ps gs f h l n q r in
-          go ps gs (u .pairs) (u .groups) (u .done) (omega (arith, u .many, t .few)) (u .put) (u .whole)
-    }
+    long = t .long;
+    is = λ ps gs f h l n q r.
+        let u = t .is ps gs f h l n q r in
+        go ps gs (u .pairs) (u .groups) (u .done) (omega (arith, u .many, t .few)) (u .put) (u .whole);
+  }
     where
       go : (ps : List TextPair) (gs : List Group) (qs : List TextPair) (hs : List Group) (done : List ℕ) → length qs ≡ 0 → Puts d out₀ out p end done
           → done ++ listed elementText (ltb 0 i) (elementsFor qs hs) ≡ listed elementText false (elementsFor ps gs) → Puts d out₀ out p₀ end (listed elementText false (elementsFor ps gs))
@@ -278,8 +278,8 @@ export-is l es e = ap (λ (x : List ℕ). opening ++ (x ++ ending)) e
 pub export-put : (d : Bool) (j s : List ℕ) (k : ℕ) (out : List ℕ) {at : ℕ} → SectionRead j 7 at → {out₁ out₂ out₃ : List ℕ} {a b e : End} → Puts d out out₁ start a opening
     → ElementsPut d j at s k out₁ out₂ a b → Puts d out₂ out₃ b e ending → ExportPut d j s k out out₃ e
 export-put d j s k out {at} r x y z = record {
-    long = z .long ∙ y .long ∙ x .long;
-    is = λ ps gs f h l m room q g.
-        let w = y .is ps gs f h l m (ap (λ (n : ℕ). drop n j) (r .is room) ∙ q) g in
-        puts-is (export-is (listed elementText false (elementsFor ps gs)) (elementsFor ps gs) refl) (puts-then x (puts-then w z))
-  }
+  long = z .long ∙ y .long ∙ x .long;
+  is = λ ps gs f h l m room q g.
+      let w = y .is ps gs f h l m (ap (λ (n : ℕ). drop n j) (r .is room) ∙ q) g in
+      puts-is (export-is (listed elementText false (elementsFor ps gs)) (elementsFor ps gs) refl) (puts-then x (puts-then w z));
+}

@@ -1,15 +1,15 @@
 -- Laws of runs that measure or write: a run after another, the empty text, and two runs that make a whole.
-use Prim.Native.Nat.{ℕ, zero, _+_, _≤_, _<_}
+use Prim.Native.Nat.{ℕ, _+_, _≤_, _<_}
 use mathlib.Core.Path.{_≡_, refl, sym, ap, _∙_, subst}
 use mathlib.Core.Bool.{Bool, true, false, cond, _&&_}
-use mathlib.Core.List.{List, [], _∷_, _++_}
+use mathlib.Core.List.{List, [], _++_}
 use native.Mathlib.Nat.{add-zero, zero-add}
 use native.Mathlib.Omega.{arith}
 use borrow.Author.Tests.{leb-true, le-leb, lt-leb, leb-false}
 use lib.Dec.{leb}
 use lib.ListN.{length, length-append}
 use Rattle.primitives.specs.Place.{overwrite, placed, room}
-use Rattle.primitives.proofs.Over.{over-nil, length-over, then, placed-room, room-true, room-false, length-placed}
+use Rattle.primitives.proofs.Over.{over-nil, then, placed-room, room-true, length-placed}
 use Rattle.primitives.proofs.Rows.{true-is-not-false}
 use Rattle.exports.specs.Output.{noRoom, start, moved, Puts}
 use Rattle.exports.specs.declared.output.End.{End}
@@ -81,12 +81,12 @@ moved-moved size p n m = go (p .fits) (leb (p .at + n) size) refl refl
 pub puts-then : {d : Bool} {out out₁ out₂ : List ℕ} {p q r : End} {y z : List ℕ} → Puts d out out₁ p q y → Puts d out₁ out₂ q r z
     → Puts d out out₂ p r (y ++ z)
 puts-then {d} {out} {out₁} {out₂} {p} {q} {r} {y} {z} a b = record {
-    end = b .end ∙ (λ i. moved (a .long i) (a .end i) (length z)) ∙ moved-moved (length out) p (length y) (length z)
-        ∙ ap (moved (length out) p) (sym (length-append y z));
-    long = b .long ∙ a .long;
-    kept = λ e. b .kept e ∙ a .kept e;
-    done = both
-  }
+  end = b .end ∙ (λ i. moved (a .long i) (a .end i) (length z)) ∙ moved-moved (length out) p (length y) (length z)
+      ∙ ap (moved (length out) p) (sym (length-append y z));
+  long = b .long ∙ a .long;
+  kept = λ e. b .kept e ∙ a .kept e;
+  done = both;
+}
   where
     both : d ≡ false → r .fits ≡ true → out₂ ≡ overwrite out (p .at) (y ++ z)
     both e f =
@@ -110,11 +110,11 @@ moved-still size p n = moved-moved size p n 0 ∙ ap (moved size p) (add-zero n)
 
 pub puts-still : {d : Bool} {out out′ : List ℕ} {p r : End} {y : List ℕ} → Puts d out out′ p r y → Puts d out′ out′ r r []
 puts-still {d} {out} {out′} {p} {r} {y} a = record {
-    end = a .end ∙ sym (moved-still (length out) p (length y)) ∙ sym (λ i. moved (a .long i) (a .end i) 0);
-    long = refl;
-    kept = λ e. refl;
-    done = λ e f. sym (over-nil out′ (r .at))
-  }
+  end = a .end ∙ sym (moved-still (length out) p (length y)) ∙ sym (λ i. moved (a .long i) (a .end i) 0);
+  long = refl;
+  kept = λ e. refl;
+  done = λ e f. sym (over-nil out′ (r .at));
+}
 
 -- ---- two runs: the first measures, the second writes
 
@@ -132,7 +132,7 @@ two-runs {out} {out₁} {out₂} {r} {s} {y} a f b =
     record {
       room = room-true out 0 y (o .room);
       at = ap (λ (x : End). x .at) (a .end) ∙ o .at ∙ zero-add (length y);
-      is = b .done refl (ap (λ (x : End). x .fits) same ∙ f) ∙ ap (λ (l : List ℕ). overwrite l 0 y) (a .kept refl)
+      is = b .done refl (ap (λ (x : End). x .fits) same ∙ f) ∙ ap (λ (l : List ℕ). overwrite l 0 y) (a .kept refl);
     }
 
 -- a run that does not fit
@@ -166,5 +166,5 @@ module _ (out : List ℕ) (p r : End) (y : List ℕ) (n : ℕ) (l : length y ≡
         end = end-is;
         long = ap length w ∙ length-placed out (p .at) y;
         kept = λ k. true-is-not-false (sym h ∙ k);
-        done = λ k g. w ∙ placed-room out (p .at) y (onward (length out) p (length y) t .room)
+        done = λ k g. w ∙ placed-room out (p .at) y (onward (length out) p (length y) t .room);
       }

@@ -1,5 +1,5 @@
 -- Texts after their lengths in two bytes, read at a place of a buffer; and groups of them.
-use Prim.Native.Nat.{ℕ, zero, suc, _+_, _-_, _≤_, _<_}
+use Prim.Native.Nat.{ℕ, suc, _+_, _-_, _≤_, _<_}
 use mathlib.Core.Path.{_≡_, refl, sym, ap, _∙_, subst}
 use mathlib.Core.Bool.{Bool, true, false, _&&_}
 use mathlib.Core.List.{List, [], _∷_, _++_, append-assoc, append-nil}
@@ -9,15 +9,15 @@ use native.Mathlib.Omega.{arith}
 use borrow.Author.Tests.{leb-true, le-leb, eq-eqb, eqb-true}
 use lib.Dec.{leb, eqb}
 use lib.ListN.{length, take, drop, getD, length-append, length-drop, drop-of-length-le}
-use lib.Seq.{drop-at, drop-drop, drop-cons, getD-drop}
+use lib.Seq.{drop-at, drop-drop, drop-cons}
 use Rattle.primitives.specs.Bytes.{AllBytes}
 use Rattle.primitives.specs.Number.{countAt, numberAt}
 use Rattle.primitives.specs.declared.buffer.Number.the-variants.{Is, Missing}
 use Rattle.primitives.proofs.Rows.{both, true-is-not-false}
-use Rattle.primitives.proofs.Numbers.{number-found, number-short}
+use Rattle.primitives.proofs.Numbers.{number-found}
 use Rattle.primitives.proofs.Counts.{count-found, count-missing}
 use Rattle.journal.specs.Head.{entryText, lengthAt, textAt, there}
-use Rattle.journal.proofs.Places.{length-entry, length-at, there-at, length-text, text-short, there-entry}
+use Rattle.journal.proofs.Places.{length-entry, length-at, length-text, text-short, there-entry}
 use Rattle.exports.specs.Text.{every}
 use Rattle.exports.specs.Spelled.{sizedTexts, short}
 use Rattle.exports.specs.Groups.{Group, groupText, groupsText, groupGood}
@@ -88,11 +88,11 @@ module _ (s : List ℕ) (at : ℕ) where
   -- none: the length is not there
   pub sized-none : numberAt s at 2 ≡ Missing → SizedRead s at 0
   sized-none e = record {
-      inside = omega arith;
-      onward = λ h. absurd (omega arith);
-      sound = λ h. absurd (omega arith);
-      complete = λ t rest h q. count-missing s at 2 (omega arith) (omega (arith, room-there t rest q)) e
-    }
+    inside = omega arith;
+    onward = λ h. absurd (omega arith);
+    sound = λ h. absurd (omega arith);
+    complete = λ t rest h q. count-missing s at 2 (omega arith) (omega (arith, room-there t rest q)) e;
+  }
 
   module _ (b : AllBytes s) {v : ℕ} (e : numberAt s at 2 ≡ Is v) where
     length-is : v ≡ lengthAt s at
@@ -105,11 +105,11 @@ module _ (s : List ℕ) (at : ℕ) where
     -- none: the text is not all there
     pub sized-cut : length s < at + 2 + v → SizedRead s at 0
     sized-cut h = record {
-        inside = omega arith;
-        onward = λ k. absurd (omega arith);
-        sound = λ k. absurd (omega arith);
-        complete = λ t rest g q. absurd (omega (arith, room-there t rest q, length-there t rest g q, length-is))
-      }
+      inside = omega arith;
+      onward = λ k. absurd (omega arith);
+      sound = λ k. absurd (omega arith);
+      complete = λ t rest g q. absurd (omega (arith, room-there t rest q, length-there t rest g q, length-is));
+    }
 
     module _ (h : at + 2 + v ≤ length s) where
       here : there s at ≡ true
@@ -125,11 +125,11 @@ module _ (s : List ℕ) (at : ℕ) where
 
       pub sized-whole : {r : ℕ} → r ≡ at + 2 + v → SizedRead s at r
       sized-whole {r} p = record {
-          inside = omega (arith, p);
-          onward = λ k. omega (arith, p);
-          sound = λ k. (textAt s at, lt-short _ (text-short s b at here), is, part, ends);
-          complete = λ t rest g q. (omega (arith, p), ap (λ (n : ℕ). drop n s) (at-end t rest g q) ∙ after-there t rest q, at-end t rest g q)
-        }
+        inside = omega (arith, p);
+        onward = λ k. omega (arith, p);
+        sound = λ k. (textAt s at, lt-short _ (text-short s b at here), is, part, ends);
+        complete = λ t rest g q. (omega (arith, p), ap (λ (n : ℕ). drop n s) (at-end t rest g q) ∙ after-there t rest q, at-end t rest g q);
+      }
         where
           ends : r ≡ at + 2 + length (textAt s at)
           ends = omega (arith, p, long, length-is)
@@ -163,15 +163,15 @@ pub record Texts (s : List ℕ) (from count p i : ℕ) : Type 0 where
 module _ (s : List ℕ) (from count : ℕ) where
   pub texts-start : from ≤ length s → Texts s from count from 0
   texts-start h = record {
-      inside = h;
-      onward = omega arith;
-      few = omega arith;
-      done = [];
-      many = refl;
-      brief = every-nil short;
-      sound = ap (λ (l : List ℕ). l ++ drop from s) (sym sized-nil);
-      left = λ ts rest e g q. record { texts = ts; many = omega (arith, e); brief = g; is = q }
-    }
+    inside = h;
+    onward = omega arith;
+    few = omega arith;
+    done = [];
+    many = refl;
+    brief = every-nil short;
+    sound = ap (λ (l : List ℕ). l ++ drop from s) (sym sized-nil);
+    left = λ ts rest e g q. record { texts = ts; many = omega (arith, e); brief = g; is = q };
+  }
 
   module _ {p i : ℕ} (t : Texts s from count p i) (more : i < count) {q : ℕ} (r : SizedRead s p q) where
     -- the next text is there
@@ -185,10 +185,15 @@ module _ (s : List ℕ) (from count : ℕ) where
         let f = first-left rest l (l .texts) refl in
         let w = f .0 in
         let ws = f .1 in
-        let g : every short (w ∷ ws) ≡ true = subst (λ (us : List (List ℕ)). every short us ≡ true) (f .2) (l .brief) in
-        (w, ws, omega (arith, l .many, ap length (f .2)), every-head short w ws g, every-tail short w ws g,
-         l .is ∙ ap (λ (us : List (List ℕ)). sizedTexts us ++ rest) (f .2) ∙ ap (λ (x : List ℕ). x ++ rest) (sized-cons w ws)
-         ∙ append-assoc (entryText w) (sizedTexts ws) rest)
+        let g : every short (w ∷ ws) ≡ true = subst (λ (us : List (List ℕ)). every short us ≡ true) (f .2) (l .brief) in (
+          w,
+          ws,
+          omega (arith, l .many, ap length (f .2)),
+          every-head short w ws g,
+          every-tail short w ws g,
+          l .is ∙ ap (λ (us : List (List ℕ)). sizedTexts us ++ rest) (f .2) ∙ ap (λ (x : List ℕ). x ++ rest) (sized-cons w ws)
+              ∙ append-assoc (entryText w) (sizedTexts ws) rest,
+        )
 
     -- no text: there are not so many
     pub texts-none : q ≡ 0 → (ts : List (List ℕ)) (rest : List ℕ) → length ts ≡ count → every short ts ≡ true → drop from s ≡ sizedTexts ts ++ rest → ⊥
@@ -214,7 +219,7 @@ module _ (s : List ℕ) (from count : ℕ) where
           left = λ ts rest e g h.
               let x = split-left rest (t .left ts rest e g h) in
               let y = r .complete (x .0) (sizedTexts (x .1) ++ rest) (x .3) (x .5) in
-              record { texts = x .1; many = omega (arith, x .2); brief = x .4; is = y .1 }
+              record { texts = x .1; many = omega (arith, x .2); brief = x .4; is = y .1 };
         }
 
   -- all of them
@@ -264,11 +269,11 @@ module _ (s : List ℕ) (at : ℕ) where
 
   pub group-none : length s ≤ at → GroupRead s at 0
   group-none h = record {
-      inside = omega arith;
-      onward = λ k. absurd (omega arith);
-      sound = λ k. absurd (omega arith);
-      complete = λ g rest e q. absurd (omega (arith, group-room g rest q))
-    }
+    inside = omega arith;
+    onward = λ k. absurd (omega arith);
+    sound = λ k. absurd (omega arith);
+    complete = λ g rest e q. absurd (omega (arith, group-room g rest q));
+  }
 
   module _ (h : at < length s) where
     opened : drop at s ≡ getD s at 0 ∷ drop (at + 1) s
@@ -282,36 +287,38 @@ module _ (s : List ℕ) (at : ℕ) where
 
     pub group-zero : getD s at 0 ≡ 0 → GroupRead s at 0
     group-zero z = record {
-        inside = omega arith;
-        onward = λ k. absurd (omega arith);
-        sound = λ k. absurd (omega arith);
-        complete = λ g rest e q. absurd (omega (arith, z, group-many g rest q))
-      }
+      inside = omega arith;
+      onward = λ k. absurd (omega arith);
+      sound = λ k. absurd (omega arith);
+      complete = λ g rest e q. absurd (omega (arith, z, group-many g rest q));
+    }
 
     module _ {count p i : ℕ} (c : count ≡ getD s at 0) (t : Texts s (at + 1) count p i) where
       pub group-cut : i < count → {q : ℕ} → SizedRead s p q → q ≡ 0 → GroupRead s at 0
       group-cut m r z = record {
-          inside = omega arith;
-          onward = λ k. absurd (omega arith);
-          sound = λ k. absurd (omega arith);
-          complete = λ g rest e q.
-              absurd (texts-none s (at + 1) count t m r z (all g) rest (sym (group-many g rest q) ∙ sym c) (good-texts g e) (group-tail g rest q))
-        }
+        inside = omega arith;
+        onward = λ k. absurd (omega arith);
+        sound = λ k. absurd (omega arith);
+        complete = λ g rest e q.
+            absurd (texts-none s (at + 1) count t m r z (all g) rest (sym (group-many g rest q) ∙ sym c) (good-texts g e) (group-tail g rest q));
+      }
 
       pub group-whole : 0 < count → count < 256 → count ≤ i → GroupRead s at p
       group-whole some few m = record {
-          inside = t .inside;
-          onward = λ k. omega (arith, t .onward);
-          sound = λ k. found (t .done) (omega (arith, t .many, t .few)) (t .brief) (t .sound);
-          complete = λ g rest e q. (omega (arith, t .onward), texts-end s (at + 1) count t m (all g) rest (sym (group-many g rest q) ∙ sym c) (good-texts g e) (group-tail g rest q))
-        }
+        inside = t .inside;
+        onward = λ k. omega (arith, t .onward);
+        sound = λ k. found (t .done) (omega (arith, t .many, t .few)) (t .brief) (t .sound);
+        complete = λ g rest e q. (omega (arith, t .onward), texts-end s (at + 1) count t m (all g) rest (sym (group-many g rest q) ∙ sym c) (good-texts g e) (group-tail g rest q));
+      }
         where
           found : (ds : List (List ℕ)) → length ds ≡ count → every short ds ≡ true → drop (at + 1) s ≡ sizedTexts ds ++ drop p s
               → (g : Group) × (groupGood g ≡ true) × (drop at s ≡ groupText g ++ drop p s)
           found [] l e q = absurd (omega (arith, l))
-          found (d ∷ ds) l e q =
-              (record { certificate = d; issuers = ds }, group-good (record { certificate = d; issuers = ds }) (omega (arith, l)) e,
-               opened ∙ (λ j. (sym c ∙ sym l) j ∷ q j) ∙ ap (λ (x : List ℕ). x ++ drop p s) (sym (group-is (record { certificate = d; issuers = ds }))))
+          found (d ∷ ds) l e q = (
+            record { certificate = d; issuers = ds },
+            group-good (record { certificate = d; issuers = ds }) (omega (arith, l)) e,
+            opened ∙ (λ j. (sym c ∙ sym l) j ∷ q j) ∙ ap (λ (x : List ℕ). x ++ drop p s) (sym (group-is (record { certificate = d; issuers = ds }))),
+          )
 
 -- ---- groups one after the other: `i` of `k` groups are passed
 
@@ -346,14 +353,14 @@ pub record Passed (s : List ℕ) (k p i : ℕ) : Type 0 where
 module _ (s : List ℕ) (k : ℕ) where
   pub passed-start : Passed s k 0 0
   passed-start = record {
-      inside = omega arith;
-      few = omega arith;
-      done = [];
-      many = refl;
-      good = every-nil groupGood;
-      sound = ap (λ (l : List ℕ). l ++ s) (sym groups-nil);
-      left = λ g. record { groups = g .groups; many = omega (arith, g .count); good = g .good; is = g .bytes }
-    }
+    inside = omega arith;
+    few = omega arith;
+    done = [];
+    many = refl;
+    good = every-nil groupGood;
+    sound = ap (λ (l : List ℕ). l ++ s) (sym groups-nil);
+    left = λ g. record { groups = g .groups; many = omega (arith, g .count); good = g .good; is = g .bytes };
+  }
 
   module _ {p i : ℕ} (t : Passed s k p i) (more : i < k) {q : ℕ} (r : GroupRead s p q) where
     first-group : (hs : List Group) → i + length hs ≡ k → every groupGood hs ≡ true → drop p s ≡ groupsText hs
@@ -385,7 +392,7 @@ module _ (s : List ℕ) (k : ℕ) where
               let l = t .left g in
               let x = first-group (l .groups) (l .many) (l .good) (l .is) in
               let y = r .complete (x .0) (groupsText (x .1)) (x .3) (x .5) in
-              record { groups = x .1; many = omega (arith, x .2); good = x .4; is = y .1 }
+              record { groups = x .1; many = omega (arith, x .2); good = x .4; is = y .1 };
         }
 
     pub groups-cut : q ≡ 0 → (false ≡ true) ↔ GroupsThere k s
@@ -393,14 +400,14 @@ module _ (s : List ℕ) (k : ℕ) where
 
   pub groups-whole : {p i : ℕ} → Passed s k p i → k ≤ i → (eqb p (length s) ≡ true) ↔ GroupsThere k s
   groups-whole {p} {i} t m = (
-      λ e. record {
-        groups = t .done;
-        count = omega (arith, t .many, t .few);
-        good = t .good;
-        bytes = t .sound ∙ ap (λ (l : List ℕ). groupsText (t .done) ++ l) (drop-of-length-le s {i = p} (omega (arith, eqb-true p (length s) e))) ∙ append-nil (groupsText (t .done))
-      },
-      λ g. let l = t .left g in eq-eqb p (length s) (omega (arith, length-drop p s, t .inside, nothing (l .groups) (omega (arith, l .many, t .few)) (l .is)))
-    )
+    λ e. record {
+      groups = t .done;
+      count = omega (arith, t .many, t .few);
+      good = t .good;
+      bytes = t .sound ∙ ap (λ (l : List ℕ). groupsText (t .done) ++ l) (drop-of-length-le s {i = p} (omega (arith, eqb-true p (length s) e))) ∙ append-nil (groupsText (t .done));
+    },
+    λ g. let l = t .left g in eq-eqb p (length s) (omega (arith, length-drop p s, t .inside, nothing (l .groups) (omega (arith, l .many, t .few)) (l .is))),
+  )
     where
       nothing : (hs : List Group) → length hs ≡ 0 → drop p s ≡ groupsText hs → length (drop p s) ≡ 0
       nothing [] z h = ap length (h ∙ groups-nil)

@@ -59,7 +59,14 @@ pub(crate) fn put_certificate(dry: bool, more: bool, s: &[u8], out: &mut [u8], p
 }
 
 // So many entries from a place in the journal on.
-pub(crate) fn put_receipts(dry: bool, j: &[u8], at: usize, count: usize, out: &mut [u8], p: End) -> Copied
+pub(crate) fn put_receipts(
+    dry: bool,
+    j: &[u8],
+    at: usize,
+    count: usize,
+    out: &mut [u8],
+    p: End,
+) -> Copied
     ensures { λ r. ⌜ ReceiptsPut dry (now (j .entry)) at count (now (out .entry)) (now (out .exit)) p r ⌝ }
 {
     let mut end = moved(out.len(), p, 0);
@@ -79,7 +86,14 @@ pub(crate) fn put_receipts(dry: bool, j: &[u8], at: usize, count: usize, out: &m
 }
 
 // So many certificates from a place in the groups on, each as a string in BASE64.
-pub(crate) fn put_issuers(dry: bool, groups: &[u8], at: usize, count: usize, out: &mut [u8], p: End) -> Copied
+pub(crate) fn put_issuers(
+    dry: bool,
+    groups: &[u8],
+    at: usize,
+    count: usize,
+    out: &mut [u8],
+    p: End,
+) -> Copied
     ensures { λ r. ⌜ IssuersPut dry (now (groups .entry)) at count (now (out .entry)) (now (out .exit)) p r ⌝ }
 {
     let mut end = moved(out.len(), p, 0);
@@ -99,7 +113,14 @@ pub(crate) fn put_issuers(dry: bool, groups: &[u8], at: usize, count: usize, out
 }
 
 // The signing certificate of the group at a place: `{"Signaturzertifikat":` and the certificate.
-pub(crate) fn put_signing(dry: bool, more: bool, groups: &[u8], at: usize, out: &mut [u8], p: End) -> Copied
+pub(crate) fn put_signing(
+    dry: bool,
+    more: bool,
+    groups: &[u8],
+    at: usize,
+    out: &mut [u8],
+    p: End,
+) -> Copied
     ensures { λ r. ⌜ SigningPut dry more (now (groups .entry)) at (now (out .entry)) (now (out .exit)) p r ⌝ }
 {
     let e = sized_end(groups, at);
@@ -114,7 +135,14 @@ pub(crate) fn put_signing(dry: bool, more: bool, groups: &[u8], at: usize, out: 
 }
 
 // An element up to its receipts, from the group at a place.
-pub(crate) fn put_group(dry: bool, more: bool, groups: &[u8], at: usize, out: &mut [u8], p: End) -> Copied
+pub(crate) fn put_group(
+    dry: bool,
+    more: bool,
+    groups: &[u8],
+    at: usize,
+    out: &mut [u8],
+    p: End,
+) -> Copied
     ensures { λ r. ⌜ GroupPut dry more (now (groups .entry)) at (now (out .entry)) (now (out .exit)) p r ⌝ }
 {
     if groups.len() <= at {
@@ -171,7 +199,15 @@ pub(crate) fn put_pair(dry: bool, j: &[u8], at: usize, out: &mut [u8], p: End) -
 }
 
 // k elements, from the pairs of a journal and as many groups.
-pub(crate) fn put_elements(dry: bool, j: &[u8], at: usize, groups: &[u8], k: usize, out: &mut [u8], p: End) -> End
+pub(crate) fn put_elements(
+    dry: bool,
+    j: &[u8],
+    at: usize,
+    groups: &[u8],
+    k: usize,
+    out: &mut [u8],
+    p: End,
+) -> End
     ensures { λ r. ⌜ ElementsPut dry (now (j .entry)) at (now (groups .entry)) k (now (out .entry)) (now (out .exit)) p r ⌝ }
 {
     let mut end = moved(out.len(), p, 0);

@@ -44,7 +44,7 @@ loop-again : tie.Need-loop-again Inv-loop μ-loop
 loop-again c = texts-more _ _ _ (c .before .before .before .loop .inv) (c .before .before .loop-test .taken) (c .before .sized-end .ensures) (omega arith)
 
 returns-4 : tie.Need-returns-4 Inv-loop μ-loop
-returns-4 c = 
+returns-4 c =
     let b = c .before .before .before .before .before .shared-slice-known .given (c .before .before .before .before .before .before .args .at) .fits in
     group-whole _ _ (c .before .before .before .before .if1 .left) refl (c .before .loop .inv) (omega arith) (omega (arith, b)) (c .loop-test .left)
 

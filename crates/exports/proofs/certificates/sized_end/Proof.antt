@@ -25,7 +25,7 @@ returns : tie.Need-returns
 returns c = sized-cut _ _ (record { at = λ i. c .before .before .before .before .before .before .shared-slice-known .given i .fits }) (sym (c .before .before .before .before .before .number-at .ensures) ∙ c .before .before .before .v .given .1) (above _ _ (c .before .has-room .ensures) (c .if1 .taken))
 
 add-result : tie.Need-add-result
-add-result c = 
+add-result c =
     let start = c .before .before .before .before .before .before .before in
     let r : start .args .at + 2 + c .before .before .before .v .given .0 .0 ≤ length (start .args .s .now) = at-most _ _ (c .before .has-room .ensures) (c .if1 .left) in
     record { fits = omega arith }

@@ -25,7 +25,7 @@ returns-2 : tie.Need-returns-2
 returns-2 c = c .no-room2 .ensures ∙ sym (moved-full _ _ _ (above _ _ (c .before .before .has-room .ensures) (c .before .if2 .taken)))
 
 add-t7 : tie.Need-add-t7
-add-t7 c = 
+add-t7 c =
     let start = c .before .before .before .before in
     let room : start .args .p .at + start .args .n ≤ start .args .room = at-most _ _ (c .before .has-room .ensures) (c .if2 .left) in
     record { fits = omega arith }

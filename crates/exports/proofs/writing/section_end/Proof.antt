@@ -18,7 +18,7 @@ four-at-requires : tie.Need-four-at-requires
 four-at-requires c κs = search needs
 
 add-a : tie.Need-add-a
-add-a c = 
+add-a c =
     let start = c .before .before .before .before in
     let r : start .args .at + 4 ≤ length (start .args .j .now) = at-most _ _ (c .before .before .has-room .ensures) (c .before .if1 .left) in
     record { fits = omega arith }
@@ -30,7 +30,7 @@ returns-2 : tie.Need-returns-2
 returns-2 c = section-cut _ _ (c .before .before .four-at .ensures) (at-most _ _ (c .before .before .before .before .has-room .ensures) (c .before .before .before .if1 .left)) (above _ _ (c .before .has-room2 .ensures) (c .if2 .taken))
 
 add-result : tie.Need-add-result
-add-result c = 
+add-result c =
     let start = c .before .before .before .before .before .before in
     let r : start .args .at + 4 + c .before .before .four-at .result ≤ length (start .args .j .now) = at-most _ _ (c .before .has-room2 .ensures) (c .if2 .left) in
     record { fits = omega arith }
