@@ -1,11 +1,10 @@
 -- The answer of `export` and its output, from what the calls in it say.
-use Prim.Native.Nat.{ℕ, _+_, _≤_, _<_}
+use Prim.Native.Nat.{ℕ, _≤_}
 use mathlib.Core.Path.{_≡_, refl, sym, ap, _∙_, subst}
-use mathlib.Core.Bool.{Bool, true, false, cond, not}
+use mathlib.Core.Bool.{Bool, true, false, not}
 use mathlib.Core.List.{List, map}
 use mathlib.Core.Option.{Option, none, some, Option·map}
 use mathlib.Core.Logic.{_↔_}
-use native.Mathlib.Omega.{arith}
 use borrow.Author.Tests.{not-true, not-false}
 use lib.ListN.{length, drop, length-map}
 use Rattle.primitives.specs.Bytes.{AllBytes}
@@ -16,16 +15,14 @@ use Rattle.journal.specs.Head.{sectionEnd}
 use Rattle.journal.specs.State.{used, inEight}
 use Rattle.journal.specs.Checking.{takeOver, accepted}
 use Rattle.journal.specs.Valid.{Owner, Pair, serialsOf, stateAfter, Valid}
-use Rattle.journal.specs.declared.state.State.{State}
 use Rattle.journal.specs.declared.state.TakenOver.{TakenOver}
 use Rattle.journal.proofs.Serials.{used-eight}
 use Rattle.journal.proofs.Placing.{length-serials}
 use Rattle.journal.proofs.Accepting.{accepted-valid, valid-work}
 use Rattle.journal.proofs.AcceptedIsWritten.{names-good}
 use Rattle.journal.proofs.JournalStates.{state-of-journal}
-use Rattle.exports.specs.Shape.{Element}
-use Rattle.exports.specs.Spelled.{TextPair, pairsSpelled, journalSpelled, pairsOf}
-use Rattle.exports.specs.Groups.{Group, groupsOf}
+use Rattle.exports.specs.Spelled.{pairsSpelled, pairsOf}
+use Rattle.exports.specs.Groups.{Group}
 use Rattle.exports.specs.Output.{start, Puts}
 use Rattle.exports.specs.Writing.{exportText, elementsFor, exportOf, answered, notWritten, exported, exportBuffer}
 use Rattle.exports.specs.Passing.{GroupsThere}

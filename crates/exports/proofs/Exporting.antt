@@ -1,7 +1,7 @@
 -- The parts of an export and the whole of it, written one after the other.
-use Prim.Native.Nat.{ℕ, zero, suc, _+_, _-_, _≤_, _<_}
+use Prim.Native.Nat.{ℕ, _+_, _-_, _≤_, _<_}
 use mathlib.Core.Path.{_≡_, refl, sym, ap, _∙_, subst}
-use mathlib.Core.Bool.{Bool, true, false, cond}
+use mathlib.Core.Bool.{Bool, true, false}
 use mathlib.Core.List.{List, [], _∷_, _++_, map, append-assoc, append-nil}
 use native.Mathlib.Omega.{arith}
 use lib.Dec.{ltb}
@@ -18,7 +18,7 @@ use Rattle.journal.proofs.Sections.{length-section}
 use Rattle.exports.specs.Text.{every}
 use Rattle.exports.specs.Spelled.{TextPair, sizedTexts, short, pairSpelled, pairsSpelled}
 use Rattle.exports.specs.Shape.{Element}
-use Rattle.exports.specs.Groups.{Group, groupText, groupsText, groupGood}
+use Rattle.exports.specs.Groups.{Group, groupsText, groupGood}
 use Rattle.exports.specs.Output.{start, moved, Puts}
 use Rattle.exports.specs.Writing.{quoted, listed, base64, opening, beforeCertificate, beforeIssuers, beforeReceipts, ending, certificatesPart, receiptsPart, elementText, exportText, elementFor, elementsFor}
 use Rattle.exports.specs.Passing.{SizedRead}
@@ -27,8 +27,8 @@ use Rattle.exports.specs.Running as running
 use Rattle.exports.specs.declared.output.End.{End}
 use Rattle.exports.specs.declared.writing.Copied.{Copied}
 use Rattle.exports.proofs.Putting.{puts-then, puts-is, puts-nothing, puts-still}
-use Rattle.exports.proofs.Sized.{every-head, every-tail, sized-cons, all, good-texts, group-room, group-many, group-tail, groups-nil, groups-cons}
-use Rattle.exports.proofs.PairsBack.{pair-open, pair-end, pair-count, pair-entries, pairs-nil, pairs-cons}
+use Rattle.exports.proofs.Sized.{every-head, every-tail, sized-cons, all, good-texts, group-room, group-many, group-tail, groups-cons}
+use Rattle.exports.proofs.PairsBack.{pair-open, pair-end, pair-count, pair-entries, pairs-cons}
 use Rattle.exports.proofs.Copying.{piece-is, whole-more, listed-nil}
 
 module _ {d : Bool} {out out₁ : List ℕ} {p a : End} where

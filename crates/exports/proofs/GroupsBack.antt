@@ -1,23 +1,22 @@
 -- Groups read from a buffer are exactly those that it spells.
-use Prim.Native.Nat.{ℕ, zero, suc, _+_, _<_}
+use Prim.Native.Nat.{ℕ, zero, suc, _+_}
 use mathlib.Core.Path.{_≡_, refl, sym, ap, _∙_, subst}
 use mathlib.Core.Bool.{Bool, true, false, cond, _&&_}
-use mathlib.Core.List.{List, [], _∷_, _++_, append-assoc, append-nil}
+use mathlib.Core.List.{List, [], _∷_, _++_, append-assoc}
 use mathlib.Core.Option.{Option, none, some}
 use native.Mathlib.Omega.{arith}
-use lib.ListN.{length, take, drop, getD, length-append}
+use lib.ListN.{length, drop, getD}
 use lib.Seq.{drop-at}
 use Rattle.primitives.specs.Bytes.{same}
-use Rattle.primitives.proofs.Rows.{both, true-is-not-false}
+use Rattle.primitives.proofs.Rows.{both}
 use Rattle.primitives.proofs.ByteLists.{same-true, same-refl}
 use Rattle.journal.specs.Head.{entryText, lengthAt, textAt}
 use Rattle.journal.proofs.Places.{length-entry, length-at, text-at}
 use Rattle.exports.specs.Text.{every}
 use Rattle.exports.specs.Spelled.{sizedTexts, textsIn, afterTexts, short}
 use Rattle.exports.specs.Groups.{Group, groupText, groupsText, groupGood, groupOf, groupsIn, areGroups, groupsOf}
-use Rattle.exports.specs.Passing.{GroupsThere}
 use Rattle.exports.specs.GroupLaws.{GroupsExactly, OneListOfGroups, GroupsOfThere, NoGroupsThere}
-use Rattle.exports.proofs.Sized.{short-lt, every-head, every-tail, sized-cons, all, good-texts, group-is, groups-cons}
+use Rattle.exports.proofs.Sized.{short-lt, every-head, every-tail, sized-cons, all, good-texts}
 
 -- ---- texts
 

@@ -1,11 +1,11 @@
 -- Pairs read from a journal are exactly those that it spells.
 use Prim.Native.Nat.{ℕ, zero, suc, _+_, _≤_, _<_}
-use mathlib.Core.Path.{_≡_, refl, sym, ap, _∙_, subst}
-use mathlib.Core.Bool.{Bool, true, false, cond, _&&_}
-use mathlib.Core.List.{List, [], _∷_, _++_, map, append-assoc, append-nil}
+use mathlib.Core.Path.{_≡_, refl, sym, ap, _∙_}
+use mathlib.Core.Bool.{true, false}
+use mathlib.Core.List.{List, [], _∷_, _++_, map, append-assoc}
 use native.Mathlib.Omega.{arith}
-use lib.ListN.{length, take, drop, getD, length-append, length-drop, length-map}
-use lib.Seq.{drop-at, drop-drop}
+use lib.ListN.{length, drop, length-append, length-map}
+use lib.Seq.{drop-at}
 use Rattle.primitives.specs.Number.{bytesOf, countAt}
 use Rattle.primitives.proofs.Numbers.{length-bytesOf}
 use Rattle.primitives.proofs.Counts.{count-in}
@@ -37,12 +37,6 @@ use Rattle.exports.proofs.GroupsBack.{texts-in, after-in}
 -- ---- the pair at the start of a buffer
 
 module _ (x : TextPair) (f : PairFits x) (rest : List ℕ) where
-  name : List ℕ
-  name = nameText (x .serial)
-
-  entries : List ℕ
-  entries = sizedTexts (x .texts) ++ rest
-
   pub pair-open : pairSpelled x ++ rest ≡ section (nameText (x .serial)) ++ (bytesOf 4 (length (x .texts)) ++ (sizedTexts (x .texts) ++ rest))
   unfolding pairSpelled pairStart
   pair-open = simp append-assoc

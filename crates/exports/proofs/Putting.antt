@@ -1,15 +1,15 @@
 -- Laws of runs that measure or write: a run after another, the empty text, and two runs that make a whole.
-use Prim.Native.Nat.{ℕ, zero, _+_, _≤_, _<_}
+use Prim.Native.Nat.{ℕ, _+_, _≤_, _<_}
 use mathlib.Core.Path.{_≡_, refl, sym, ap, _∙_, subst}
 use mathlib.Core.Bool.{Bool, true, false, cond, _&&_}
-use mathlib.Core.List.{List, [], _∷_, _++_}
+use mathlib.Core.List.{List, [], _++_}
 use native.Mathlib.Nat.{add-zero, zero-add}
 use native.Mathlib.Omega.{arith}
 use borrow.Author.Tests.{leb-true, le-leb, lt-leb, leb-false}
 use lib.Dec.{leb}
 use lib.ListN.{length, length-append}
 use Rattle.primitives.specs.Place.{overwrite, placed, room}
-use Rattle.primitives.proofs.Over.{over-nil, length-over, then, placed-room, room-true, room-false, length-placed}
+use Rattle.primitives.proofs.Over.{over-nil, then, placed-room, room-true, length-placed}
 use Rattle.primitives.proofs.Rows.{true-is-not-false}
 use Rattle.exports.specs.Output.{noRoom, start, moved, Puts}
 use Rattle.exports.specs.declared.output.End.{End}

@@ -1,5 +1,5 @@
 -- Texts after their lengths in two bytes, read at a place of a buffer; and groups of them.
-use Prim.Native.Nat.{ℕ, zero, suc, _+_, _-_, _≤_, _<_}
+use Prim.Native.Nat.{ℕ, suc, _+_, _-_, _≤_, _<_}
 use mathlib.Core.Path.{_≡_, refl, sym, ap, _∙_, subst}
 use mathlib.Core.Bool.{Bool, true, false, _&&_}
 use mathlib.Core.List.{List, [], _∷_, _++_, append-assoc, append-nil}
@@ -9,15 +9,15 @@ use native.Mathlib.Omega.{arith}
 use borrow.Author.Tests.{leb-true, le-leb, eq-eqb, eqb-true}
 use lib.Dec.{leb, eqb}
 use lib.ListN.{length, take, drop, getD, length-append, length-drop, drop-of-length-le}
-use lib.Seq.{drop-at, drop-drop, drop-cons, getD-drop}
+use lib.Seq.{drop-at, drop-drop, drop-cons}
 use Rattle.primitives.specs.Bytes.{AllBytes}
 use Rattle.primitives.specs.Number.{countAt, numberAt}
 use Rattle.primitives.specs.declared.buffer.Number.the-variants.{Is, Missing}
 use Rattle.primitives.proofs.Rows.{both, true-is-not-false}
-use Rattle.primitives.proofs.Numbers.{number-found, number-short}
+use Rattle.primitives.proofs.Numbers.{number-found}
 use Rattle.primitives.proofs.Counts.{count-found, count-missing}
 use Rattle.journal.specs.Head.{entryText, lengthAt, textAt, there}
-use Rattle.journal.proofs.Places.{length-entry, length-at, there-at, length-text, text-short, there-entry}
+use Rattle.journal.proofs.Places.{length-entry, length-at, length-text, text-short, there-entry}
 use Rattle.exports.specs.Text.{every}
 use Rattle.exports.specs.Spelled.{sizedTexts, short}
 use Rattle.exports.specs.Groups.{Group, groupText, groupsText, groupGood}

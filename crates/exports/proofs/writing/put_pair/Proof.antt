@@ -1,6 +1,5 @@
 -- `writing::put_pair` meets its contract.
-use mathlib.Core.Path.{refl}
-use Rattle.primitives.proofs.Questions.{at-most, above}
+use Rattle.primitives.proofs.Questions.{above}
 use Rattle.exports.specs.Writing.{ending}
 use Rattle.exports.proofs.Exporting.{pair-cut, pair-put}
 use borrow.Author.Needs.{needs}
