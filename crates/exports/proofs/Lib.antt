@@ -28,3 +28,4 @@ pub mod TakenAsSpelled
 pub mod ElementsTaken
 pub mod EntryLying
 pub mod RunsAlong
+pub mod Restoring
