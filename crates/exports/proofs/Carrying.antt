@@ -4,7 +4,7 @@ use mathlib.Core.Path.{_≡_, refl, sym, ap, _∙_, subst}
 use mathlib.Core.Bool.{Bool, true, false}
 use mathlib.Core.List.{List, [], _∷_, _++_, append-assoc, append-nil, map}
 use native.Mathlib.Omega.{arith}
-use lib.ListN.{length, take, drop, set, length-append}
+use lib.ListN.{length, drop, set, length-append}
 use lib.Seq.{length-take-le}
 use Rattle.primitives.specs.Place.{overwrite}
 use Rattle.primitives.specs.Number.{bytesOf}
@@ -13,10 +13,10 @@ use Rattle.receipt.specs.Settings.{nameText}
 use Rattle.receipt.specs.Line.{countOf}
 use Rattle.receipt.specs.declared.settings.Name.{Name}
 use Rattle.journal.specs.Head.{section, entryText, pairStart}
-use Rattle.journal.specs.Valid.{Owner, ownerText}
+use Rattle.journal.specs.Valid.{ownerText}
 use Rattle.exports.specs.Text.{Token}
 use Rattle.exports.specs.Lexer.{content}
-use Rattle.exports.specs.Shape.{array, following, string, strings, Element, Written, written, elements, Shape}
+use Rattle.exports.specs.Shape.{array, string, strings, Element, Written, written, elements, Shape}
 use Rattle.exports.specs.Places.{from, Reads, Begun, Followed, PartRead, Placed, ElementRead, LettersAt, LetterRead}
 use Rattle.exports.specs.Output.{start, moved, Puts}
 use Rattle.exports.specs.Strings.{GroupPlace}
@@ -153,11 +153,13 @@ module _ {A : Type 0} (item : A → List Token) (f : List A → List ℕ) where
             long = l ∙ k .long;
             left = λ xs r s.
                 let b = k .left xs r s in
-                let m = b .3 .more e in
-                (b .0 ++ (m .0 ∷ []), m .1,
-                b .2 ∙ ap (λ (ys : List A). b .0 ++ ys) (m .2) ∙ sym (append-assoc (b .0) (m .0 ∷ []) (m .1)),
-                left-more item (m .0) (m .1) r (m .3) i t,
-                puts-is (sym (h (b .0) (m .0))) (puts-then (b .4) (w (m .0) _ (m .3))));
+                let m = b .3 .more e in (
+                  b .0 ++ (m .0 ∷ []),
+                  m .1,
+                  b .2 ∙ ap (λ (ys : List A). b .0 ++ ys) (m .2) ∙ sym (append-assoc (b .0) (m .0 ∷ []) (m .1)),
+                  left-more item (m .0) (m .1) r (m .3) i t,
+                  puts-is (sym (h (b .0) (m .0))) (puts-then (b .4) (w (m .0) _ (m .3))),
+                );
           }
 
 -- ---- the strings of an array

@@ -4,13 +4,13 @@ use mathlib.Core.Path.{_≡_, refl, sym, ap, _∙_}
 use mathlib.Core.Bool.{Bool, true, false, not, _&&_}
 use mathlib.Core.List.{List}
 use mathlib.Core.Logic.{_↔_}
-use mathlib.Core.Option.{Option, none, some}
+use mathlib.Core.Option.{Option, some}
 use native.Mathlib.Omega.{arith}
-use borrow.Author.Tests.{leb-true, le-leb}
+use borrow.Author.Tests.{le-leb}
 use lib.Dec.{leb}
 use lib.ListN.{length}
 use Rattle.primitives.specs.Place.{overwrite, room}
-use Rattle.primitives.specs.Questions.{ask, ifZero}
+use Rattle.primitives.specs.Questions.{ask}
 use Rattle.primitives.proofs.Rows.{ask-yes, ask-no, ifZero-yes, ifZero-no}
 use Rattle.journal.specs.State.{unopened}
 use Rattle.journal.specs.Checking.{takeOver}
@@ -26,7 +26,7 @@ use Rattle.exports.specs.Running.{runJournal}
 use Rattle.exports.specs.declared.output.End.{End}
 use Rattle.exports.specs.declared.reading.Restored.{Restored}
 use Rattle.exports.proofs.Unique.{decided, exact}
-use Rattle.exports.proofs.Putting.{Whole, two-runs, no-run, moved-fits, onward}
+use Rattle.exports.proofs.Putting.{two-runs, no-run, onward}
 use Rattle.exports.proofs.ElementsTaken.{run-is-take-over}
 
 pub not-read : {st : State} (number index : ℕ) → st ≡ unopened → record { number = number; index = index; length = 0; state = st } ≡ notRead number index
@@ -159,6 +159,8 @@ module _ (text key : List ℕ) (n : ℕ) (out : List ℕ) where
                 let o = over (f .0) (f .1) (f .2) in
                 let b = two-runs (w (f .0) (f .2)) fits (w₂ (f .0) (f .2)) in
                 let e : record { number = 0; index = 0; length = p .at; state = t .state } ≡ restored text key n (length out)
-                = ap (λ (l : ℕ). record { number = 0; index = 0; length = l; state = t .state }) (b .at) ∙ sym (ifZero-yes _ _ z) ∙ taken (f .0) (f .1) (o .0) (o .1) in
-                (e, b .is ∙ ap (λ (x : Option (List Element)). overwrite out 0 (journalBy x)) (sym (f .1))
-                ∙ sym (ifZero-yes _ _ (sym (ap (λ (x : Restored). x .number) e))))
+                = ap (λ (l : ℕ). record { number = 0; index = 0; length = l; state = t .state }) (b .at) ∙ sym (ifZero-yes _ _ z) ∙ taken (f .0) (f .1) (o .0) (o .1) in (
+                  e,
+                  b .is ∙ ap (λ (x : Option (List Element)). overwrite out 0 (journalBy x)) (sym (f .1))
+                      ∙ sym (ifZero-yes _ _ (sym (ap (λ (x : Restored). x .number) e))),
+                )

@@ -49,7 +49,14 @@ pub(crate) fn copy_letters(text: &[u8], start: usize, out: &mut [u8], to: usize)
 }
 
 // An entry: the length of the string and its letters.
-pub(crate) fn put_entry(dry: bool, text: &[u8], start: usize, n: usize, out: &mut [u8], p: End) -> End
+pub(crate) fn put_entry(
+    dry: bool,
+    text: &[u8],
+    start: usize,
+    n: usize,
+    out: &mut [u8],
+    p: End,
+) -> End
     requires { ⌜ (LettersAt (now text) start) × (n ≡ length (content (drop start (now text)) 0)) ⌝ }
     ensures { λ r. ⌜ Puts dry (now (out .entry)) (now (out .exit)) p r (entryText (content (drop start (now (text .entry))) 0)) ⌝ }
 {
