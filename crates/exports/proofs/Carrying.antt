@@ -4,7 +4,7 @@ use mathlib.Core.Path.{_≡_, refl, sym, ap, _∙_, subst}
 use mathlib.Core.Bool.{Bool, true, false}
 use mathlib.Core.List.{List, [], _∷_, _++_, append-assoc, append-nil, map}
 use native.Mathlib.Omega.{arith}
-use lib.ListN.{length, take, drop, set, length-append}
+use lib.ListN.{length, drop, set, length-append}
 use lib.Seq.{length-take-le}
 use Rattle.primitives.specs.Place.{overwrite}
 use Rattle.primitives.specs.Number.{bytesOf}
@@ -13,10 +13,10 @@ use Rattle.receipt.specs.Settings.{nameText}
 use Rattle.receipt.specs.Line.{countOf}
 use Rattle.receipt.specs.declared.settings.Name.{Name}
 use Rattle.journal.specs.Head.{section, entryText, pairStart}
-use Rattle.journal.specs.Valid.{Owner, ownerText}
+use Rattle.journal.specs.Valid.{ownerText}
 use Rattle.exports.specs.Text.{Token}
 use Rattle.exports.specs.Lexer.{content}
-use Rattle.exports.specs.Shape.{array, following, string, strings, Element, Written, written, elements, Shape}
+use Rattle.exports.specs.Shape.{array, string, strings, Element, Written, written, elements, Shape}
 use Rattle.exports.specs.Places.{from, Reads, Begun, Followed, PartRead, Placed, ElementRead, LettersAt, LetterRead}
 use Rattle.exports.specs.Output.{start, moved, Puts}
 use Rattle.exports.specs.Strings.{GroupPlace}

@@ -38,3 +38,4 @@ pub mod Exporting
 pub mod Promising
 pub mod ExportAnswers
 pub mod RoomEnough
+pub mod Restoring

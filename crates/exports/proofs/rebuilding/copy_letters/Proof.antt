@@ -1,6 +1,5 @@
 -- `rebuilding::copy_letters` meets its contract.
 use Prim.Native.Nat.{_-_}
-use mathlib.Core.Path.{sym}
 use native.Mathlib.Omega.{arith}
 use lib.ListN.{length}
 use Rattle.exports.proofs.Carrying.{Copying, copy-start, copy-room, copy-letters-at, copy-falls, copy-more, copy-long, copy-end}
