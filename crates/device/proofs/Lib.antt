@@ -19,3 +19,4 @@ pub mod StateCalls
 pub mod TextAnswers
 pub mod Writers
 pub mod Zeros
+pub mod ExportCalls

@@ -9,3 +9,4 @@ pub mod ReadBack
 pub mod ReadBackLaws
 pub mod Texts
 pub mod Inspection
+pub mod InspectionLaws
