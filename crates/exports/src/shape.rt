@@ -192,7 +192,7 @@ pub(crate) fn elements(text: &[u8], at: usize) -> usize
 }
 
 // The text spells some elements.
-pub fn has_shape(text: &[u8]) -> bool
+pub(crate) fn has_shape(text: &[u8]) -> bool
     ensures { λ r. ⌜ (r ≡ true) ↔ Shaped (now (text .entry)) ⌝ }
 {
     let p = expect(text, 0, 123);
