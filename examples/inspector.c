@@ -1,6 +1,6 @@
 /* An inspector comes to the shop. The till, whose certificate has changed once, exports its journal with the certificates as JSON; on the
  * inspector's side the export is read back into the journal. Then two exports that are refused: one without the start receipt, and one
- * with a certificate that lost a letter. The certificates are made up: the library does not look into them.
+ * with a certificate that lost a '='. The certificates are made up: the library does not look into them.
  *
  *     cc -Iinclude examples/inspector.c target/staticlib/libdevice.a -o inspector
  */
@@ -139,6 +139,6 @@ int main(void)
     receipt = place_of("\"eyJ", 0);
     inspect_without("without the start receipt", length, receipt, place_of("\"eyJ", receipt + 1));
     padding = place_of("==", 0);
-    inspect_without("with a certificate that lost a letter", length, padding, padding + 1);
+    inspect_without("with a certificate that lost a '='", length, padding, padding + 1);
     return 0;
 }

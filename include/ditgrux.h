@@ -223,7 +223,8 @@ enum ditgrux_number {
  *
  * The unopened state is 447 zeros. A refused ditgrux_open, ditgrux_open_shared, ditgrux_take_over, ditgrux_check_head or
  * ditgrux_read_export writes it, so do not pass the live state to these five: pass a second array, and copy it when the call has
- * returned DITGRUX_DONE (after ditgrux_check_head, when the whole journal is checked).
+ * returned DITGRUX_DONE (after ditgrux_check_head, when the whole journal is checked). The state of ditgrux_read_export is that of
+ * the journal when it was exported: if the register has issued since, it is an old state, and nobody may issue with it.
  *
  * A lost state comes back by ditgrux_take_over, byte for byte, from the journal, the key and the width. It needs exactly the bytes
  * of the journal, and not its whole buffer, so store the length beside the journal as well. If the length is lost, too,
@@ -578,7 +579,8 @@ uint32_t ditgrux_fields(const uint8_t *code, size_t code_length, size_t *start, 
  *
  * The certificates come as groups, one for each pair and in the same order, with no byte between or after them. A group is one byte
  * with the number of certificates, 1 to 255, and then each certificate after its length in two bytes, big-endian: first that of the
- * signature device, then those of its issuers. A certificate is copied as it is, as a rule DER; it may be 0 to 65,535 bytes long.
+ * signature device, then those of its issuers. A certificate is copied as it is, as a rule DER; it may be 0 to 65,535 bytes long. Group
+ * i belongs to serial i of ditgrux_serial. The library does not look into certificates: it takes groups in the wrong order.
  */
 
 /* Checks a journal as ditgrux_take_over does and writes it, with its certificates, as the text above, without blanks. A pair without
@@ -616,7 +618,8 @@ uint32_t ditgrux_export(const uint8_t *journal, size_t journal_length, const uin
  *     text, text_length           the export
  *     key, key_length             the AES-256 key, 32 bytes
  *     width                       bytes of the turnover counter, 5 to 8
- *     output, output_length       output: the journal; nothing is written after it. text_length bytes are always enough
+ *     output, output_length       output: the journal; nothing is written after it. text_length bytes are always enough;
+ *                                 it must not overlap the text
  *     state, state_length         output: exactly 447 bytes
  *     length                      output: the length of the journal
  *     index                       output: where the journal is refused, as in ditgrux_take_over

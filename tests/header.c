@@ -2437,7 +2437,7 @@ static void exports_and_back(size_t width, const char *life)
 }
 
 /* How near the room of docs/EMBEDDING.md comes: with the shortest names and the fewest strings it has a byte for the text and one for each
- * pair too many, with the longest names and receipts never too few. */
+ * pair too many. */
 static void export_rooms(void)
 {
     static const char *const letters[] = {"2", "3", "4", "5", "6", "7", "8"};

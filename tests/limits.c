@@ -587,7 +587,7 @@ static int export_and_back(void)
 static int exports(void)
 {
     int bad = eight_serials();
-    size_t single;
+    size_t single, read;
     make_groups(5, 300);
     bad += export_and_back();
     bad += export_damaged(0, DITGRUX_BAD_HEAD) + export_damaged(DITGRUX_LONGEST_HEAD + 2, DITGRUX_ENTRY_MISSPELLED);
@@ -617,13 +617,16 @@ static int exports(void)
     single = last_used;
     inspected_length = length;
     bad += measure("read export", read_export, 0);
+    read = last_used;
     for (number = 2; number < RECEIPTS; number++)
         issue();
     room = sizeof inspected;
-    bad += measure("export", export_journal, 0) + (last_used != single);
-    single = last_used;
+    bad += measure("export", export_journal, 0);
+    bad += last_used != single;
     inspected_length = length;
-    return bad + measure("read export", read_export, 0) + export_and_back();
+    bad += measure("read export", read_export, 0);
+    bad += last_used != read;
+    return bad + export_and_back();
 }
 
 int main(void)
