@@ -1,25 +1,16 @@
 -- The lexer finds exactly the tokens that the grammar gives a text.
 use mathlib.Core.Path.{_≡_, refl, sym, ap, _∙_}
-use mathlib.Core.Bool.{Bool, true, false, cond, _&&_, _||_, not}
+use mathlib.Core.Bool.{Bool, true, false, cond, _||_}
 use mathlib.Core.List.{List, [], _∷_}
 use Prim.Native.Nat.{ℕ, zero, suc, _-_}
 use native.Mathlib.Omega.{arith}
-use borrow.Author.Tests.{eqb-true, not-true}
-use lib.Dec.{eqb, leb, eqb·suc-zero}
+use borrow.Author.Tests.{eqb-true}
+use lib.Dec.{eqb, eqb·suc-zero}
 use Rattle.exports.specs.Text.{Token, mark, word, blank, isMark, plain, Inside, close, letter, escape, Tokens, end, space, sign, quoted}
 use Rattle.exports.specs.Lexer.{wrong, letterLeft, afterByte, content, lex, lexIn}
-use Rattle.exports.proofs.Lexing.{no-truth}
-use Rattle.exports.proofs.Names.{both}
+use Rattle.exports.proofs.Lexing.{no-truth, plain-not}
 
 -- ---- from the grammar to the lexer
-
-plain-not : (b : ℕ) → plain b ≡ true → (eqb b 34 ≡ false) × (eqb b 92 ≡ false)
-unfolding plain
-plain-not b e =
-    let p = both (leb 32 b) (leb b 126 && (not (eqb b 34) && not (eqb b 92))) e in
-    let q = both (leb b 126) (not (eqb b 34) && not (eqb b 92)) (p .1) in
-    let r = both (not (eqb b 34)) (not (eqb b 92)) (q .1) in
-    (not-true _ (r .0), not-true _ (r .1))
 
 inside-content : {text c rest : List ℕ} → Inside text c rest → content text 0 ≡ c
 unfolding content

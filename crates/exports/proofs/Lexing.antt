@@ -1,17 +1,17 @@
 -- The loops of the lexer, step by step.
 use mathlib.Core.Path.{_≡_, refl, sym, ap, _∙_}
-use mathlib.Core.Bool.{Bool, true, false, cond}
+use mathlib.Core.Bool.{Bool, true, false, cond, _&&_, not}
 use mathlib.Core.List.{List, [], _∷_, _++_}
 use Prim.Native.Nat.{ℕ, zero, suc, _+_, _-_, _<_, _≤_}
 use native.Mathlib.Omega.{arith}
 use native.Mathlib.Numerals.{add-one}
-use borrow.Author.Tests.{eq-eqb, ne-eqb, ltb-true, ltb-false, eqb-true}
-use lib.Dec.{eqb, ltb, eqb·suc-zero}
-use lib.ListN.{length, take, drop, getD, drop-of-length-le}
-use lib.Seq.{drop-drop, drop-cons, drop-length}
+use borrow.Author.Tests.{eq-eqb, ne-eqb, ltb-true, ltb-false, eqb-true, eqb-false}
+use lib.Dec.{eqb, ltb, leb, eqb·suc-zero}
+use lib.ListN.{length, take, drop, getD, length-drop, drop-of-length-le}
+use lib.Seq.{drop-drop, drop-cons, drop-length, getD-drop}
 use Rattle.exports.specs.Text.{Token, mark, word, blank, isMark, plain}
 use Rattle.exports.specs.Lexer.{wrong, letterLeft, afterByte, before, content, lex, lexIn}
-use Rattle.exports.specs.Places.{from, Skipped, Closed, Next, Unescaped, nothing, letter, escape, Lying, LettersAt, LetterRead}
+use Rattle.exports.specs.Places.{from, Skipped, Stopped, EscapeAt, Closed, Next, Unescaped, nothing, letter, escape, Lying, LettersAt, LetterRead}
 
 pub no-truth {ℓ} : {X : Type ℓ} → false ≡ true → X
 no-truth e = let z : _≡_ {A = ℕ} 0 1 = cc in absurd (omega arith)
@@ -41,53 +41,191 @@ module _ {text : List ℕ} {at i : ℕ} (s : Skipping text at i) where
 
 -- ---- strings
 
-pub record Lexing (text : List ℕ) (start i k : ℕ) : Type 0 where
+-- the letters so far
+pub record Lexing (text : List ℕ) (start i : ℕ) : Type 0 where
   pub inside : i ≤ length text
   pub onward : start ≤ i
-  pub same : (c : List ℕ) → lexIn (drop start text) 0 c ≡ lexIn (drop i text) k c
+  pub same : (c : List ℕ) → lexIn (drop start text) 0 c ≡ lexIn (drop i text) 0 c
   pub clear : start + before (drop start text) ≡ i + before (drop i text)
 
-pub string-start : (text : List ℕ) (start : ℕ) → start ≤ length text → Lexing text start start 0
-string-start text start h = record { inside = h; onward = omega arith; same = λ c. refl; clear = refl }
+pub plain-start : (text : List ℕ) (start : ℕ) → start ≤ length text → Lexing text start start
+plain-start text start h = record { inside = h; onward = omega arith; same = λ c. refl; clear = refl }
+
+-- a plain byte is neither the quote nor the backslash
+pub plain-not : (b : ℕ) → plain b ≡ true → (eqb b 34 ≡ false) × (eqb b 92 ≡ false)
+unfolding plain
+plain-not b e = go (leb 32 b) (leb b 126) (eqb b 34) (eqb b 92) e
+  where
+    go : (l m q s : Bool) → (l && (m && (not q && not s))) ≡ true → (q ≡ false) × (s ≡ false)
+    go true true false false e = (refl, refl)
+    go true true true s e = no-truth e
+    go true true false true e = no-truth e
+    go true false q s e = no-truth e
+    go false m q s e = no-truth e
+
+plain-lexed : (b : ℕ) (text c : List ℕ) → plain b ≡ true → lexIn (b ∷ text) 0 c ≡ lexIn text 0 c
+unfolding lexIn afterByte
+plain-lexed b text c e = let n = plain-not b e in rw (n .0, n .1, e)
+
+plain-before : (b : ℕ) (text : List ℕ) → plain b ≡ true → before (b ∷ text) ≡ suc (before text)
+unfolding before
+plain-before b text e = rw (plain-not b e .0)
+
+module _ {text : List ℕ} {start i : ℕ} (s : Lexing text start i) where
+  pub plain-more : i < length text → plain (getD text i 0) ≡ true → Lexing text start (i + 1)
+  plain-more h e =
+      let a = s .onward in
+      let d : drop i text ≡ getD text i 0 ∷ drop (suc i) text = drop-cons text i 0 h in
+      let b : before (drop i text) ≡ suc (before (drop (suc i) text)) = ap before d ∙ plain-before (getD text i 0) (drop (suc i) text) e in
+      record {
+        inside = omega arith;
+        onward = omega arith;
+        same = λ c. s .same c ∙ ap (λ (l : List ℕ). lexIn l 0 c) d ∙ plain-lexed (getD text i 0) (drop (suc i) text) c e ∙ rw (add-one i);
+        clear = rw (add-one i) (omega (arith, s .clear, b));
+      }
+
+  pub plain-found : plain (getD text i 0) ≡ false → Stopped text start i
+  plain-found e = record { inside = s .inside; onward = s .onward; same = s .same; clear = s .clear; stop = λ h. e }
+
+  pub plain-open : length text ≤ i → Stopped text start i
+  plain-open h = record { inside = s .inside; onward = s .onward; same = s .same; clear = s .clear; stop = λ l. absurd (omega arith) }
+
+-- ---- the escape
+
+abbrev escaped : List ℕ → List ℕ
+escaped rest = 92 ∷ 117 ∷ 48 ∷ 48 ∷ 51 ∷ 100 ∷ rest
+
+six-more : (n : ℕ) → suc (suc (suc (suc (suc (suc n))))) ≡ n + 6
+six-more n = omega arith
+
+escape-length : {l : List ℕ} (rest : List ℕ) → l ≡ escaped rest → length l ≡ length rest + 6
+escape-length rest e = ap length e ∙ six-more (length rest)
+
+no-escape : {text : List ℕ} {at : ℕ} → ((rest : List ℕ) → drop at text ≡ escaped rest → ⊥) → EscapeAt text at false
+no-escape h = record { is = λ e. no-truth e; none = λ e. h }
+
+pub escape-short : (text : List ℕ) (at : ℕ) → at ≤ length text → length text - at < 6 → EscapeAt text at false
+escape-short text at h l = no-escape (λ rest e. omega (arith, escape-length rest e, length-drop at text))
+
+-- another byte stands in the place of one of its letters
+pub escape-other : (j : ℕ) (text : List ℕ) (at b : ℕ) → ((rest : List ℕ) → getD (escaped rest) j 0 ≡ b) → (getD text (at + j) 0 ≡ b → ⊥) → EscapeAt text at false
+escape-other j text at b l n = no-escape (λ rest e. n (sym (getD-drop at text j 0) ∙ ap (λ (x : List ℕ). getD x j 0) e ∙ l rest))
+
+pub escape-first : (text : List ℕ) (at : ℕ) → (getD text at 0 ≡ 92 → ⊥) → EscapeAt text at false
+escape-first text at n = let z : at + 0 ≡ at = omega arith in escape-other 0 text at 92 (λ r. refl) (rw z n)
+
+pub escape-last : (text : List ℕ) (at : ℕ) → at ≤ length text → 6 ≤ length text - at
+    → getD text at 0 ≡ 92 → getD text (at + 1) 0 ≡ 117 → getD text (at + 2) 0 ≡ 48 → getD text (at + 3) 0 ≡ 48 → getD text (at + 4) 0 ≡ 51
+    → EscapeAt text at (eqb (getD text (at + 5) 0) 100)
+escape-last text at h l e₀ e₁ e₂ e₃ e₄ = go (eqb (getD text (at + 5) 0) 100) refl
+  where
+    one : (j : ℕ) → j < 6 → drop (at + j) text ≡ getD text (at + j) 0 ∷ drop (at + suc j) text
+    one j q = let s : suc (at + j) ≡ at + suc j = omega arith in drop-cons text (at + j) 0 (omega arith) ∙ ap (λ (n : ℕ). getD text (at + j) 0 ∷ drop n text) s
+
+    zeroth : drop at text ≡ getD text at 0 ∷ drop (at + 1) text
+    zeroth = let s : suc at ≡ at + 1 = omega arith in drop-cons text at 0 (omega arith) ∙ ap (λ (n : ℕ). getD text at 0 ∷ drop n text) s
+
+    go : (t : Bool) → eqb (getD text (at + 5) 0) 100 ≡ t → EscapeAt text at t
+    go false e = escape-other 5 text at 100 (λ r. refl) (eqb-false _ 100 e)
+    go true e =
+        let e₅ : getD text (at + 5) 0 ≡ 100 = eqb-true _ 100 e in
+        record {
+          is = λ q. rw (zeroth, one 1 (omega arith), one 2 (omega arith), one 3 (omega arith), one 4 (omega arith), one 5 (omega arith), e₀, e₁, e₂, e₃, e₄, e₅);
+          none = λ q. no-truth (sym q);
+        }
+
+-- the last k letters of an escape
+escapeLeft : ℕ → List ℕ
+escapeLeft zero = []
+escapeLeft (suc k) = letterLeft (suc k) ∷ escapeLeft k
+
+-- where they do not stand
+broken : (k : ℕ) (text c : List ℕ) → ((rest : List ℕ) → text ≡ escapeLeft k ++ rest → ⊥) → lexIn text k c ≡ wrong
+unfolding lexIn afterByte escapeLeft
+broken zero text c n = absurd (n text refl)
+broken (suc k) [] c n = refl
+broken (suc k) (b ∷ text) c n = go (λ h. broken k text c h) (eqb b 34) (eqb b (letterLeft (suc k))) refl refl
+  where
+    Later : Type 0
+    Later = ((rest : List ℕ) → text ≡ escapeLeft k ++ rest → ⊥) → lexIn text k c ≡ wrong
+
+    above : eqb (suc k) 0 ≡ false
+    above = eqb·suc-zero k
+
+    pred : suc k - 1 ≡ k
+    pred = omega arith
+
+    ends : Later → b ≡ letterLeft (suc k) → (t : Bool) → cond t wrong (lexIn text k c) ≡ wrong
+    ends later l true = refl
+    ends later l false = later (λ rest e. n rest (λ t. l t ∷ e t))
+
+    go : Later → (s t : Bool) → eqb b 34 ≡ s → eqb b (letterLeft (suc k)) ≡ t → lexIn (b ∷ text) (suc k) c ≡ wrong
+    go later true t i j = rw (i, above)
+    go later false false i j = rw (i, above, j)
+    go later false true i j = rw (i, above, j, pred) (ends later (eqb-true b (letterLeft (suc k)) j) (eqb k 9))
+
+-- ---- a string
 
 pub no-string : (text : List ℕ) (start : ℕ) → ((c : List ℕ) → lexIn (drop start text) 0 c ≡ wrong) → Closed text start 0
 no-string text start h = record { inside = omega arith; none = λ z. h; is = λ p. absurd (omega arith); quote = λ p. absurd (omega arith) }
 
-module _ {text : List ℕ} {start i k : ℕ} (s : Lexing text start i k) where
-  here : i < length text → (c : List ℕ) → lexIn (drop start text) 0 c ≡ lexIn (getD text i 0 ∷ drop (suc i) text) k c
-  here h c = s .same c ∙ ap (λ (l : List ℕ). lexIn l k c) (drop-cons text i 0 h)
+-- neither a plain byte nor the quote nor an escape
+other-lexed : (b : ℕ) (text c : List ℕ) → plain b ≡ false → (b ≡ 34 → ⊥) → ((rest : List ℕ) → b ∷ text ≡ escaped rest → ⊥) → lexIn (b ∷ text) 0 c ≡ wrong
+unfolding lexIn afterByte escapeLeft letterLeft
+other-lexed b text c p q n = go (eqb b 92) refl
+  where
+    go : (t : Bool) → eqb b 92 ≡ t → lexIn (b ∷ text) 0 c ≡ wrong
+    go true e = rw (ne-eqb b 34 q, e) (broken 5 text c (λ rest s. n rest (λ t. eqb-true b 92 e t ∷ s t)))
+    go false e = rw (ne-eqb b 34 q, e, p)
 
-  before-quote : i < length text → getD text i 0 ≡ 34 → before (drop i text) ≡ 0
-  unfolding before
-  before-quote h e = rw (drop-cons text i 0 h, e)
+escape-lexed : (rest c : List ℕ) → lexIn (escaped rest) 0 c ≡ lexIn rest 0 c
+unfolding lexIn afterByte letterLeft
+escape-lexed rest c = refl
 
-  before-other : i < length text → (getD text i 0 ≡ 34 → ⊥) → before (drop i text) ≡ suc (before (drop (suc i) text))
-  unfolding before
-  before-other h n = rw (drop-cons text i 0 h, ne-eqb (getD text i 0) 34 n)
+escape-before : (rest : List ℕ) → before (escaped rest) ≡ before rest + 6
+unfolding before
+escape-before rest = six-more (before rest)
 
-  pub string-close : i < length text → getD text i 0 ≡ 34 → k ≡ 0 → Closed text start (i + 1)
-  unfolding from lexIn
-  string-close h e z =
-      let a = s .onward in
-      record { inside = omega arith; none = λ q. absurd (omega arith); is = λ p. (omega arith, λ c. here h c ∙ rw (e, z, add-one)); quote = λ p. omega (arith, s .clear, before-quote h e) }
-
-  pub string-cut : i < length text → getD text i 0 ≡ 34 → (k ≡ 0 → ⊥) → Closed text start 0
-  unfolding lexIn
-  string-cut h e z = no-string text start (λ c. here h c ∙ rw (e, ne-eqb k 0 z))
-
-  pub string-wrong : {k′ : ℕ} → i < length text → (getD text i 0 ≡ 34 → ⊥) → k′ ≡ afterByte k (getD text i 0) → k′ ≡ 9 → Closed text start 0
-  unfolding lexIn
-  string-wrong h n e z = no-string text start (λ c. here h c ∙ rw (ne-eqb (getD text i 0) 34 n, ← e, z))
-
-  pub string-more : {k′ : ℕ} → i < length text → (getD text i 0 ≡ 34 → ⊥) → k′ ≡ afterByte k (getD text i 0) → (k′ ≡ 9 → ⊥) → Lexing text start (i + 1) k′
-  unfolding lexIn
-  string-more {k′} h n e z =
-      let a = s .onward in
-      record { inside = omega arith; onward = omega arith; same = λ c. here h c ∙ rw (ne-eqb (getD text i 0) 34 n, ← e, ne-eqb k′ 9 z, add-one); clear = rw (add-one i) (omega (arith, s .clear, before-other h n)) }
-
+module _ {text : List ℕ} {start i : ℕ} (s : Stopped text start i) where
   pub string-open : length text ≤ i → Closed text start 0
   unfolding lexIn
   string-open h = no-string text start (λ c. s .same c ∙ rw (drop-of-length-le text h))
+
+  module _ (h : i < length text) where
+    here : drop i text ≡ getD text i 0 ∷ drop (suc i) text
+    here = drop-cons text i 0 h
+
+    lexed-here : (c : List ℕ) → lexIn (drop start text) 0 c ≡ lexIn (getD text i 0 ∷ drop (suc i) text) 0 c
+    lexed-here c = s .same c ∙ ap (λ (l : List ℕ). lexIn l 0 c) here
+
+    before-quote : getD text i 0 ≡ 34 → before (drop i text) ≡ 0
+    unfolding before
+    before-quote e = rw (here, e)
+
+    pub string-close : getD text i 0 ≡ 34 → Closed text start (i + 1)
+    unfolding from lexIn
+    string-close e =
+        let a = s .onward in
+        record { inside = omega arith; none = λ q. absurd (omega arith); is = λ p. (omega arith, λ c. lexed-here c ∙ rw (e, add-one)); quote = λ p. omega (arith, s .clear, before-quote e) }
+
+    pub string-wrong : {r : Bool} → (getD text i 0 ≡ 34 → ⊥) → EscapeAt text i r → r ≡ false → Closed text start 0
+    string-wrong n e z =
+        no-string text start (λ c. lexed-here c ∙ other-lexed (getD text i 0) (drop (suc i) text) c (s .stop h) n (λ rest q. e .none z rest (here ∙ q)))
+
+    module _ {r : Bool} (e : EscapeAt text i r) (z : r ≡ true) where
+      pub escape-room : i + 6 ≤ length text
+      escape-room = omega (arith, escape-length (drop (i + 6) text) (e .is z), length-drop i text)
+
+      pub string-more : {j : ℕ} → Stopped text (i + 6) j → Stopped text start j
+      string-more {j} p =
+          let b : before (drop i text) ≡ before (drop (i + 6) text) + 6 = ap before (e .is z) ∙ escape-before (drop (i + 6) text) in
+          record {
+            inside = p .inside;
+            onward = omega (arith, s .onward, p .onward);
+            same = λ c. s .same c ∙ ap (λ (l : List ℕ). lexIn l 0 c) (e .is z) ∙ escape-lexed (drop (i + 6) text) c ∙ p .same c;
+            clear = omega (arith, s .clear, b, p .clear);
+            stop = p .stop;
+          }
 
 -- ---- what a good string spells, against the bytes that stand there
 
@@ -129,11 +267,6 @@ step b text (suc k) {c} {ts} e = go (eqb b 34) (eqb b (letterLeft (suc k))) refl
         ends : (t : Bool) → cond t wrong (lexIn text (suc k - 1) c) ≡ word c ∷ ts → lexIn text k c ≡ word c ∷ ts
         ends true q = not-word q
         ends false q = rw pred at q
-
--- the last k letters of an escape
-escapeLeft : ℕ → List ℕ
-escapeLeft zero = []
-escapeLeft (suc k) = letterLeft (suc k) ∷ escapeLeft k
 
 -- the bytes before the next quote: what is left of an escape, and then letters that spell the content
 record Spelling (text : List ℕ) (k : ℕ) : Type 0 where

@@ -1,24 +1,24 @@
 -- A walk over an array that is known to stand there yields its items, in order.
 use mathlib.Core.Path.{_≡_, refl, sym, ap, _∙_}
-use mathlib.Core.Bool.{Bool, true, false, cond}
+use mathlib.Core.Bool.{Bool, true, false}
+use mathlib.Core.Logic.{_⊎_, ⊎-elim}
 use mathlib.Core.List.{List, [], _∷_, _++_}
 use Prim.Native.Nat.{ℕ, zero, suc, _+_, _-_, _<_, _≤_}
 use native.Mathlib.Omega.{arith}
 use native.Mathlib.Numerals.{add-one}
-use lib.Dec.{eqb, eqb·suc-zero}
+use borrow.Author.Tests.{ne-eqb}
 use lib.ListN.{length, drop, getD, drop-of-length-le, length-drop}
-use lib.Seq.{drop-cons, length-take-le}
+use lib.Seq.{drop-cons, drop-drop, length-take-le}
 use Rattle.exports.specs.Text.{Token, mark, word, every}
 use Rattle.exports.specs.Lexer.{content, before}
 use Rattle.exports.specs.Shape.{array, following, string, strings, groupName, Element, Written, written, document, elements, Shape}
 use Rattle.exports.specs.Places.{from, Next, Reads, one, Keyed, Begun, Followed, noPart, PartRead}
-use Rattle.exports.specs.Strings.{leftAfter, counted, closing, GroupPlace}
+use Rattle.exports.specs.Strings.{GroupPlace}
 use Rattle.exports.specs.Running.{someOf}
 use Rattle.exports.specs.declared.lexer.Found.{Found}
 use Rattle.exports.specs.declared.walk.Key.{Key}
 use Rattle.exports.specs.declared.walk.Cursor.{Cursor}
 use Rattle.exports.specs.declared.strings.Part.{Part}
-use Rattle.exports.proofs.Lexing.{no-truth}
 use Rattle.exports.proofs.Unescaping.{spells-shorter}
 use Rattle.exports.proofs.Tokening.{nil-cons, head-is, tail-is, other-mark, stands, found-word, read-word, read-no-word}
 use Rattle.exports.proofs.Arrays.{Opens, cons-array, nil-array, cons-following, nil-following, remains, falls, string-opens}
@@ -146,59 +146,71 @@ every-all good = refl
 
 -- ---- what a string spells
 
--- a byte more
-content-step : (b : ℕ) (text : List ℕ) (k : ℕ) → closing k b ≡ false → length (content (b ∷ text) k) ≡ counted k + length (content text (leftAfter k b))
-unfolding content counted leftAfter closing
-content-step b text zero h = rw h (go (eqb b 92))
-  where
-    go : (t : Bool) → length (cond t (61 ∷ content text 5) (b ∷ content text 0)) ≡ 1 + length (content text (cond t 5 0))
-    go true = omega arith
-    go false = omega arith
-content-step b text (suc k) h =
-    let z : eqb (suc k) 0 ≡ false = eqb·suc-zero k in
-    let q : suc k - 1 ≡ k = omega arith in
-    rw (z, q) (omega arith)
+-- the letters of an escape that are left
+content-drop : (text : List ℕ) (k : ℕ) → content text k ≡ content (drop k text) 0
+unfolding content
+content-drop text zero = refl
+content-drop [] (suc k) = refl
+content-drop (b ∷ text) (suc k) = content-drop text k
 
-content-close : (b : ℕ) (text : List ℕ) (k : ℕ) → closing k b ≡ true → content (b ∷ text) k ≡ []
-unfolding content closing
-content-close b text zero h = rw h
-content-close b text (suc k) h = no-truth (rw (eqb·suc-zero k) at h)
-
-pub few : (k : ℕ) → counted k ≤ 1
-unfolding counted
-few k = go (eqb k 0)
-  where
-    go : (t : Bool) → cond t 1 0 ≤ 1
-    go true = omega arith
-    go false = omega arith
-
-pub record Measuring (text : List ℕ) (start i k n : ℕ) : Type 0 where
+pub record Measuring (text : List ℕ) (start i n : ℕ) : Type 0 where
   pub inside : i ≤ length text
   pub small : n + start ≤ i
-  pub same : length (content (drop start text) 0) ≡ n + length (content (drop i text) k)
+  pub same : length (content (drop start text) 0) ≡ n + length (content (drop i text) 0)
 
-pub measure-start : (text : List ℕ) (start : ℕ) → start ≤ length text → Measuring text start start 0 0
+pub measure-start : (text : List ℕ) (start : ℕ) → start ≤ length text → Measuring text start start 0
 measure-start text start h = record { inside = h; small = omega arith; same = omega arith }
 
-module _ {text : List ℕ} {start i k n : ℕ} (m : Measuring text start i k n) where
-  pub measure-close : {r : Bool} → i < length text → r ≡ closing k (getD text i 0) → r ≡ true → n ≡ length (content (drop start text) 0)
-  measure-close h e t =
-      let q : length (content (drop i text) k) ≡ 0 = ap length (ap (λ (l : List ℕ). content l k) (drop-cons text i 0 h) ∙ content-close _ _ k (sym e ∙ t)) in
-      omega (arith, m .same)
-
-  pub measure-more : {r : Bool} {k′ d : ℕ} → i < length text → r ≡ closing k (getD text i 0) → r ≡ false → d ≡ counted k → k′ ≡ leftAfter k (getD text i 0) → Measuring text start (i + 1) k′ (n + d)
-  measure-more {r} {k′} {d} h e t x y =
-      let s = m .small in
-      let one : counted k ≤ 1 = few k in
-      let q : length (content (drop i text) k) ≡ counted k + length (content (drop (suc i) text) (leftAfter k (getD text i 0)))
-      = ap (λ (l : List ℕ). length (content l k)) (drop-cons text i 0 h) ∙ content-step _ _ k (sym e ∙ t) in
-      record { inside = omega arith; small = omega arith; same = rw (add-one i, y) (omega (arith, m .same)) }
-
+module _ {text : List ℕ} {start i n : ℕ} (m : Measuring text start i n) where
   pub measure-end : length text ≤ i → n ≡ length (content (drop start text) 0)
   unfolding content
   measure-end h =
-      let q : length (content (drop i text) k) ≡ 0 = rw (drop-of-length-le text h) in
+      let q : length (content (drop i text) 0) ≡ 0 = rw (drop-of-length-le text h) in
       omega (arith, m .same)
+
+  module _ (h : i < length text) where
+    pub measure-close : getD text i 0 ≡ 34 → n ≡ length (content (drop start text) 0)
+    unfolding content
+    measure-close e =
+        let q : length (content (drop i text) 0) ≡ 0 = rw (drop-cons text i 0 h, e) in
+        omega (arith, m .same)
+
+    pub measure-plain : (getD text i 0 ≡ 34 → ⊥) → (getD text i 0 ≡ 92 → ⊥) → Measuring text start (i + 1) (n + 1)
+    unfolding content
+    measure-plain p s =
+        let a = m .small in
+        let q : length (content (drop i text) 0) ≡ suc (length (content (drop (suc i) text) 0)) = rw (drop-cons text i 0 h, ne-eqb (getD text i 0) 34 p, ne-eqb (getD text i 0) 92 s) in
+        record { inside = omega arith; small = omega arith; same = rw (add-one i) (omega (arith, m .same)) }
+
+    module _ (e : getD text i 0 ≡ 92) where
+      escape-length : length (content (drop i text) 0) ≡ suc (length (content (drop (i + 6) text) 0))
+      unfolding content
+      escape-length =
+          let d : drop 5 (drop (suc i) text) ≡ drop (i + 6) text = drop-drop 5 (suc i) text ∙ (let n : suc i + 5 ≡ i + 6 = omega arith in ap (λ (k : ℕ). drop k text) n) in
+          rw (drop-cons text i 0 h, e) (ap (λ (l : List ℕ). suc (length l)) (content-drop (drop (suc i) text) 5 ∙ ap (λ (l : List ℕ). content l 0) d))
+
+      pub measure-cut : length text - i < 6 → n + 1 ≡ length (content (drop start text) 0)
+      unfolding content
+      measure-cut l =
+          let q : length (content (drop (i + 6) text) 0) ≡ 0 = rw (drop-of-length-le text {i = i + 6} (omega arith)) in
+          omega (arith, m .same, escape-length)
+
+      pub measure-escape : 6 ≤ length text - i → Measuring text start (i + 6) (n + 1)
+      measure-escape l =
+          let a = m .small in
+          record { inside = omega arith; small = omega arith; same = omega (arith, m .same, escape-length) }
+
+    -- the place of the letter's last byte
+    module _ {j : ℕ} (w : ((getD text i 0 ≡ 92) × (6 ≤ length text - i) × (j ≡ i + 5)) ⊎ ((getD text i 0 ≡ 92 → ⊥) × (j ≡ i))) where
+      pub measure-last : (i ≤ j) × (j < length text)
+      measure-last = ⊎-elim (λ x. let q = x .2 in (omega arith, omega (arith, x .1))) (λ x. let q = x .1 in (omega arith, omega arith)) w
+
+      pub measure-more : (getD text i 0 ≡ 34 → ⊥) → Measuring text start (j + 1) (n + 1)
+      measure-more p =
+          ⊎-elim
+          (λ x. let e : j + 1 ≡ i + 6 = omega (arith, x .2) in rw e (measure-escape (x .0) (x .1)))
+          (λ x. let e : j + 1 ≡ i + 1 = omega (arith, x .1) in rw e (measure-plain p (x .0)))
+          w
 
 -- ---- all elements
 

@@ -29,6 +29,19 @@ pub record Skipped (text : List ℕ) (at r : ℕ) : Type 0 where
   pub same : from text at ≡ from text r
   pub stop : r < length text → blank (getD text r 0) ≡ false
 
+-- from `start` to r stand letters of a string, and at r no plain one
+pub record Stopped (text : List ℕ) (start r : ℕ) : Type 0 where
+  pub inside : r ≤ length text
+  pub onward : start ≤ r
+  pub same : (c : List ℕ) → lexIn (drop start text) 0 c ≡ lexIn (drop r text) 0 c
+  pub clear : start + before (drop start text) ≡ r + before (drop r text)
+  pub stop : r < length text → plain (getD text r 0) ≡ false
+
+-- whether the escape stands at a place
+pub record EscapeAt (text : List ℕ) (at : ℕ) (r : Bool) : Type 0 where
+  pub is : r ≡ true → drop at text ≡ 92 ∷ 117 ∷ 48 ∷ 48 ∷ 51 ∷ 100 ∷ drop (at + 6) text
+  pub none : r ≡ false → (rest : List ℕ) → drop at text ≡ 92 ∷ 117 ∷ 48 ∷ 48 ∷ 51 ∷ 100 ∷ rest → ⊥
+
 -- r is the place after a string whose letters begin at `start`; 0 where there is none
 pub record Closed (text : List ℕ) (start r : ℕ) : Type 0 where
   pub inside : r ≤ length text

@@ -4,8 +4,8 @@ ghost use mathlib.Core.Bool.{true};
 ghost use Prim.Native.Nat.{_≤_};
 ghost use lib.ListN.{length, drop};
 ghost use Rattle.exports.specs.Text.{blank, isMark, plain};
-ghost use Rattle.exports.specs.Lexer.{letterLeft, afterByte, content};
-ghost use Rattle.exports.specs.Places.{Skipped, Closed, Next, eqList, bare};
+ghost use Rattle.exports.specs.Lexer.{content};
+ghost use Rattle.exports.specs.Places.{Skipped, Stopped, EscapeAt, Closed, Next, eqList, bare};
 
 // A token: its kind is 0 at the end, 1 for a wrong byte, 34 for a string, or the mark itself.
 // The letters of a string begin at `start`; `next` is the place after the token.
@@ -66,41 +66,6 @@ pub(crate) fn is_plain(b: u8) -> bool
     b != 92
 }
 
-// The letter of "u003d" that comes when k of them are left.
-pub(crate) fn letter_left(k: u8) -> u8
-    ensures { λ r. ⌜ r ≡ letterLeft k ⌝ }
-{
-    if k == 5 {
-        return 117;
-    }
-    if k == 2 {
-        return 51;
-    }
-    if k == 1 {
-        return 100;
-    }
-    48
-}
-
-// How many letters of an escape are left after a byte of a string; 9 for a byte that cannot stand there.
-pub(crate) fn after_byte(k: u8, b: u8) -> u8
-    ensures { λ r. ⌜ r ≡ afterByte k b ⌝ }
-{
-    if k == 0 {
-        if b == 92 {
-            return 5;
-        }
-        if is_plain(b) {
-            return 0;
-        }
-        return 9;
-    }
-    if b == letter_left(k) {
-        return k - 1;
-    }
-    9
-}
-
 pub(crate) fn skip_blanks(text: &[u8], at: usize) -> usize
     requires { ⌜ at ≤ length (now text) ⌝ }
     ensures { λ r. ⌜ Skipped (now (text .entry)) at r ⌝ }
@@ -115,26 +80,61 @@ pub(crate) fn skip_blanks(text: &[u8], at: usize) -> usize
     i
 }
 
+// The first place from `start` on that holds no plain byte; the text's length if there is none.
+pub(crate) fn plain_end(text: &[u8], start: usize) -> usize
+    requires { ⌜ start ≤ length (now text) ⌝ }
+    ensures { λ r. ⌜ Stopped (now (text .entry)) start r ⌝ }
+{
+    let mut i = start;
+    while i < text.len() {
+        if !is_plain(text[i]) {
+            return i;
+        }
+        i += 1;
+    }
+    i
+}
+
+// The escape \u003d stands at a place.
+pub(crate) fn escape_at(text: &[u8], at: usize) -> bool
+    requires { ⌜ at ≤ length (now text) ⌝ }
+    ensures { λ r. ⌜ EscapeAt (now (text .entry)) at r ⌝ }
+{
+    if text.len() - at < 6 {
+        return false;
+    }
+    if text[at] != 92 {
+        return false;
+    }
+    if text[at + 1] != 117 {
+        return false;
+    }
+    if text[at + 2] != 48 {
+        return false;
+    }
+    if text[at + 3] != 48 {
+        return false;
+    }
+    if text[at + 4] != 51 {
+        return false;
+    }
+    text[at + 5] == 100
+}
+
 // The place after the quote that closes a string; 0 where the string is no good one.
 pub(crate) fn string_end(text: &[u8], start: usize) -> usize
     requires { ⌜ start ≤ length (now text) ⌝ }
     ensures { λ r. ⌜ Closed (now (text .entry)) start r ⌝ }
 {
-    let mut i = start;
-    let mut k: u8 = 0;
+    let mut i = plain_end(text, start);
     while i < text.len() {
-        let b = text[i];
-        if b == 34 {
-            if k == 0 {
-                return i + 1;
-            }
+        if text[i] == 34 {
+            return i + 1;
+        }
+        if !escape_at(text, i) {
             return 0;
         }
-        k = after_byte(k, b);
-        if k == 9 {
-            return 0;
-        }
-        i += 1;
+        i = plain_end(text, i + 6);
     }
     0
 }

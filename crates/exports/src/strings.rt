@@ -13,40 +13,7 @@ ghost use Rattle.exports.specs.Text.{Token};
 ghost use Rattle.exports.specs.Lexer.{content};
 ghost use Rattle.exports.specs.Shape.{strings};
 ghost use Rattle.exports.specs.Places.{from, noPart, PartRead, LettersAt, LetterRead};
-ghost use Rattle.exports.specs.Strings.{leftAfter, counted, closing, GroupPlace};
-
-// The letters of an escape that are left after a byte of a good string.
-pub(crate) fn left_after(k: u8, b: u8) -> u8
-    ensures { λ r. ⌜ r ≡ leftAfter k b ⌝ }
-{
-    if k == 0 {
-        if b == 92 {
-            return 5;
-        }
-        return 0;
-    }
-    k - 1
-}
-
-// Whether a byte is the first, or only one, of what it spells.
-pub(crate) fn counts(k: u8) -> usize
-    ensures { λ r. ⌜ r ≡ counted k ⌝ }
-{
-    if k == 0 {
-        return 1;
-    }
-    0
-}
-
-// A quote that stands in no escape.
-pub(crate) fn closes(k: u8, b: u8) -> bool
-    ensures { λ r. ⌜ r ≡ closing k b ⌝ }
-{
-    if k == 0 {
-        return b == 34;
-    }
-    false
-}
+ghost use Rattle.exports.specs.Strings.{GroupPlace};
 
 // How many bytes a string spells whose letters begin at a place.
 pub(crate) fn content_length(text: &[u8], start: usize) -> usize
@@ -54,15 +21,19 @@ pub(crate) fn content_length(text: &[u8], start: usize) -> usize
     ensures { λ r. ⌜ r ≡ length (content (drop start (now (text .entry))) 0) ⌝ }
 {
     let mut i = start;
-    let mut k: u8 = 0;
     let mut n: usize = 0;
     while i < text.len() {
         let b = text[i];
-        if closes(k, b) {
+        if b == 34 {
             return n;
         }
-        n += counts(k);
-        k = left_after(k, b);
+        n += 1;
+        if b == 92 {
+            if text.len() - i < 6 {
+                return n;
+            }
+            i += 5;
+        }
         i += 1;
     }
     n

@@ -1,50 +1,51 @@
 -- `strings::content_length` meets its contract.
-use borrow.Author.Needs.{needs}
-use Rattle.exports.proofs.Passing.{Measuring, measure-start, measure-close, measure-more, measure-end, few}
 use Prim.Native.Nat.{_-_}
+use mathlib.Core.Logic.{⊎-elim, inl, inr}
 use lib.ListN.{length}
+use borrow.Author.Needs.{needs}
 use native.Mathlib.Omega.{arith}
+use Rattle.exports.proofs.Passing.{Measuring, measure-start, measure-close, measure-cut, measure-last, measure-more, measure-end}
 use Rattle.exports.proofs.strings.content_length.Statement.{statement}
 use Rattle.exports.proofs.strings.content_length.Tie as tie
 
 abbrev Inv-loop : tie.InvT-loop
-Inv-loop text start i₀ k₀ n₀ i k n = Measuring text start i k n
+Inv-loop text start i₀ n₀ i n = Measuring text start i n
 
 abbrev μ-loop : tie.MeasureT-loop
-μ-loop text start i₀ k₀ n₀ i k n = length text - i
+μ-loop text start i₀ n₀ i n = length text - i
 
 loop-holds : tie.Need-loop-holds Inv-loop μ-loop
-loop-holds c = measure-start _ _ (c .before .pre)
+loop-holds c = measure-start _ _ (c .pre)
 
 shared-slice-read-b : tie.Need-shared-slice-read-b Inv-loop μ-loop
 shared-slice-read-b c = search needs
 
-closes-requires : tie.Need-closes-requires Inv-loop μ-loop
-closes-requires c κs = search needs
-
 returns : tie.Need-returns Inv-loop μ-loop
-returns c = measure-close (c .before .before .before .before .loop .inv) (c .before .before .before .loop-test .taken) (c .before .closes .ensures) (c .if1 .taken)
-
-counts-requires : tie.Need-counts-requires Inv-loop μ-loop
-counts-requires c κs = search needs
+returns c = measure-close (c .before .before .before .loop .inv) (c .before .before .loop-test .taken) (c .if1 .taken)
 
 add-n : tie.Need-add-n Inv-loop μ-loop
-add-n c = omega (arith, few (c .before .before .before .before .before .loop .k), c .counts .ensures, c .before .before .before .before .before .loop .inv .small, c .before .before .before .before .loop-test .taken)
+add-n c = search needs
 
-left-after-requires : tie.Need-left-after-requires Inv-loop μ-loop
-left-after-requires c κs = search needs
+sub-if3 : tie.Need-sub-if3 Inv-loop μ-loop
+sub-if3 c = search needs
+
+returns-2 : tie.Need-returns-2 Inv-loop μ-loop
+returns-2 c = measure-cut (c .before .before .before .before .before .loop .inv) (c .before .before .before .before .loop-test .taken) (c .before .if2 .taken) (c .if3 .taken)
 
 add-i : tie.Need-add-i Inv-loop μ-loop
 add-i c = search needs
 
+add-i-2 : tie.Need-add-i-2 Inv-loop μ-loop
+add-i-2 c = omega (arith, measure-last (c .before .before .before .before .before .loop .inv) (c .before .before .before .before .loop-test .taken) (⊎-elim (λ w. inl (w .0 .taken, w .1 .left, w .2)) (λ w. inr (w .0 .left, w .1)) (c .before .if2 .came)) .1)
+
 loop-less : tie.Need-loop-less Inv-loop μ-loop
-loop-less c = search needs
+loop-less c = omega (arith, measure-last (c .before .before .before .before .before .loop .inv) (c .before .before .before .before .loop-test .taken) (⊎-elim (λ w. inl (w .0 .taken, w .1 .left, w .2)) (λ w. inr (w .0 .left, w .1)) (c .before .if2 .came)) .0, c .before .before .before .before .loop-test .taken)
 
 loop-again : tie.Need-loop-again Inv-loop μ-loop
-loop-again c = measure-more (c .before .before .before .before .before .before .loop .inv) (c .before .before .before .before .before .loop-test .taken) (c .before .before .before .closes .ensures) (c .before .before .if1 .left) (c .before .counts .ensures) (c .left-after .ensures)
+loop-again c = measure-more (c .before .before .before .before .before .loop .inv) (c .before .before .before .before .loop-test .taken) (⊎-elim (λ w. inl (w .0 .taken, w .1 .left, w .2)) (λ w. inr (w .0 .left, w .1)) (c .before .if2 .came)) (c .before .before .if1 .left)
 
-returns-2 : tie.Need-returns-2 Inv-loop μ-loop
-returns-2 c = measure-end (c .before .loop .inv) (c .loop-test .left)
+returns-3 : tie.Need-returns-3 Inv-loop μ-loop
+returns-3 c = measure-end (c .before .loop .inv) (c .loop-test .left)
 
 pub content-length-spec : {M : Type 1} → statement M
 content-length-spec =
@@ -54,12 +55,12 @@ content-length-spec =
     μ-loop
     loop-holds
     shared-slice-read-b
-    closes-requires
     returns
-    counts-requires
     add-n
-    left-after-requires
+    sub-if3
+    returns-2
     add-i
+    add-i-2
     loop-less
     loop-again
-    returns-2)
+    returns-3)
