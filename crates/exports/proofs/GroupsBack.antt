@@ -24,8 +24,8 @@ module _ (t : List ℕ) (h : short t ≡ true) (more : List ℕ) where
   pub text-front : textAt (entryText t ++ more) 0 ≡ t
   text-front = text-at [] t more 0 refl (short-lt t h)
 
-  pub text-behind : drop (2 + lengthAt (entryText t ++ more) 0) (entryText t ++ more) ≡ more
-  text-behind =
+  pub text-after : drop (2 + lengthAt (entryText t ++ more) 0) (entryText t ++ more) ≡ more
+  text-after =
       ap (λ (n : ℕ). drop (2 + n) (entryText t ++ more)) (length-at [] t more 0 refl (short-lt t h))
       ∙ drop-at (entryText t) more (2 + length t) (length-entry t)
 
@@ -37,7 +37,7 @@ unfolding textsIn
 texts-in [] rest h = refl
 texts-in (t ∷ ts) rest h =
     ap (λ (b : List ℕ). textAt b 0 ∷ textsIn (length ts) (drop (2 + lengthAt b 0) b)) (opened t ts rest)
-    ∙ (λ i. text-front t (every-head short t ts h) (sizedTexts ts ++ rest) i ∷ textsIn (length ts) (text-behind t (every-head short t ts h) (sizedTexts ts ++ rest) i))
+    ∙ (λ i. text-front t (every-head short t ts h) (sizedTexts ts ++ rest) i ∷ textsIn (length ts) (text-after t (every-head short t ts h) (sizedTexts ts ++ rest) i))
     ∙ ap (λ (us : List (List ℕ)). t ∷ us) (texts-in ts rest (every-tail short t ts h))
 
 pub after-in : (ts : List (List ℕ)) (rest : List ℕ) → every short ts ≡ true → afterTexts (length ts) (sizedTexts ts ++ rest) ≡ rest
@@ -45,7 +45,7 @@ unfolding afterTexts sizedTexts
 after-in [] rest h = refl
 after-in (t ∷ ts) rest h =
     ap (λ (b : List ℕ). afterTexts (length ts) (drop (2 + lengthAt b 0) b)) (opened t ts rest)
-    ∙ ap (afterTexts (length ts)) (text-behind t (every-head short t ts h) (sizedTexts ts ++ rest)) ∙ after-in ts rest (every-tail short t ts h)
+    ∙ ap (afterTexts (length ts)) (text-after t (every-head short t ts h) (sizedTexts ts ++ rest)) ∙ after-in ts rest (every-tail short t ts h)
 
 -- ---- groups
 

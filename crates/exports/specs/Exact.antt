@@ -1,4 +1,4 @@
--- What holds of the shape, as statements; the proofs are in proofs/Unique.antt.
+-- What holds of the shape, as statements; the proofs are in proofs/Unique.antt and Back.antt.
 use mathlib.Core.Path.{_≡_}
 use mathlib.Core.Logic.{_↔_}
 use mathlib.Core.List.{List}

@@ -5,7 +5,7 @@ use mathlib.Core.List.{List, [], _∷_}
 use lib.Dec.{eqb}
 use Rattle.exports.specs.Text.{Token, mark, word, blank, isMark, plain}
 
--- a wrong byte gives one token more, of the kind 1, and ends it
+-- at a wrong byte, or in a string that is not closed, the list of tokens ends with one of kind 1
 
 abbrev pub wrong : List Token
 wrong = mark 1 ∷ []

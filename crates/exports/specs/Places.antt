@@ -49,7 +49,7 @@ pub record Closed (text : List ℕ) (start r : ℕ) : Type 0 where
   pub is : 0 < r → (start < r) × ((c : List ℕ) → lexIn (drop start text) 0 c ≡ word c ∷ from text r)
   pub quote : 0 < r → r ≡ start + before (drop start text) + 1
 
--- a byte stands in a list
+-- a list contains a byte
 unfoldable pub holds : ℕ → List ℕ → Bool
 holds b [] = false
 holds b (x ∷ xs) = eqb x b || holds b xs
@@ -80,7 +80,7 @@ pub record Next (text : List ℕ) (at : ℕ) (t : Found) : Type 0 where
 
 -- ---- one of the things x : A, which are spelled by tokens
 
--- at a place stands the one or other x, and after it r
+-- one of these things stands at a place, and r is the place after it; 0 if none does
 pub record Reads {A : Type 0} (item : A → List Token) (text : List ℕ) (at r : ℕ) : Type 0 where
   pub inside : r ≤ length text
   pub onward : 0 < r → at < r

@@ -27,7 +27,7 @@ use Rattle.exports.specs.declared.reading.Restored.{Restored}
 abbrev pub canonical : List ℕ → Bool
 canonical w = accepted Standard w
 
--- 28: and "receipts over 65,535 bytes or too many for their four-byte count"
+-- 28: certificates in canonical BASE64, and no "receipts over 65,535 bytes or too many for their four-byte count"
 unfoldable pub elementGood : Element → Bool
 elementGood e =
     (canonical (e .certificate) && every canonical (e .issuers)) && (every short (e .receipts) && leb (length (e .receipts)) 4294967295)

@@ -23,7 +23,7 @@ use Rattle.exports.specs.declared.writing.Exported.{Exported}
 unfoldable pub quoted : List ℕ → List ℕ
 quoted w = 34 ∷ (w ++ (34 ∷ []))
 
--- items with "," between them, and before them where others went before
+-- items with "," between them, and one before the first if other items precede it
 module _ {A : Type 0} (item : A → List ℕ) where
   unfoldable pub listed : Bool → List A → List ℕ
   listed more [] = []

@@ -9,7 +9,7 @@ ghost use mathlib.Core.Path.{_≡_};
 ghost use lib.ListN.{length};
 ghost use Rattle.exports.specs.Reading.{notRead, restored, restoredBuffer};
 
-// The length of the journal and the state after it; or the number of the first question answered no, with the index of Take over.
+// The length of the journal and the state after it; or the number of the first question answered no, with Take over's index, or 0 for 28, 29 and 23.
 pub struct Restored {
     pub number: u32,
     pub index: u32,

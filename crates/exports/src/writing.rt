@@ -15,7 +15,7 @@ ghost use Rattle.exports.specs.Output.{Puts};
 ghost use Rattle.exports.specs.Writing.{quoted, base64, exported, exportBuffer};
 ghost use Rattle.exports.specs.Running.{FourRead, SectionRead, SigningPut, ReceiptsPut, IssuersPut, GroupPut, PairPut, ElementsPut, ExportPut};
 
-// The length of the text; or the number of the first question answered no, with the index of Take over.
+// The length of the text; or the number of the first question answered no, with Take over's index, or 0 for 28 and 23.
 pub struct Exported {
     pub number: u32,
     pub index: u32,
