@@ -109,6 +109,7 @@ export-reads-back-in-c journal key n certificates first second state bj bc h z e
     let e = answer-read _ key n second state h ∙ r .0 in
     record {
       number = ap (λ (x : Restored). x .number) e;
+      index = ap (λ (x : Restored). x .index) e;
       length = ap (λ (x : Restored). x .length) e;
       output = output-read _ key n second state h ∙ r .1;
       state = ap (λ (x : Restored). kept state (x .state)) e ∙ ap (λ (x : TakenOver). kept state (x .state)) (sym (take-over-whole journal key n));

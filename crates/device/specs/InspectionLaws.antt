@@ -21,6 +21,7 @@ textLeft journal key n certificates out = take (exportAnswer journal key n certi
 -- what ditgrux_read_export gives for a text of a journal: the journal at the start of the output, its length, and the state bytes of ditgrux_take_over
 pub record ReadBack (journal key : List ℕ) (n : ℕ) (text out bytes : List ℕ) : Type 0 where
   pub number : readAnswer text key n out bytes .number ≡ 0
+  pub index : readAnswer text key n out bytes .index ≡ 0
   pub length : readAnswer text key n out bytes .length ≡ length journal
   pub output : readOutput text key n out bytes ≡ overwrite out 0 journal
   pub state : kept bytes (readAnswer text key n out bytes .state) ≡ kept bytes (takeOverAnswer journal key n 447 .state)

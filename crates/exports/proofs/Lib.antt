@@ -39,3 +39,4 @@ pub mod Promising
 pub mod ExportAnswers
 pub mod RoomEnough
 pub mod Restoring
+pub mod EmptyPairs

@@ -1,4 +1,6 @@
 -- A member: its name, and the value that belongs to the name.
+use Rattle.primitives.specs.Bytes.{same}
+use Rattle.primitives.proofs.ByteLists.{same-true}
 use mathlib.Core.Path.{_≡_, refl, sym, ap, ap₂, _∙_}
 use mathlib.Core.Bool.{Bool, true, false, cond}
 use mathlib.Core.List.{List, [], _∷_, _++_}
@@ -7,19 +9,12 @@ use native.Mathlib.Omega.{arith}
 use borrow.Author.Tests.{eqb-true}
 use Rattle.exports.specs.Text.{Token, mark, word}
 use Rattle.exports.specs.Shape.{certificateName, issuersName, receiptsName, groupName, string, strings, Member, certificate, issuers, receipts, nameOf, valueOf, member}
-use Rattle.exports.specs.Places.{from, Reads, one, eqList, nameNumber, Keyed, ValueRead, numberOf, led, MemberRead}
+use Rattle.exports.specs.Places.{from, Reads, one, nameNumber, Keyed, ValueRead, numberOf, led, MemberRead}
 use Rattle.exports.specs.declared.walk.Key.{Key}
 use Rattle.exports.proofs.Lexing.{no-truth}
 use Rattle.exports.proofs.Names.{both}
 
 -- ---- names and numbers
-
-pub eqList-true : (xs ys : List ℕ) → eqList xs ys ≡ true → xs ≡ ys
-unfolding eqList
-eqList-true [] [] e = refl
-eqList-true [] (y ∷ ys) e = no-truth e
-eqList-true (x ∷ xs) [] e = no-truth e
-eqList-true (x ∷ xs) (y ∷ ys) e = let p = both _ _ e in ap₂ (λ (a : ℕ) (l : List ℕ). a ∷ l) (eqb-true x y (p .0)) (eqList-true xs ys (p .1))
 
 pub record Named (w : List ℕ) (n : ℕ) : Type 0 where
   pub first : n ≡ 1 → w ≡ certificateName
@@ -31,8 +26,8 @@ pub record Named (w : List ℕ) (n : ℕ) : Type 0 where
 pub named : (w : List ℕ) → Named w (nameNumber w)
 unfolding nameNumber
 named w =
-    go (eqList w certificateName) (eqList w issuersName) (eqList w receiptsName) (eqList w groupName)
-    (eqList-true w certificateName) (eqList-true w issuersName) (eqList-true w receiptsName) (eqList-true w groupName)
+    go (same w certificateName) (same w issuersName) (same w receiptsName) (same w groupName)
+    (same-true w certificateName) (same-true w issuersName) (same-true w receiptsName) (same-true w groupName)
   where
     go : (a b c d : Bool) → (a ≡ true → w ≡ certificateName) → (b ≡ true → w ≡ issuersName) → (c ≡ true → w ≡ receiptsName) → (d ≡ true → w ≡ groupName)
         → Named w (cond a 1 (cond b 2 (cond c 3 (cond d 4 0))))
@@ -43,13 +38,13 @@ named w =
     go false false false false p q r s = record { first = λ e. absurd (omega arith); second = λ e. absurd (omega arith); third = λ e. absurd (omega arith); fourth = λ e. absurd (omega arith); few = omega arith }
 
 pub number-is : (m : Member) → nameNumber (nameOf m) ≡ numberOf m
-unfolding nameNumber nameOf numberOf eqList certificateName issuersName receiptsName groupName
+unfolding nameNumber nameOf numberOf same certificateName issuersName receiptsName groupName
 number-is (certificate w) = refl
 number-is (issuers ws) = refl
 number-is (receipts ws) = refl
 
 pub group-is : nameNumber groupName ≡ 4
-unfolding nameNumber eqList certificateName issuersName receiptsName groupName
+unfolding nameNumber same certificateName issuersName receiptsName groupName
 group-is = refl
 
 -- ---- values

@@ -6,7 +6,7 @@ use mathlib.Core.List.{List, [], _∷_, _++_, map}
 use mathlib.Core.Logic.{_↔_}
 use mathlib.Core.Option.{Option, none, some, Option·map}
 use native.Mathlib.Omega.{arith}
-use borrow.Author.Tests.{le-leb, leb-true, leb-false}
+use borrow.Author.Tests.{le-leb, lt-leb, leb-true, leb-false}
 use lib.Dec.{leb}
 use lib.ListN.{length, take, drop, getD, length-map}
 use Rattle.primitives.specs.Bytes.{AllBytes}
@@ -15,7 +15,7 @@ use Rattle.primitives.specs.Answers.{written, answerWith, bufferWith}
 use Rattle.primitives.specs.Questions.{ask, ifZero}
 use Rattle.primitives.specs.declared.answer.Answer.{Answer}
 use Rattle.primitives.proofs.Rows.{both, true-is-not-false, ask-zero, ask-yes, ifZero-yes, ifZero-no}
-use Rattle.primitives.proofs.Over.{placed-room}
+use Rattle.primitives.proofs.Over.{placed-room, length-placed}
 use Rattle.primitives.proofs.Laws.{writing-touches-no-other}
 use Rattle.receipt.specs.Settings.{between, cspGood, nameText, idGood}
 use Rattle.receipt.specs.declared.settings.Letters.the-variants.{Id, Serial}
@@ -25,7 +25,7 @@ use Rattle.journal.specs.Valid.{Owner, GoodOwner}
 use Rattle.journal.specs.Checking.{takeOver}
 use Rattle.journal.specs.declared.state.TakenOver.{TakenOver}
 use Rattle.exports.specs.Text.{every}
-use Rattle.exports.specs.Shape.{Element, Shape}
+use Rattle.exports.specs.Shape.{Element, Shape, plainElement, plainText}
 use Rattle.exports.specs.Parsed.{elementsOf}
 use Rattle.exports.specs.Spelled.{isEmpty, TextPair, pairsOf, journalSpelled}
 use Rattle.exports.specs.Running.{PairFits, AllFit}
@@ -35,17 +35,20 @@ use Rattle.exports.specs.TakenOver as parts
 use Rattle.exports.specs.Groups.{Group, groupsText, groupGood, groupsOf}
 use Rattle.exports.specs.GroupLaws.{AllNamed}
 use Rattle.exports.specs.GroupLaws as laws
-use Rattle.exports.specs.Writing.{base64, elementFor, elementsFor, exportText, exportOf, exported, exportBuffer}
+use Rattle.exports.specs.Writing.{base64, elementFor, elementsFor, exportText, exportOf, answered, exported, exportBuffer}
 use Rattle.exports.specs.Reading.{elementGood, hasReceipt, namesRegister, pairOf, ownerOf, journalOf, surveyNumber, elementsNumber, restoredFrom, restoredBy, restored, restoredBuffer, journalBy, notRead}
-use Rattle.exports.specs.Promises.{SameCertificates, nothing, also, ReadIsExportedAgain, ReadsAs, ReadExactly, OtherTextsGet28, RefusedExportChangesNothing, NothingAfterLength, RefusedByTakeOver}
+use Rattle.exports.specs.Promises.{WrittenExactly, ExportIsPlain, SameCertificates, nothing, also, ReadIsExportedAgain, SameTextAgain, AnswerOfShape, ReadsAs, ReadExactly, OtherTextsGet28, RefusedExportChangesNothing, NothingAfterLength, RefusedByTakeOver}
 use Rattle.exports.specs.declared.writing.Exported.{Exported}
 use Rattle.exports.specs.declared.reading.Restored.{Restored}
 use Rattle.exports.proofs.Unique.{exact}
-use Rattle.exports.proofs.GroupsBack.{groups-read}
+use Rattle.exports.proofs.GroupsBack.{groups-read, groups-exactly}
 use Rattle.exports.proofs.PairsBack.{pairs-those}
 use Rattle.exports.proofs.TakenAsSpelled.{name-bytes, serial-typed}
 use Rattle.exports.proofs.ElementsTaken.{Surveyed, survey-zero, owner-parts}
-use Rattle.exports.proofs.ReadBack.{made, exported-taken, buffer-taken, exported-refused, buffer-refused, restored-taken}
+use Rattle.exports.proofs.ReadBack.{made, exported-taken, buffer-taken, exported-refused, buffer-refused, restored-is, restored-taken}
+use Rattle.exports.proofs.PlainText.{plain-text}
+use Rattle.exports.proofs.RoomEnough.{some-element}
+use Rattle.exports.proofs.Back.{export-shape}
 
 -- ---- what was read
 
@@ -144,10 +147,6 @@ not-empty : (es : List Element) → not (isEmpty es) ≡ true → es ≡ [] → 
 not-empty [] h e = true-is-not-false h
 not-empty (x ∷ es) h e = let z : _≡_ {A = ℕ} 0 1 = cc in omega arith
 
-some-element : (es : List Element) → (es ≡ [] → ⊥) → not (isEmpty es) ≡ true
-some-element [] h = absurd (h refl)
-some-element (x ∷ es) h = refl
-
 survey-passed : (es : List Element) (rest : ℕ) → not (isEmpty es) ≡ true → every elementGood es ≡ true → every hasReceipt es ≡ true → every namesRegister es ≡ true → surveyNumber es rest ≡ rest
 unfolding surveyNumber ask
 survey-passed es rest a b c d = rw (a, b, c, d)
@@ -185,13 +184,31 @@ read-exactly = record { only = only; always = always }
         survey : (rest : ℕ) → surveyNumber es rest ≡ rest
         survey rest = survey-passed es rest (some-element es (r .some)) (r .good) (r .receipts) (r .names)
 
+alike-of : (a b key : List ℕ) (n : ℕ) (out : List ℕ) → elementsOf a ≡ elementsOf b
+    → (restored a key n (length out) ≡ restored b key n (length out)) × (restoredBuffer a key n out ≡ restoredBuffer b key n out)
+unfolding restored restoredBuffer
+alike-of a b key n out e = (
+  ap (λ (o : Option (List Element)). restoredBy o key n (length out)) e,
+  ap (λ (o : Option (List Element)). ifZero (restoredBy o key n (length out) .number) (overwrite out 0 (journalBy o)) out) e,
+)
+
 pub other-texts-get-28 : OtherTextsGet28
 unfolding restored
 other-texts-get-28 text key n size h = go (elementsOf text) refl
   where
-    go : (o : Option (List Element)) → elementsOf text ≡ o → restoredBy o key n size .number ≡ 28
-    go none q = read-number 28 0
+    go : (o : Option (List Element)) → elementsOf text ≡ o → restoredBy o key n size ≡ notRead 28 0
+    go none q = refl
     go (some es) q = absurd (h es (exact text es .0 q))
+
+pub answer-of-shape : AnswerOfShape
+answer-of-shape = record { answer = answer; alike = alike }
+  where
+    answer : (text key : List ℕ) (n size : ℕ) (es : List Element) → Shape text es → restored text key n size ≡ restoredBy (some es) key n size
+    answer text key n size es s = restored-is text key n size es (exact text es .1 s)
+
+    alike : (a b key : List ℕ) (n : ℕ) (out : List ℕ) (es : List Element) → Shape a es → Shape b es
+        → (restored a key n (length out) ≡ restored b key n (length out)) × (restoredBuffer a key n out ≡ restoredBuffer b key n out)
+    alike a b key n out es s t = alike-of a b key n out (exact a es .1 s ∙ sym (exact b es .1 t))
 
 -- ---- refused calls
 
@@ -235,9 +252,28 @@ over-after : (out text : List ℕ) (i : ℕ) → length text ≤ length out → 
 over-after out text i fits h =
     ap (λ (l : List ℕ). getD l i 0) (sym (placed-room out 0 text (omega (arith, fits)))) ∙ writing-touches-no-other out 0 text i .1 (omega (arith, h))
 
+over-long : (out text : List ℕ) → length text ≤ length out → length (overwrite out 0 text) ≡ length out
+over-long out text h = ap length (sym (placed-room out 0 text (omega (arith, h)))) ∙ length-placed out 0 text
+
 pub nothing-after-length : NothingAfterLength
-nothing-after-length = record { writes = writes; reads = reads }
+nothing-after-length = record { kept = kept; kept-read = kept-read; writes = writes; reads = reads }
   where
+    kept : (j key : List ℕ) (n : ℕ) (certificates out : List ℕ) → length (exportBuffer j key n certificates out) ≡ length out
+    kept j key n certificates out = go (exported j key n certificates out .number) refl
+      where
+        go : (m : ℕ) → exported j key n certificates out .number ≡ m → length (exportBuffer j key n certificates out) ≡ length out
+        go zero q = let x = made j key n certificates out q in ap length (x .buffer) ∙ over-long out (x .text) (x .fits)
+        go (suc m) q = ap length (writes-nothing j key n certificates out (not-zero q) .0)
+
+    kept-read : (text key : List ℕ) (n : ℕ) (out : List ℕ) → length (restoredBuffer text key n out) ≡ length out
+    kept-read text key n out = go (restored text key n (length out) .number) refl
+      where
+        go : (m : ℕ) → restored text key n (length out) .number ≡ m → length (restoredBuffer text key n out) ≡ length out
+        go zero q =
+            let r = read text key n out q in
+            ap length (buffer-is text key n out q r) ∙ over-long out (journalOf (r .elements)) (asked-survey (r .elements) (length out) (r .asked) .1)
+        go (suc m) q = ap length (buffer-kept text key n out (not-zero q))
+
     writes : (j key : List ℕ) (n : ℕ) (certificates out : List ℕ) (i : ℕ) → exported j key n certificates out .length ≤ i
         → getD (exportBuffer j key n certificates out) i 0 ≡ getD out i 0
     writes j key n certificates out i h = go (exported j key n certificates out .number) refl
@@ -331,3 +367,64 @@ read-is-exported-again text key n out es gs s z small good c =
     those (e ∷ es) v h =
         let g = owner-parts e es v h in
         pairs-spelled (ownerOf (e ∷ es)) (map pairOf (e ∷ es)) g
+
+pub same-text-again : SameTextAgain
+same-text-again text key n out fs gs plain is z small good c =
+    read-is-exported-again text key n out fs gs (subst (λ (t : List ℕ). Shape t fs) (sym (plain-text fs) ∙ sym is) (export-shape fs plain)) z small good c ∙ ap some (sym is)
+
+pub export-is-plain : ExportIsPlain
+export-is-plain es = plain-text es
+
+-- ---- written exactly
+
+module _ (j : List ℕ) (gs : List Group) (count : length gs ≡ length (pairsOf j)) (good : every groupGood gs ≡ true) where
+  export-there : exportOf j (groupsText gs) ≡ some (exportText (elementsFor (pairsOf j) gs))
+  unfolding exportOf
+  export-there =
+      ap (Option·map (λ (hs : List Group). exportText (elementsFor (pairsOf j) hs)))
+      (ap (λ (k : ℕ). groupsOf k (groupsText gs)) (sym count) ∙ groups-read gs good)
+
+written-fits : (text out : List ℕ) → length text ≤ length out
+    → (answerWith 28 (some text) out ≡ record { number = 0; length = length text }) × (bufferWith (some text) out ≡ overwrite out 0 text)
+unfolding written placed room
+written-fits text out h = let e : leb (0 + length text) (length out) ≡ true = le-leb (0 + length text) (length out) (omega (arith, h)) in (rw e, rw e)
+
+written-short : (text out : List ℕ) → length out < length text → answerWith 28 (some text) out ≡ record { number = 23; length = 0 }
+unfolding written room
+written-short text out h = let e : leb (0 + length text) (length out) ≡ false = lt-leb (0 + length text) (length out) (omega (arith, h)) in rw e
+
+no-groups : (j certificates : List ℕ) → ((gs : List Group) → length gs ≡ length (pairsOf j) → every groupGood gs ≡ true → certificates ≡ groupsText gs → ⊥)
+    → exportOf j certificates ≡ none
+unfolding exportOf
+no-groups j certificates h = go (groupsOf (length (pairsOf j)) certificates) refl
+  where
+    go : (o : Option (List Group)) → groupsOf (length (pairsOf j)) certificates ≡ o → Option·map (λ (hs : List Group). exportText (elementsFor (pairsOf j) hs)) o ≡ none
+    go none q = refl
+    go (some gs) q = let g = groups-exactly (length (pairsOf j)) certificates gs .0 q in absurd (h gs (g .0) (g .1) (g .2))
+
+pub written-exactly : WrittenExactly
+written-exactly = record { always = always; short = short; other = other }
+  where
+    always : (j key : List ℕ) (n : ℕ) (gs : List Group) (out : List ℕ) → takeOver j key n .number ≡ 0 → length gs ≡ length (pairsOf j)
+        → every groupGood gs ≡ true → length (exportText (elementsFor (pairsOf j) gs)) ≤ length out
+        → (exported j key n (groupsText gs) out ≡ record { number = 0; index = 0; length = length (exportText (elementsFor (pairsOf j) gs)) })
+        × (exportBuffer j key n (groupsText gs) out ≡ overwrite out 0 (exportText (elementsFor (pairsOf j) gs)))
+    always j key n gs out z c g h =
+        let e = export-there j gs c g in
+        let w = written-fits (exportText (elementsFor (pairsOf j) gs)) out h in (
+          exported-taken j key n (groupsText gs) out z ∙ ap (λ (o : Option (List ℕ)). answered (answerWith 28 o out)) e ∙ ap answered (w .0),
+          buffer-taken j key n (groupsText gs) out z ∙ ap (λ (o : Option (List ℕ)). bufferWith o out) e ∙ w .1,
+        )
+
+    short : (j key : List ℕ) (n : ℕ) (gs : List Group) (out : List ℕ) → takeOver j key n .number ≡ 0 → length gs ≡ length (pairsOf j)
+        → every groupGood gs ≡ true → length out < length (exportText (elementsFor (pairsOf j) gs))
+        → exported j key n (groupsText gs) out ≡ record { number = 23; index = 0; length = 0 }
+    short j key n gs out z c g h =
+        exported-taken j key n (groupsText gs) out z ∙ ap (λ (o : Option (List ℕ)). answered (answerWith 28 o out)) (export-there j gs c g)
+        ∙ ap answered (written-short (exportText (elementsFor (pairsOf j) gs)) out h)
+
+    other : (j key : List ℕ) (n : ℕ) (certificates out : List ℕ) → takeOver j key n .number ≡ 0
+        → ((gs : List Group) → length gs ≡ length (pairsOf j) → every groupGood gs ≡ true → certificates ≡ groupsText gs → ⊥)
+        → exported j key n certificates out ≡ record { number = 28; index = 0; length = 0 }
+    other j key n certificates out z h =
+        exported-taken j key n certificates out z ∙ ap (λ (o : Option (List ℕ)). answered (answerWith 28 o out)) (no-groups j certificates h)

@@ -107,12 +107,12 @@ pub record ElementRight (o : Owner) (n : ℕ) (p : Pair) (g : Group) : Type 0 wh
   pub settings : settingsOf (elementFor (textPair o n p) g) ≡ settingsFor o (p .serial)
 
 module _ (o : Owner) (n : ℕ) (p : Pair) (g : Group) where
-  element-plain : plainElement (elementFor (textPair o n p) g) ≡ true
+  pub element-plain : plainElement (elementFor (textPair o n p) g) ≡ true
   unfolding plainElement elementFor textPair
   element-plain =
       rw (plain-encoding Standard (g .certificate), plain-each base64 (plain-encoding Standard) (g .issuers), plain-each (compact (settingsFor o (p .serial)) n) (plain-compact (settingsFor o (p .serial)) n) (p .entries))
 
-  element-good : PairFits (textPair o n p) → GroupBytes g → elementGood (elementFor (textPair o n p) g) ≡ true
+  pub element-good : PairFits (textPair o n p) → GroupBytes g → elementGood (elementFor (textPair o n p) g) ≡ true
   unfolding elementGood elementFor
   element-good f b =
       rw (canonical-encoding (g .certificate) (b .certificate), each-canonical (g .issuers) (b .issuers), f .short, le-leb (length (textPair o n p .texts)) 4294967295 (omega (arith, f .few)))
@@ -209,7 +209,7 @@ module _ {o : Owner} {n : ℕ} where
 
 -- ---- what the writer wrote
 
-over-front : (out text : List ℕ) → length text ≤ length out → take (length text) (overwrite out 0 text) ≡ text
+pub over-front : (out text : List ℕ) → length text ≤ length out → take (length text) (overwrite out 0 text) ≡ text
 unfolding overwrite
 over-front out text h = take-at text (drop (0 + length text) out) (length text) refl
 
@@ -294,16 +294,15 @@ module _ (text key : List ℕ) (n size : ℕ) (es : List Element) (found : eleme
 
 -- ---- the theorem
 
-module _ (j key : List ℕ) (n : ℕ) (certificates : List ℕ) (v : Valid j key n) (bytes : AllBytes certificates) (text : List ℕ) (is : exportOf j certificates ≡ some text)
-    (each : every hasText (pairsOf j) ≡ true) where
-  ps : List TextPair
+module _ (j key : List ℕ) (n : ℕ) (certificates : List ℕ) (v : Valid j key n) (bytes : AllBytes certificates) (text : List ℕ) (is : exportOf j certificates ≡ some text) where
+  unfoldable pub ps : List TextPair
   ps = map (textPair (v .owner) n) (v .pairs)
 
-  record Groups : Type 0 where
-    groups : List Group
-    count : length groups ≡ length (v .pairs)
-    each-bytes : AllGroupBytes groups
-    text-is : text ≡ exportText (elementsFor ps groups)
+  pub record Groups : Type 0 where
+    pub groups : List Group
+    pub count : length groups ≡ length (v .pairs)
+    pub each-bytes : AllGroupBytes groups
+    pub text-is : text ≡ exportText (elementsFor ps groups)
 
   some-groups : (o : Option (List Group)) → groupsOf (length (pairsOf j)) certificates ≡ o
       → Option·map (λ (gs : List Group). exportText (elementsFor (pairsOf j) gs)) o ≡ some text → Groups
@@ -319,51 +318,52 @@ module _ (j key : List ℕ) (n : ℕ) (certificates : List ℕ) (v : Valid j key
         text-is = sym same ∙ ap (λ (l : List TextPair). exportText (elementsFor l gs)) (valid-pairs v);
       }
 
-  the-groups : Groups
+  pub the-groups : Groups
   unfolding exportOf
   the-groups = some-groups (groupsOf (length (pairsOf j)) certificates) refl is
 
-  elements : AllElements (v .owner) n (v .pairs) (the-groups .groups)
-  elements =
-      let w = valid-work v in
-      all-elements key (v .owner) n (startCore (v .owner)) [] (v .pairs) (the-groups .groups) (v .good) (w .right) (w .names) (valid-fit v) (the-groups .each-bytes)
-      (ap (every hasText) (sym (valid-pairs v)) ∙ each) (the-groups .count)
-
-  es : List Element
+  unfoldable pub es : List Element
   es = elementsFor ps (the-groups .groups)
 
-  journal-back : journalOf es ≡ j
-  unfolding es ps
-  journal-back = journal-of elements (v .some) ∙ sym (valid-spelled v)
+  module _ (each : every hasText (pairsOf j) ≡ true) where
+    elements : AllElements (v .owner) n (v .pairs) (the-groups .groups)
+    elements =
+        let w = valid-work v in
+        all-elements key (v .owner) n (startCore (v .owner)) [] (v .pairs) (the-groups .groups) (v .good) (w .right) (w .names) (valid-fit v) (the-groups .each-bytes)
+        (ap (every hasText) (sym (valid-pairs v)) ∙ each) (the-groups .count)
 
-  survey : (rest : ℕ) → surveyNumber es rest ≡ rest
-  unfolding es ps
-  survey rest =
-      survey-yes es rest (some-of elements (v .some)) (each-of elementGood (λ p g r. r .good) elements) (each-of hasReceipt (λ p g r. r .receipt) elements)
-      (each-of namesRegister (λ p g r. r .names) elements)
+    journal-back : journalOf es ≡ j
+    unfolding es ps
+    journal-back = journal-of elements (v .some) ∙ sym (valid-spelled v)
 
-  found : elementsOf text ≡ some es
-  unfolding es ps
-  found =
-      ap elementsOf (the-groups .text-is ∙ plain-text es) ∙ reads-back es (each-of plainElement (λ p g r. r .plain) elements)
+    survey : (rest : ℕ) → surveyNumber es rest ≡ rest
+    unfolding es ps
+    survey rest =
+        survey-yes es rest (some-of elements (v .some)) (each-of elementGood (λ p g r. r .good) elements) (each-of hasReceipt (λ p g r. r .receipt) elements)
+        (each-of namesRegister (λ p g r. r .names) elements)
 
-  module _ (z : takeOver j key n .number ≡ 0) (second : List ℕ) (fits : length j ≤ length second) where
-    taken : takeOver (journalOf es) key n .number ≡ 0
-    taken = ap (λ (x : List ℕ). takeOver x key n .number) journal-back ∙ z
+    found : elementsOf text ≡ some es
+    unfolding es ps
+    found =
+        ap elementsOf (the-groups .text-is ∙ plain-text es) ∙ reads-back es (each-of plainElement (λ p g r. r .plain) elements)
 
-    small : length (journalOf es) ≤ length second
-    small = omega (arith, ap length journal-back, fits)
+    module _ (z : takeOver j key n .number ≡ 0) (second : List ℕ) (fits : length j ≤ length second) where
+      taken : takeOver (journalOf es) key n .number ≡ 0
+      taken = ap (λ (x : List ℕ). takeOver x key n .number) journal-back ∙ z
 
-    back : restored text key n (length second) ≡ record { number = 0; index = 0; length = length j; state = takeOver j key n .state }
-    back =
-        restored-taken text key n (length second) es found survey small taken
-        ∙ (λ i. record { number = 0; index = 0; length = length (journal-back i); state = takeOver (journal-back i) key n .state })
+      small : length (journalOf es) ≤ length second
+      small = omega (arith, ap length journal-back, fits)
 
-    buffer-back : restoredBuffer text key n second ≡ overwrite second 0 j
-    unfolding restoredBuffer
-    buffer-back =
-        ifZero-yes _ _ (ap (λ (x : Restored). x .number) back)
-        ∙ ap (overwrite second 0) (ap journalBy found ∙ journal-back)
+      back : restored text key n (length second) ≡ record { number = 0; index = 0; length = length j; state = takeOver j key n .state }
+      back =
+          restored-taken text key n (length second) es found survey small taken
+          ∙ (λ i. record { number = 0; index = 0; length = length (journal-back i); state = takeOver (journal-back i) key n .state })
+
+      buffer-back : restoredBuffer text key n second ≡ overwrite second 0 j
+      unfolding restoredBuffer
+      buffer-back =
+          ifZero-yes _ _ (ap (λ (x : Restored). x .number) back)
+          ∙ ap (overwrite second 0) (ap journalBy found ∙ journal-back)
 
 pub export-reads-back : ExportReadsBack
 export-reads-back j key n certificates first second bj bc z each fits =

@@ -239,11 +239,18 @@ number-same text es size s h = survey-same es _ _ (λ n e.
     let y : leb (length (journalOf es)) (length text) ≡ true = le-leb (length (journalOf es)) (length text) l in
     rw (x, y))
 
-pub text-is-room-enough : TextIsRoomEnough
+answer-same : (text key : List ℕ) (n size : ℕ) → length text ≤ size → restored text key n size ≡ restored text key n (length text)
 unfolding restored
-text-is-room-enough text key n size h = go (elementsOf text) refl
+answer-same text key n size h = go (elementsOf text) refl
   where
     go : (o : Option (List Element)) → elementsOf text ≡ o → restoredBy o key n size ≡ restoredBy o key n (length text)
     go none q = refl
     go (some es) q =
         ap (λ (m : ℕ). ifZero m (restoredFrom (takeOver (journalOf es) key n) (length (journalOf es))) (notRead m 0)) (number-same text es size (exact text es .0 q) h)
+
+pub some-element : (es : List Element) → (es ≡ [] → ⊥) → not (isEmpty es) ≡ true
+some-element [] h = absurd (h refl)
+some-element (x ∷ es) h = refl
+
+pub text-is-room-enough : TextIsRoomEnough
+text-is-room-enough = record { fits = λ text es s n h. journal-short text es s (some-element es n) h; same = answer-same }

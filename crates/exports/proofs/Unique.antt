@@ -9,15 +9,17 @@ use native.Mathlib.Omega.{arith}
 use borrow.Author.Tests.{eqb-true, eq-eqb, ne-eqb}
 use lib.Dec.{eqb}
 use lib.ListN.{length, length-append}
+use Rattle.primitives.specs.Bytes.{same}
+use Rattle.primitives.proofs.ByteLists.{same-refl, same-true}
 use Rattle.exports.specs.Text.{Token, mark, word}
 use Rattle.exports.specs.Lexer.{lex}
 use Rattle.exports.specs.Shape.{groupName, array, following, string, strings, Member, certificate, issuers, receipts, valueOf, member, certificatesOf, issuersOf, receiptsOf, Element, Written, object, written, document, elements, Shape, Shaped}
-use Rattle.exports.specs.Places.{eqList, nameNumber, numberOf, led}
+use Rattle.exports.specs.Places.{nameNumber, numberOf, led}
 use Rattle.exports.specs.Parsed.{kindOf, contentOf, rest, wordsOf, afterWords, memberOf, afterValue, memberAt, afterMember, Three, threeAt, afterThree, threesOf, threeText, threesText, eqTokens, theOne, elementOf, both, allOf, threes, parsed, elementsOf}
 use Rattle.exports.specs.Exact.{Exact, OneReading}
 use Rattle.exports.proofs.Lexing.{no-truth}
 use Rattle.exports.proofs.Names.{both as both-true}
-use Rattle.exports.proofs.Members.{number-is, eqList-true}
+use Rattle.exports.proofs.Members.{number-is}
 use Rattle.exports.proofs.Objects.{object-is}
 use Rattle.exports.proofs.Lexical.{Good, lexed, tokens-of}
 use Rattle.exports.proofs.Documents.{good-document}
@@ -120,15 +122,10 @@ threes-are (t ∷ ts) =
 
 -- ---- texts that are the same
 
-eqList-refl : (xs : List ℕ) → eqList xs xs ≡ true
-unfolding eqList
-eqList-refl [] = refl
-eqList-refl (x ∷ xs) = rw (eq-eqb x x refl) (eqList-refl xs)
-
 eqTokens-refl : (xs : List Token) → eqTokens xs xs ≡ true
 unfolding eqTokens
 eqTokens-refl [] = refl
-eqTokens-refl (x ∷ xs) = rw (eq-eqb (x .kind) (x .kind) refl, eqList-refl (x .content)) (eqTokens-refl xs)
+eqTokens-refl (x ∷ xs) = rw (eq-eqb (x .kind) (x .kind) refl, same-refl (x .content)) (eqTokens-refl xs)
 
 eqTokens-true : (xs ys : List Token) → eqTokens xs ys ≡ true → xs ≡ ys
 unfolding eqTokens
@@ -136,10 +133,10 @@ eqTokens-true [] [] e = refl
 eqTokens-true [] (y ∷ ys) e = no-truth e
 eqTokens-true (x ∷ xs) [] e = no-truth e
 eqTokens-true (x ∷ xs) (y ∷ ys) e =
-    let p = both-true (eqb (x .kind) (y .kind) && eqList (x .content) (y .content)) (eqTokens xs ys) e in
-    let q = both-true (eqb (x .kind) (y .kind)) (eqList (x .content) (y .content)) (p .0) in
+    let p = both-true (eqb (x .kind) (y .kind) && same (x .content) (y .content)) (eqTokens xs ys) e in
+    let q = both-true (eqb (x .kind) (y .kind)) (same (x .content) (y .content)) (p .0) in
     let k = eqb-true (x .kind) (y .kind) (q .0) in
-    let c = eqList-true (x .content) (y .content) (q .1) in
+    let c = same-true (x .content) (y .content) (q .1) in
     let t : x ≡ y = λ i. record { kind = k i; content = c i } in
     ap₂ (λ (a : Token) (l : List Token). a ∷ l) t (eqTokens-true xs ys (p .1))
 

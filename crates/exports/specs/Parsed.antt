@@ -5,10 +5,11 @@ use mathlib.Core.List.{List, [], _∷_, _++_}
 use mathlib.Core.Option.{Option, none, some}
 use lib.Dec.{eqb}
 use lib.ListN.{length}
+use Rattle.primitives.specs.Bytes.{same}
 use Rattle.exports.specs.Text.{Token, mark, word}
 use Rattle.exports.specs.Lexer.{lex}
 use Rattle.exports.specs.Shape.{groupName, array, Member, certificate, issuers, receipts, certificatesOf, issuersOf, receiptsOf, Element, object}
-use Rattle.exports.specs.Places.{eqList, nameNumber}
+use Rattle.exports.specs.Places.{nameNumber}
 
 -- ---- the first token, and the others
 
@@ -76,7 +77,7 @@ unfoldable pub eqTokens : List Token → List Token → Bool
 eqTokens [] [] = true
 eqTokens [] (y ∷ ys) = false
 eqTokens (x ∷ xs) [] = false
-eqTokens (x ∷ xs) (y ∷ ys) = (eqb (x .kind) (y .kind) && eqList (x .content) (y .content)) && eqTokens xs ys
+eqTokens (x ∷ xs) (y ∷ ys) = (eqb (x .kind) (y .kind) && same (x .content) (y .content)) && eqTokens xs ys
 
 -- ---- each name once
 

@@ -5,6 +5,7 @@ use mathlib.Core.Bool.{Bool, true, false, cond, _&&_, _||_, not}
 use mathlib.Core.List.{List, [], _∷_, _++_}
 use lib.Dec.{eqb}
 use lib.ListN.{length, take, drop, getD}
+use Rattle.primitives.specs.Bytes.{same}
 use Rattle.exports.specs.Text.{Token, mark, word, blank, plain}
 use Rattle.exports.specs.Lexer.{wrong, before, content, lex, lexIn}
 use Rattle.exports.specs.Shape.{certificateName, issuersName, receiptsName, groupName, array, string, strings, Member, certificate, issuers, receipts, member, valueOf, Element, Written, written}
@@ -93,12 +94,6 @@ one b u = mark b ∷ []
 
 -- ---- names
 
-unfoldable pub eqList : List ℕ → List ℕ → Bool
-eqList [] [] = true
-eqList [] (y ∷ ys) = false
-eqList (x ∷ xs) [] = false
-eqList (x ∷ xs) (y ∷ ys) = eqb x y && eqList xs ys
-
 -- no quote, backslash or "=": so there is one way to spell it
 unfoldable pub bare : List ℕ → Bool
 bare [] = true
@@ -106,7 +101,7 @@ bare (b ∷ bs) = (not (eqb b 34) && (not (eqb b 92) && not (eqb b 61))) && bare
 
 unfoldable pub nameNumber : List ℕ → ℕ
 nameNumber w =
-    cond (eqList w certificateName) 1 (cond (eqList w issuersName) 2 (cond (eqList w receiptsName) 3 (cond (eqList w groupName) 4 0)))
+    cond (same w certificateName) 1 (cond (same w issuersName) 2 (cond (same w receiptsName) 3 (cond (same w groupName) 4 0)))
 
 -- a name and ":"; the name's number, and 0 where there is none of the four
 pub record Keyed (text : List ℕ) (at : ℕ) (k : Key) : Type 0 where

@@ -2,10 +2,11 @@
 ghost use mathlib.Core.Path.{_≡_};
 ghost use mathlib.Core.Bool.{true};
 ghost use Prim.Native.Nat.{_≤_};
+ghost use Rattle.primitives.specs.Bytes.{same};
 ghost use lib.ListN.{length, drop};
 ghost use Rattle.exports.specs.Text.{blank, isMark, plain};
 ghost use Rattle.exports.specs.Lexer.{content};
-ghost use Rattle.exports.specs.Places.{Skipped, Stopped, EscapeAt, Closed, Next, eqList, bare};
+ghost use Rattle.exports.specs.Places.{Skipped, Stopped, EscapeAt, Closed, Next, bare};
 
 // A token: its kind is 0 at the end, 1 for a wrong byte, 34 for a string, or the mark itself.
 // The letters of a string begin at `start`; `next` is the place after the token.
@@ -185,7 +186,7 @@ pub(crate) fn next(text: &[u8], at: usize) -> Found
 // A string, whose letters begin at a place, spells a name.
 pub(crate) fn spells(text: &[u8], start: usize, name: &[u8]) -> bool
     requires { ⌜ (start ≤ length (now text)) × (bare (now name) ≡ true) ⌝ }
-    ensures { λ r. ⌜ r ≡ eqList (content (drop start (now (text .entry))) 0) (now (name .entry)) ⌝ }
+    ensures { λ r. ⌜ r ≡ same (content (drop start (now (text .entry))) 0) (now (name .entry)) ⌝ }
 {
     let mut at = start;
     let mut i: usize = 0;
