@@ -9,8 +9,9 @@ use native.Mathlib.Omega.{arith}
 use borrow.Author.Tests.{eqb-true}
 use Rattle.exports.specs.Text.{Token, mark, word}
 use Rattle.exports.specs.Shape.{certificateName, issuersName, receiptsName, groupName, string, strings, Member, certificate, issuers, receipts, nameOf, valueOf, member}
-use Rattle.exports.specs.Places.{from, Reads, one, nameNumber, Keyed, ValueRead, numberOf, led, MemberRead}
+use Rattle.exports.specs.Places.{from, Reads, one, nameNumber, Keyed, ValueRead, numberOf, led, MemberRead, noValue}
 use Rattle.exports.specs.declared.walk.Key.{Key}
+use Rattle.exports.specs.declared.shape.Value.{Value}
 use Rattle.exports.proofs.Lexing.{no-truth}
 use Rattle.exports.proofs.Names.{both}
 
@@ -61,9 +62,9 @@ pub led-is : (b : ℕ) (m : Member) (rest : List Token) → led b m ++ rest ≡ 
 unfolding led member
 led-is b m rest = refl
 
-pub no-member : {text : List ℕ} {at lead : ℕ} → ((m : Member) (rest : List Token) → from text at ≡ led lead m ++ rest → ⊥) → MemberRead text at lead (record { number = 0; place = 0; next = 0 })
-no-member h =
-    record {
+pub no-member : {text : List ℕ} {at lead : ℕ} {v : Value} → v ≡ noValue → ((m : Member) (rest : List Token) → from text at ≡ led lead m ++ rest → ⊥) → MemberRead text at lead v
+no-member i h =
+    rw i (record {
       reads = record {
         inside = omega arith;
         onward = λ p. absurd (omega arith);
@@ -72,10 +73,10 @@ no-member h =
       };
       found = λ m rest q. absurd (h m rest q);
       place = omega arith;
-    }
+    })
 
-pub member-no-mark : {text : List ℕ} {at lead : ℕ} → Reads (one lead) text at 0 → MemberRead text at lead (record { number = 0; place = 0; next = 0 })
-member-no-mark {text} {at} {lead} r = no-member (λ m rest q. omega (arith, r .complete tt _ (q ∙ led-is lead m rest) .0))
+pub member-no-mark : {text : List ℕ} {at lead : ℕ} {v : Value} → v ≡ noValue → Reads (one lead) text at 0 → MemberRead text at lead v
+member-no-mark {text} {at} {lead} i r = no-member i (λ m rest q. omega (arith, r .complete tt _ (q ∙ led-is lead m rest) .0))
 
 module _ {text : List ℕ} {at lead p : ℕ} {k : Key} (r : Reads (one lead) text at p) (z : p ≡ 0 → ⊥) (d : Keyed text p k) where
   above : 0 < p
@@ -96,12 +97,12 @@ module _ {text : List ℕ} {at lead p : ℕ} {k : Key} (r : Reads (one lead) tex
       positive (issuers ws) = omega arith
       positive (receipts ws) = omega arith
 
-  pub member-no-key : k .number ≡ 0 → MemberRead text at lead (record { number = 0; place = 0; next = 0 })
-  member-no-key e = no-member (λ m rest q. omega (arith, key-is m rest q .1))
+  pub member-no-key : {v : Value} → v ≡ noValue → k .number ≡ 0 → MemberRead text at lead v
+  member-no-key i e = no-member i (λ m rest q. omega (arith, key-is m rest q .1))
 
-  pub member-group : k .number ≡ 4 → MemberRead text at lead (record { number = 0; place = 0; next = 0 })
+  pub member-group : {v : Value} → v ≡ noValue → k .number ≡ 4 → MemberRead text at lead v
   unfolding numberOf
-  member-group e = no-member (λ m rest q. other m (key-is m rest q .0))
+  member-group i e = no-member i (λ m rest q. other m (key-is m rest q .0))
     where
       other : (m : Member) → k .number ≡ numberOf m → ⊥
       other (certificate w) q = omega arith

@@ -112,33 +112,33 @@ no-written h =
       receiptsInside = omega arith;
     }
 
-no-element : {text : List ℕ} {at : ℕ} → ((x y z : Member) (rest : List Token) → from text at ≡ object x y z ++ rest → ⊥) → ElementRead text at noPlaces
+no-element : {text : List ℕ} {at : ℕ} {p : Places} → p ≡ noPlaces → ((x y z : Member) (rest : List Token) → from text at ≡ object x y z ++ rest → ⊥) → ElementRead text at p
 unfolding written
-no-element h = no-written (λ w rest q. h (w .first) (w .second) (w .third) rest q)
+no-element i h = rw i (no-written (λ w rest q. h (w .first) (w .second) (w .third) rest q))
 
 module _ {text : List ℕ} {at : ℕ} {a : Value} (ra : MemberRead text at 123 a) where
   step-1 : (x y z : Member) (rest : List Token) → from text at ≡ object x y z ++ rest → (0 < a .next) × (from text (a .next) ≡ led 44 y ++ (led 44 z ++ (mark 125 ∷ rest)))
   step-1 x y z rest q = ra .reads .complete x _ (q ∙ object-is x y z rest)
 
-  pub element-no-1 : a .next ≡ 0 → ElementRead text at noPlaces
-  element-no-1 e = no-element (λ x y z rest q. omega (arith, step-1 x y z rest q .0))
+  pub element-no-1 : {p : Places} → p ≡ noPlaces → a .next ≡ 0 → ElementRead text at p
+  element-no-1 i e = no-element i (λ x y z rest q. omega (arith, step-1 x y z rest q .0))
 
   module _ {b : Value} (rb : MemberRead text (a .next) 44 b) where
     step-2 : (x y z : Member) (rest : List Token) → from text at ≡ object x y z ++ rest → (0 < b .next) × (from text (b .next) ≡ led 44 z ++ (mark 125 ∷ rest))
     step-2 x y z rest q = rb .reads .complete y _ (step-1 x y z rest q .1)
 
-    pub element-no-2 : b .next ≡ 0 → ElementRead text at noPlaces
-    element-no-2 e = no-element (λ x y z rest q. omega (arith, step-2 x y z rest q .0))
+    pub element-no-2 : {p : Places} → p ≡ noPlaces → b .next ≡ 0 → ElementRead text at p
+    element-no-2 i e = no-element i (λ x y z rest q. omega (arith, step-2 x y z rest q .0))
 
     module _ {c : Value} (rc : MemberRead text (b .next) 44 c) where
       step-3 : (x y z : Member) (rest : List Token) → from text at ≡ object x y z ++ rest → (0 < c .next) × (from text (c .next) ≡ mark 125 ∷ rest)
       step-3 x y z rest q = rc .reads .complete z _ (step-2 x y z rest q .1)
 
-      pub element-no-3 : c .next ≡ 0 → ElementRead text at noPlaces
-      element-no-3 e = no-element (λ x y z rest q. omega (arith, step-3 x y z rest q .0))
+      pub element-no-3 : {p : Places} → p ≡ noPlaces → c .next ≡ 0 → ElementRead text at p
+      element-no-3 i e = no-element i (λ x y z rest q. omega (arith, step-3 x y z rest q .0))
 
-      pub element-no-4 : Reads (one 125) text (c .next) 0 → ElementRead text at noPlaces
-      element-no-4 r = no-element (λ x y z rest q. omega (arith, r .complete tt rest (step-3 x y z rest q .1) .0))
+      pub element-no-4 : {p : Places} → p ≡ noPlaces → Reads (one 125) text (c .next) 0 → ElementRead text at p
+      element-no-4 i r = no-element i (λ x y z rest q. omega (arith, r .complete tt rest (step-3 x y z rest q .1) .0))
 
       place-inside : (n : ℕ) → placeOf n a b c ≤ length text
       unfolding placeIn

@@ -159,6 +159,9 @@ placeIn n (v ∷ vs) = cond (eqb (v .number) n) (v .place) (placeIn n vs)
 abbrev pub placeOf : ℕ → Value → Value → Value → ℕ
 placeOf n a b c = placeIn n (a ∷ b ∷ c ∷ [])
 
+abbrev pub noValue : Value
+noValue = record { number = 0; place = 0; next = 0 }
+
 abbrev pub noPlaces : Places
 noPlaces = record { certificate = 0; issuers = 0; receipts = 0; next = 0 }
 

@@ -12,7 +12,7 @@ ghost use mathlib.Core.Logic.{_↔_};
 ghost use Prim.Native.Nat.{_≤_, _<_};
 ghost use lib.ListN.{length};
 ghost use Rattle.exports.specs.Shape.{array, written, Shaped};
-ghost use Rattle.exports.specs.Places.{Reads, ValueRead, MemberRead, placeOf, placesOf, ElementRead};
+ghost use Rattle.exports.specs.Places.{Reads, ValueRead, MemberRead, noValue, placeOf, noPlaces, placesOf, ElementRead};
 
 // A member: its name's number, the place of its value and the place after it, or 0.
 pub struct Value {
@@ -40,6 +40,17 @@ pub(crate) fn value_end(text: &[u8], number: u8, at: usize) -> usize
     strings(text, at)
 }
 
+// Where there is no member.
+fn no_value() -> Value
+    ensures { λ r. ⌜ r ≡ noValue ⌝ }
+{
+    Value {
+        number: 0,
+        place: 0,
+        next: 0,
+    }
+}
+
 // A mark and a member.
 pub(crate) fn member(text: &[u8], at: usize, lead: u8) -> Value
     requires { ⌜ (at ≤ length (now text)) × (34 < lead) ⌝ }
@@ -47,26 +58,14 @@ pub(crate) fn member(text: &[u8], at: usize, lead: u8) -> Value
 {
     let p = expect(text, at, lead);
     if p == 0 {
-        return Value {
-            number: 0,
-            place: 0,
-            next: 0,
-        };
+        return no_value();
     }
     let k = key_at(text, p);
     if k.number == 0 {
-        return Value {
-            number: 0,
-            place: 0,
-            next: 0,
-        };
+        return no_value();
     }
     if k.number == 4 {
-        return Value {
-            number: 0,
-            place: 0,
-            next: 0,
-        };
+        return no_value();
     }
     let e = value_end(text, k.number, k.next);
     Value {
@@ -92,6 +91,18 @@ pub(crate) fn place_of(n: u8, a: Value, b: Value, c: Value) -> usize
     0
 }
 
+// Where there is no element.
+fn no_places() -> Places
+    ensures { λ r. ⌜ r ≡ noPlaces ⌝ }
+{
+    Places {
+        certificate: 0,
+        issuers: 0,
+        receipts: 0,
+        next: 0,
+    }
+}
+
 // The three places, where there are all; they were found before `next`.
 pub(crate) fn all_places(a: Value, b: Value, c: Value, next: usize) -> Places
     ensures { λ r. ⌜ r ≡ placesOf a b c next ⌝ }
@@ -100,28 +111,13 @@ pub(crate) fn all_places(a: Value, b: Value, c: Value, next: usize) -> Places
     let issuers = place_of(2, a, b, c);
     let receipts = place_of(3, a, b, c);
     if certificate == 0 {
-        return Places {
-            certificate: 0,
-            issuers: 0,
-            receipts: 0,
-            next: 0,
-        };
+        return no_places();
     }
     if issuers == 0 {
-        return Places {
-            certificate: 0,
-            issuers: 0,
-            receipts: 0,
-            next: 0,
-        };
+        return no_places();
     }
     if receipts == 0 {
-        return Places {
-            certificate: 0,
-            issuers: 0,
-            receipts: 0,
-            next: 0,
-        };
+        return no_places();
     }
     Places {
         certificate: certificate,
@@ -137,39 +133,19 @@ pub(crate) fn element(text: &[u8], at: usize) -> Places
 {
     let a = member(text, at, 123);
     if a.next == 0 {
-        return Places {
-            certificate: 0,
-            issuers: 0,
-            receipts: 0,
-            next: 0,
-        };
+        return no_places();
     }
     let b = member(text, a.next, 44);
     if b.next == 0 {
-        return Places {
-            certificate: 0,
-            issuers: 0,
-            receipts: 0,
-            next: 0,
-        };
+        return no_places();
     }
     let c = member(text, b.next, 44);
     if c.next == 0 {
-        return Places {
-            certificate: 0,
-            issuers: 0,
-            receipts: 0,
-            next: 0,
-        };
+        return no_places();
     }
     let e = expect(text, c.next, 125);
     if e == 0 {
-        return Places {
-            certificate: 0,
-            issuers: 0,
-            receipts: 0,
-            next: 0,
-        };
+        return no_places();
     }
     all_places(a, b, c, e)
 }
