@@ -40,3 +40,5 @@ pub mod ExportAnswers
 pub mod RoomEnough
 pub mod Restoring
 pub mod EmptyPairs
+pub mod Ordering
+pub mod ReadNumbers

@@ -133,7 +133,7 @@ module _ (text key : List ℕ) (n : ℕ) (out : List ℕ) where
 
 -- ---- which texts are read
 
-asked-survey : (es : List Element) (size : ℕ) → elementsNumber es size ≡ 0 → Surveyed es × (length (journalOf es) ≤ size)
+pub asked-survey : (es : List Element) (size : ℕ) → elementsNumber es size ≡ 0 → Surveyed es × (length (journalOf es) ≤ size)
 unfolding elementsNumber surveyNumber
 asked-survey es size z =
     let a = ask-zero _ _ _ z in

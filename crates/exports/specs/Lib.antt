@@ -17,3 +17,4 @@ pub mod Names
 pub mod GroupLaws
 pub mod Promises
 pub mod TakenOver
+pub mod Orders

@@ -1,10 +1,11 @@
 -- What holds of the two calls, as statements.
 use Prim.Native.Nat.{ℕ, _≤_, _<_}
 use mathlib.Core.Path.{_≡_}
-use mathlib.Core.Bool.{Bool, true, false, not}
+use mathlib.Core.Bool.{Bool, true, false, not, _||_}
 use mathlib.Core.List.{List, [], _∷_, _++_, map}
 use mathlib.Core.Logic.{_↔_}
 use mathlib.Core.Option.{Option, none, some}
+use lib.Dec.{eqb}
 use lib.ListN.{length, take, drop, getD}
 use Rattle.primitives.specs.Bytes.{AllBytes}
 use Rattle.primitives.specs.Place.{overwrite}
@@ -117,6 +118,18 @@ OtherTextsGet28 =
 pub record TextIsRoomEnough : Type 0 where
   pub fits : (text : List ℕ) (es : List Element) → Shape text es → (es ≡ [] → ⊥) → every namesRegister es ≡ true → length (journalOf es) ≤ length text
   pub same : (text key : List ℕ) (n size : ℕ) → length text ≤ size → restored text key n size ≡ restored text key n (length text)
+
+-- ---- which numbers come
+
+unfoldable pub among : List ℕ → ℕ → Bool
+among [] m = false
+among (k ∷ ks) m = eqb m k || among ks m
+
+-- Take over's 14, 15 and 21 cannot come from a text: its journal is whole
+abbrev pub NumbersOfReading : Type 0
+NumbersOfReading =
+    (text key : List ℕ) (n size : ℕ) → size < 18446744073709551616
+    → among (0 ∷ 4 ∷ 16 ∷ 17 ∷ 18 ∷ 19 ∷ 20 ∷ 23 ∷ 28 ∷ 29 ∷ 30 ∷ 31 ∷ []) (restored text key n size .number) ≡ true
 
 -- ---- refused calls, and what follows the text
 
