@@ -1,29 +1,30 @@
 -- The steps for other readers: over a valid journal they read its entries, pair after pair and in order.
 use Prim.Native.Nat.{ℕ, zero, suc, _+_, _-_, _≤_, _<_}
 use mathlib.Core.Path.{_≡_, refl, sym, ap, _∙_, subst}
-use mathlib.Core.Bool.{Bool, true, cond}
+use mathlib.Core.Bool.{Bool, true, cond, _&&_}
 use mathlib.Core.List.{List, [], _∷_, _++_, append-assoc, append-nil}
 use native.Mathlib.Omega.{arith}
-use borrow.Author.Tests.{le-leb, leb-true}
-use lib.Dec.{leb}
+use borrow.Author.Tests.{le-leb, leb-true, lt-leb}
+use lib.Dec.{leb, eqb}
 use lib.ListN.{length, take, drop, getD, length-append, length-take}
+use Rattle.primitives.specs.Questions.{ask}
 use Rattle.primitives.specs.Number.{countAt}
 use Rattle.primitives.specs.Counter.{widthGood, counterFits}
 use Rattle.primitives.specs.Aes.{keySchedule}
 use Rattle.primitives.proofs.Rows.{both, ask-yes}
-use Rattle.receipt.specs.Settings.{serialGood}
+use Rattle.receipt.specs.Settings.{serialGood, settingsGood}
 use Rattle.receipt.specs.Compact.{compact, noEntry}
 use Rattle.receipt.specs.declared.settings.Name.{Name}
 use Rattle.receipt.specs.declared.settings.Settings.{Settings}
 use Rattle.receipt.specs.declared.entry.Entry.{Entry}
 use Rattle.receipt.specs.declared.entry.Found.{Found}
 use Rattle.receipt.proofs.Entries.{none-found}
-use Rattle.journal.specs.Head.{head, headLength, entryText, lengthAt, there, textAt, pairStart}
+use Rattle.journal.specs.Head.{head, headLength, entryText, lengthAt, there, textAt, pairStart, countPlaceIn, headSettings, headGood, serialAt, startThere}
 use Rattle.journal.specs.State.{noName, used, inEight, added, serialsGood}
 use Rattle.journal.specs.Step.{fresh, soundAlone, sound, next, renewed}
-use Rattle.journal.specs.Checking.{found, entryNumber, textNumber, stopped, checked, textChecked, placeChecked, oneStep, entryReady, entryChecked, stepChecked, readBySteps}
+use Rattle.journal.specs.Checking.{found, entryNumber, textNumber, stopped, checked, textChecked, placeChecked, oneStep, entryReady, entryChecked, stepChecked, readBySteps, full, startNumber, startChecked, endChecked, headNumber, checkHead, settingsChecked, serialReady, serialNumber, serialChecked}
 use Rattle.journal.specs.Valid.{Owner, Pair, settingsFor, texts, pairText, pairTexts, journalText, placedUnder, allPlaced, entriesIn, GoodOwner, Valid, headOf}
-use Rattle.journal.specs.Demands.{StepsReadEntries, StepIsItsEntry}
+use Rattle.journal.specs.Demands.{StepsReadEntries, StepIsItsEntry, StepIsItsStart, HeadIsItsSettings}
 use Rattle.journal.specs.declared.state.State.{State}
 use Rattle.journal.specs.declared.checking.Checked.{Checked}
 use Rattle.journal.proofs.Heads.{length-head, read-count-at}
@@ -31,7 +32,7 @@ use Rattle.journal.proofs.Places.{length-entry}
 use Rattle.journal.proofs.Check.{RightAt, step, step-counter, step-length}
 use Rattle.journal.proofs.Serials.{used-prefix, serials-used, added-good}
 use Rattle.journal.proofs.Answers.{Sound, sound-yes}
-use Rattle.journal.proofs.Stepping.{full-yes, end-none, step-entry}
+use Rattle.journal.proofs.Stepping.{full-yes, end-none, step-entry, start-within}
 use Rattle.journal.proofs.Placing.{Core, startCore, AllRight, right-split, Begun, Names}
 use Rattle.journal.proofs.Placing as placing
 use Rattle.journal.proofs.Passing.{At, typed-for, good-for, right-here, text-is, at-next, at-renewed, at-entries, run, stepsOf, entry-step, start-step, start-place, start-bytes, start-count, section-place, section-full, Through, pair-split}
@@ -245,3 +246,39 @@ entry-is k st text r = rw r
 pub step-is-its-entry : StepIsItsEntry
 step-is-its-entry k st j b s f t =
     checked-is k st j s ∙ (step-entry k st j f ∙ (place-text k st j t ∙ sym (entry-is k st (textAt j (st .length)) (ready st j b s t))))
+
+-- ---- the start of a pair, and the head
+
+start-ready : (st : State) (j : List ℕ) → length j < 18446744073709551616 → sound st (length j) ≡ true → startThere j (st .length) ≡ true → serialReady st (serialAt j (st .length)) ≡ true
+unfolding serialReady sound
+start-ready st j b s h =
+    let p = both (soundAlone st) (leb (st .length) (length j)) s in
+    let w = start-within j (st .length) h .0 in
+    rw (p .0) (le-leb (st .length + 8 + serialAt j (st .length) .len) 18446744073709551615 (omega (arith, w, b)))
+
+start-same : (st : State) (j : List ℕ) → startThere j (st .length) ≡ true → startNumber st j ≡ serialNumber st (serialAt j (st .length))
+unfolding startNumber serialNumber ask
+start-same st j h = rw (h, start-within j (st .length) h .1)
+
+start-is : (st : State) (j : List ℕ) → serialReady st (serialAt j (st .length)) ≡ true → startNumber st j ≡ serialNumber st (serialAt j (st .length))
+    → startChecked st j ≡ serialChecked st (serialAt j (st .length))
+unfolding startChecked serialChecked
+start-is st j r e = rw (r, e)
+
+end-is : (k : List (List ℕ)) (st : State) (j : List ℕ) → full st j ≡ true → st .length < length j → oneStep k st j ≡ startChecked st j
+unfolding oneStep endChecked
+end-is k st j f h = rw (f, lt-leb (length j) (st .length) h)
+
+pub step-is-its-start : StepIsItsStart
+step-is-its-start k st j b s f h =
+    checked-is k st j s
+    ∙ (end-is k st j f (omega (arith, start-within j (st .length) h .0)) ∙ start-is st j (start-ready st j b s h) (start-same st j h))
+
+good-settings-of : (j : List ℕ) → headGood j ≡ true → settingsGood (headSettings j) ≡ true
+unfolding headGood
+good-settings-of j h =
+    both (leb (countPlaceIn j + 4) (length j)) (settingsGood (headSettings j)) (both (eqb (countAt j 0 4) 3) (leb (countPlaceIn j + 4) (length j) && settingsGood (headSettings j)) h .1) .1
+
+pub head-is-its-settings : HeadIsItsSettings
+unfolding checkHead headNumber settingsChecked ask
+head-is-its-settings j key n h = rw (h, good-settings-of j h)

@@ -14,7 +14,7 @@ use Rattle.receipt.specs.declared.settings.Name.{Name}
 use Rattle.receipt.specs.declared.settings.Settings.{Settings}
 use Rattle.receipt.specs.declared.details.Details.{Details}
 use Rattle.receipt.specs.declared.entry.Entry.{Entry}
-use Rattle.journal.specs.Head.{section, entryText, there, textAt}
+use Rattle.journal.specs.Head.{section, entryText, there, textAt, headGood, headSettings, serialAt, startThere}
 use Rattle.journal.specs.State.{unopened, countPlaceNow}
 use Rattle.receipt.specs.Settings.{nameText, TypedSettings}
 use Rattle.journal.specs.Opening.{openNumber, opened, openBuffer}
@@ -22,7 +22,7 @@ use Rattle.journal.specs.Issuing.{textOf, issueNumber, issued, issueBuff
 use Rattle.journal.specs.Listing.{issuedList, listBuffer}
 use Rattle.journal.specs.Changing.{changed, changeBuffer}
 use Rattle.journal.specs.Preparing.{preparedText, prepareNumber, prepareAnswer, prepareBuffer}
-use Rattle.journal.specs.Checking.{refused, accepted, checkHead, takeOver, full, stepChecked, entryChecked, readBySteps}
+use Rattle.journal.specs.Checking.{refused, accepted, checkHead, takeOver, full, stepChecked, entryChecked, readBySteps, serialChecked, settingsChecked}
 use Rattle.journal.specs.Parts.{checkSteps}
 use Rattle.journal.specs.Receipts.{receiptsIn, sum}
 use Rattle.journal.specs.Valid.{Owner, Pair, Placed, pairTexts, ownerText, journalText, allPlaced, entriesIn, stateAfter, Valid, headOf}
@@ -191,3 +191,13 @@ abbrev pub StepIsItsEntry : Type 0
 StepIsItsEntry =
     (schedule : List (List ℕ)) (st : State) (j : List ℕ) → length j < 18446744073709551616 → sound st (length j) ≡ true → full st j ≡ false
     → there j (st .length) ≡ true → stepChecked schedule st j ≡ entryChecked schedule st (textAt j (st .length))
+
+-- if the section is full and a pair starts at the state's place, the step in the journal is that of the pair's serial
+abbrev pub StepIsItsStart : Type 0
+StepIsItsStart =
+    (schedule : List (List ℕ)) (st : State) (j : List ℕ) → length j < 18446744073709551616 → sound st (length j) ≡ true → full st j ≡ true
+    → startThere j (st .length) ≡ true → stepChecked schedule st j ≡ serialChecked st (serialAt j (st .length))
+
+-- of a good head, the check is that of its settings
+abbrev pub HeadIsItsSettings : Type 0
+HeadIsItsSettings = (j key : List ℕ) (n : ℕ) → headGood j ≡ true → checkHead j key n ≡ settingsChecked (headSettings j) key n
