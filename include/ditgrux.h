@@ -119,7 +119,7 @@ enum ditgrux_number {
     DITGRUX_BAD_CODE = 24,        /* not a machine-readable code; fields: or one without a register ID */
     DITGRUX_BAD_FIELDS = 26,      /* a code without twelve fields, or whose counter or chain field is not canonical BASE64 */
     DITGRUX_BAD_LINE = 27,        /* not the optical line of a machine-readable code */
-    DITGRUX_BAD_EXPORT = 28,      /* export: the certificates are not one group for each pair; read_export: the text is not an export */
+    DITGRUX_BAD_EXPORT = 28,      /* export: certificates not one group for each pair; read_export: the text is not an export */
     DITGRUX_NO_RECEIPTS = 29,     /* read_export: an element of the export has no receipt */
     DITGRUX_SERIAL_USED = 30,     /* change and all that take over: the register has had this serial; asked after 3 and 21 */
     DITGRUX_SERIALS_FULL = 31,    /* change and all that take over: a ninth serial */
@@ -579,8 +579,8 @@ uint32_t ditgrux_fields(const uint8_t *code, size_t code_length, size_t *start, 
  *
  * The certificates come as groups, one for each pair and in the same order, with no byte between or after them. A group is one byte
  * with the number of certificates, 1 to 255, and then each certificate after its length in two bytes, big-endian: first that of the
- * signature device, then those of its issuers. A certificate is copied as it is, as a rule DER; it may be 0 to 65,535 bytes long. Group
- * i belongs to serial i of ditgrux_serial. The library does not look into certificates: it takes groups in the wrong order.
+ * signature device, then those of its issuers. A certificate is copied as it is, as a rule DER; it may be 0 to 65,535 bytes long.
+ * Group i belongs to serial i of ditgrux_serial. The library does not look into certificates: it takes groups in the wrong order.
  */
 
 /* Checks a journal as ditgrux_take_over does and writes it, with its certificates, as the text above, without blanks. A pair without
@@ -605,8 +605,8 @@ uint32_t ditgrux_export(const uint8_t *journal, size_t journal_length, const uin
                         const uint8_t *certificates, size_t certificates_length, uint8_t *output, size_t output_length,
                         size_t *length, uint32_t *index);
 
-/* Reads an export: checks the text, checks the journal that it spells as ditgrux_take_over does, writes that journal and the state that
- * it leads to. The certificates are checked for their spelling and are not kept.
+/* Reads an export: checks the text, checks the journal that it spells as ditgrux_take_over does, writes that journal and the state
+ * that it leads to. The certificates are checked for their spelling and are not kept.
  *
  * The text may have JSON blanks (space, tab, line feed, return) where JSON has them, the three inner names of an element in any order,
  * and the escape \u003d, with a small d, for '='. A string holds the bytes 32 to 126 without quote and backslash, or that escape.
