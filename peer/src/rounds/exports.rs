@@ -1117,6 +1117,9 @@ impl Round<'_> {
         }
         let mut text = tokens.concat();
         for _ in 0..self.random.below(3) {
+            if text.is_empty() {
+                break;
+            }
             let place = self.random.below(text.len());
             match self.random.below(4) {
                 0 => text[place] = self.random.pick(b"\"\\{}[]:, \n=.u03dDA_"),
