@@ -9,7 +9,7 @@
 #include <string.h>
 #include <ucontext.h>
 
-enum { STACK = 1 << 18, LIMIT = 10300, PATTERN = 0xA5, RECEIPTS = 20, ID_END = 3 + 31 /* the last byte of the ID in the settings */ };
+enum { STACK = 1 << 18, LIMIT = 9400, PATTERN = 0xA5, RECEIPTS = 20, ID_END = 3 + 31 /* the last byte of the ID in the settings */ };
 
 static uint8_t stack[STACK], journal[1 << 16], state[DITGRUX_STATE], again[DITGRUX_STATE], settings[DITGRUX_SETTINGS], output[512];
 static uint8_t checked[DITGRUX_STATE];

@@ -12,8 +12,8 @@ use Rattle.primitives.specs.Base64.{digit, pad, known, ended, unmarked, letterC
 use Rattle.primitives.specs.declared.base64.Alphabet.the-variants.{Standard}
 use Rattle.primitives.specs.declared.base64.Decoded.{Decoded}
 use Rattle.primitives.specs.declared.base64.Decoded.the-variants.{Upto, Refused, NoRoom}
+use Rattle.exports.specs.Reading.{canonical}
 use Rattle.exports.specs.Spelled.{isEmpty}
-use Rattle.exports.specs.Passing.{quadGood}
 
 -- ---- four letters and the rest
 
@@ -169,24 +169,22 @@ module _ (text out : List ℕ) (at : ℕ) where
   is-refused e = rw e
 
   module _ {d : Decoded} (q : d ≡ decodeAnswer Standard text out at) where
-    pub refused-bad : d ≡ Refused → false ≡ quadGood text
-    unfolding quadGood
+    pub refused-bad : d ≡ Refused → false ≡ canonical text
     refused-bad r = go (accepted Standard text) refl
       where
         go : (t : Bool) → accepted Standard text ≡ t → false ≡ accepted Standard text
         go true e = absurd (not-refused e (sym r ∙ q))
         go false e = sym e
 
-    answered-good : (d ≡ Refused → ⊥) → true ≡ quadGood text
-    unfolding quadGood
+    answered-good : (d ≡ Refused → ⊥) → true ≡ canonical text
     answered-good r = go (accepted Standard text) refl
       where
         go : (t : Bool) → accepted Standard text ≡ t → true ≡ accepted Standard text
         go true e = sym e
         go false e = absurd (r (q ∙ is-refused e))
 
-    pub upto-good : {n : ℕ} → d ≡ Upto n → true ≡ quadGood text
+    pub upto-good : {n : ℕ} → d ≡ Upto n → true ≡ canonical text
     upto-good r = answered-good (λ s. let k : _≡_ {A = ℕ} 0 1 = cc in omega arith)
 
-    pub full-good : d ≡ NoRoom → true ≡ quadGood text
+    pub full-good : d ≡ NoRoom → true ≡ canonical text
     full-good r = answered-good (λ s. let k : _≡_ {A = ℕ} 0 1 = cc in omega arith)

@@ -14,9 +14,9 @@ use Rattle.journal.specs.Head.{entryText}
 use Rattle.exports.specs.Text.{every}
 use Rattle.exports.specs.Spelled.{sizedTexts, short}
 use Rattle.exports.specs.Output.{moved, Puts}
-use Rattle.exports.specs.Writing.{quoted, listed, base64}
+use Rattle.exports.specs.Writing.{comma, quoted, listed, inBase64, spelling}
 use Rattle.exports.specs.Passing.{SizedRead}
-use Rattle.exports.specs.Running.{comma, ReceiptsPut, IssuersPut}
+use Rattle.exports.specs.Running.{StringsPut}
 use Rattle.exports.specs.declared.output.End.{End}
 use Rattle.exports.proofs.Putting.{puts-then, puts-is, puts-nothing, puts-still}
 use Rattle.exports.proofs.Sized.{every-head, every-tail, sized-nil, sized-cons}
@@ -54,14 +54,28 @@ module _ {A : Type 0} (item : A → List ℕ) where
       ∙ ap (λ (l : List ℕ). done ++ l) (append-assoc (comma (ltb 0 i)) (item x) (listed item true xs) ∙ sym (listed-cons (ltb 0 i) x xs))
       ∙ e
 
-pub listed-map : {A B : Type 0} (f : A → B) (item : B → List ℕ) (m : Bool) (xs : List A) → listed (λ x. item (f x)) m xs ≡ listed item m (map f xs)
-unfolding listed
-listed-map f item m [] = refl
-listed-map f item m (x ∷ xs) = ap (λ (l : List ℕ). comma m ++ (item (f x) ++ l)) (listed-map f item true xs)
+-- ---- strings as they are written
+
+pub spelling-coded : (coded : Bool) (w : List ℕ) → coded ≡ true → inBase64 w ≡ spelling coded w
+unfolding spelling
+spelling-coded coded w e = sym (ap (λ (b : Bool). spelling b w) e)
+
+pub spelling-plain : (coded : Bool) (w : List ℕ) → coded ≡ false → w ≡ spelling coded w
+unfolding spelling
+spelling-plain coded w e = sym (ap (λ (b : Bool). spelling b w) e)
+
+pub spellings-coded : (ws : List (List ℕ)) → map (spelling true) ws ≡ map inBase64 ws
+unfolding spelling
+spellings-coded ws = refl
+
+pub spellings-plain : (ws : List (List ℕ)) → map (spelling false) ws ≡ ws
+unfolding spelling
+spellings-plain [] = refl
+spellings-plain (w ∷ ws) = ap (λ (l : List (List ℕ)). w ∷ l) (spellings-plain ws)
 
 -- ---- the loop: `i` of `count` texts are copied
 
-module _ (item : List ℕ → List ℕ) where
+module _ (coded : Bool) where
   pub record Underway (d : Bool) (count i : ℕ) (out₀ out : List ℕ) (p end : End) (tail : List ℕ) (ws : List (List ℕ)) (rest : List ℕ) : Type 0 where
     pub left : List (List ℕ)
     pub done : List ℕ
@@ -69,7 +83,7 @@ module _ (item : List ℕ → List ℕ) where
     pub brief : every short left ≡ true
     pub here : tail ≡ sizedTexts left ++ rest
     pub put : Puts d out₀ out p end done
-    pub whole : done ++ listed item (ltb 0 i) left ≡ listed item false ws
+    pub whole : done ++ listed quoted (ltb 0 i) (map (spelling coded) left) ≡ listed quoted false (map (spelling coded) ws)
 
   pub record Copies (d : Bool) (j : List ℕ) (from count : ℕ) (out₀ : List ℕ) (p : End) (out : List ℕ) (end : End) (a i : ℕ) : Type 0 where
     pub few : i ≤ count
@@ -100,13 +114,13 @@ module _ (item : List ℕ → List ℕ) where
       pub brief : short text ≡ true
       pub briefs : every short others ≡ true
       pub here : tail ≡ entryText text ++ (sizedTexts others ++ rest)
-      pub whole : u .done ++ listed item (ltb 0 i) (text ∷ others) ≡ listed item false ws
+      pub whole : u .done ++ listed quoted (ltb 0 i) (map (spelling coded) (text ∷ others)) ≡ listed quoted false (map (spelling coded) ws)
 
     next : i < count → (tail : List ℕ) (ws : List (List ℕ)) (rest : List ℕ) (u : Underway d count i out₀ out p end tail ws rest) → Next tail ws rest u
     next h tail ws rest u = go (u .left) (u .many) (u .brief) (u .here) (u .whole)
       where
         go : (l : List (List ℕ)) → i + length l ≡ count → every short l ≡ true → tail ≡ sizedTexts l ++ rest
-            → u .done ++ listed item (ltb 0 i) l ≡ listed item false ws → Next tail ws rest u
+            → u .done ++ listed quoted (ltb 0 i) (map (spelling coded) l) ≡ listed quoted false (map (spelling coded) ws) → Next tail ws rest u
         go [] m b q w = absurd (omega (arith, m))
         go (x ∷ l) m b q w = record {
           text = x;
@@ -120,13 +134,17 @@ module _ (item : List ℕ → List ℕ) where
 
     module _ (more : i < count) {e : ℕ} (r : SizedRead j a e) where
       -- a text is missing
-      pub copies-none : e ≡ 0 → (ws : List (List ℕ)) (rest : List ℕ) → every short ws ≡ true → count ≡ length ws → drop from j ≡ sizedTexts ws ++ rest → ⊥
-      copies-none z ws rest h l q =
-          let n = next more (drop a j) ws rest (t .is ws rest h l q) in
-          let y = r .complete (n .text) (sizedTexts (n .others) ++ rest) (n .brief) (n .here) in
-          omega (arith, y .0, z)
+      pub copies-cut : e ≡ 0 → (start : End) → StringsPut d coded j from count out₀ out start (record { end = end; at = a })
+      copies-cut z start = record {
+        long = t .long;
+        is = λ ws rest h l q.
+            let n = next more (drop a j) ws rest (t .is ws rest h l q) in
+            let y = r .complete (n .text) (sizedTexts (n .others) ++ rest) (n .brief) (n .here) in
+            absurd (omega (arith, y .0, z));
+      }
 
-      pub copies-more : {out₁ : List ℕ} {end₁ : End} → Puts d out out₁ end end₁ (comma (ltb 0 i) ++ item (take (e - (a + 2)) (drop (a + 2) j)))
+      -- one more is copied
+      pub copies-more : {out₁ : List ℕ} {end₁ : End} → Puts d out out₁ end end₁ (comma (ltb 0 i) ++ quoted (spelling coded (take (e - (a + 2)) (drop (a + 2) j))))
           → Copies d j from count out₀ p out₁ end₁ e (i + 1)
       copies-more {out₁} {end₁} w = record {
         few = omega arith;
@@ -138,52 +156,30 @@ module _ (item : List ℕ → List ℕ) where
             let s = piece-is j a e (n .text) (sizedTexts (n .others) ++ rest) (n .here) (y .2) in
             record {
               left = n .others;
-              done = u .done ++ (comma (ltb 0 i) ++ item (n .text));
+              done = u .done ++ (comma (ltb 0 i) ++ quoted (spelling coded (n .text)));
               many = omega (arith, n .many);
               brief = n .briefs;
               here = y .1;
-              put = puts-then (u .put) (puts-is (ap (λ (x : List ℕ). comma (ltb 0 i) ++ item x) s) w);
-              whole = whole-more item i (u .done) (n .text) (n .others) (n .whole);
+              put = puts-then (u .put) (puts-is (ap (λ (x : List ℕ). comma (ltb 0 i) ++ quoted (spelling coded x)) s) w);
+              whole = whole-more quoted i (u .done) (spelling coded (n .text)) (map (spelling coded) (n .others)) (n .whole);
             };
       }
 
     -- all are copied
-    pub copies-end : count ≤ i → {start : End} → p ≡ moved (length out₀) start 0 → (ws : List (List ℕ)) (rest : List ℕ) → every short ws ≡ true → count ≡ length ws
-        → drop from j ≡ sizedTexts ws ++ rest → Puts d out₀ out start end (listed item false ws) × (drop a j ≡ rest)
-    copies-end h {start} e ws rest b l q =
-        let u = t .is ws rest b l q in
-        go (u .left) (omega (arith, u .many, t .few)) (u .done) (u .put) (u .here) (u .whole)
+    pub copies-whole : count ≤ i → {start : End} → p ≡ moved (length out₀) start 0 → StringsPut d coded j from count out₀ out start (record { end = end; at = a })
+    copies-whole h {start} e = record {
+      long = t .long;
+      is = λ ws rest b l q.
+          let u = t .is ws rest b l q in
+          go ws rest (u .left) (omega (arith, u .many, t .few)) (u .done) (u .put) (u .here) (u .whole);
+    }
       where
-        go : (l : List (List ℕ)) → length l ≡ 0 → (done : List ℕ) → Puts d out₀ out p end done → drop a j ≡ sizedTexts l ++ rest
-            → done ++ listed item (ltb 0 i) l ≡ listed item false ws → Puts d out₀ out start end (listed item false ws) × (drop a j ≡ rest)
-        go (x ∷ l) z done w q all = absurd (omega arith)
-        go [] z done w q all = (
+        go : (ws : List (List ℕ)) (rest : List ℕ) (l : List (List ℕ)) → length l ≡ 0 → (done : List ℕ) → Puts d out₀ out p end done → drop a j ≡ sizedTexts l ++ rest
+            → done ++ listed quoted (ltb 0 i) (map (spelling coded) l) ≡ listed quoted false (map (spelling coded) ws)
+            → Puts d out₀ out start end (listed quoted false (map (spelling coded) ws)) × (drop a j ≡ rest)
+        go ws rest (x ∷ l) z done w q all = absurd (omega arith)
+        go ws rest [] z done w q all = (
           puts-then (subst (λ (x : End). Puts d out₀ out₀ start x []) (sym e) (puts-nothing d out₀ start))
-              (puts-is (sym (append-nil done) ∙ ap (λ (l : List ℕ). done ++ l) (sym (listed-nil item (ltb 0 i))) ∙ all) w),
+              (puts-is (sym (append-nil done) ∙ ap (λ (l : List ℕ). done ++ l) (sym (listed-nil quoted (ltb 0 i))) ∙ all) w),
           q ∙ ap (λ (l : List ℕ). l ++ rest) sized-nil,
         )
-
--- ---- receipts, and certificates in BASE64
-
-abbrev pub inBase64 : List ℕ → List ℕ
-inBase64 w = quoted (base64 w)
-
-module _ {d : Bool} {j : List ℕ} {from count : ℕ} {out₀ : List ℕ} {p : End} {out : List ℕ} {end : End} {a i : ℕ} where
-  pub receipts-cut : Copies quoted d j from count out₀ p out end a i → i < count → {e : ℕ} → SizedRead j a e → e ≡ 0 → (start : End)
-      → ReceiptsPut d j from count out₀ out start (record { end = end; at = a })
-  receipts-cut t m r z start = record { long = t .long; is = λ ws rest h l q. absurd (copies-none quoted t m r z ws rest h l q) }
-
-  pub receipts-whole : Copies quoted d j from count out₀ p out end a i → count ≤ i → {start : End} → p ≡ moved (length out₀) start 0
-      → ReceiptsPut d j from count out₀ out start (record { end = end; at = a })
-  receipts-whole t m e = record { long = t .long; is = copies-end quoted t m e }
-
-  pub issuers-cut : Copies inBase64 d j from count out₀ p out end a i → i < count → {e : ℕ} → SizedRead j a e → e ≡ 0 → (start : End)
-      → IssuersPut d j from count out₀ out start (record { end = end; at = a })
-  issuers-cut t m r z start = record { long = t .long; is = λ ws rest h l q. absurd (copies-none inBase64 t m r z ws rest h l q) }
-
-  pub issuers-whole : Copies inBase64 d j from count out₀ p out end a i → count ≤ i → {start : End} → p ≡ moved (length out₀) start 0
-      → IssuersPut d j from count out₀ out start (record { end = end; at = a })
-  issuers-whole t m e = record {
-    long = t .long;
-    is = λ ws rest h l q. let x = copies-end inBase64 t m e ws rest h l q in (puts-is (listed-map base64 quoted false ws) (x .0), x .1);
-  }

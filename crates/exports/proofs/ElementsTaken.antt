@@ -21,15 +21,15 @@ use Rattle.receipt.specs.Settings.{cspGood, idGood, serialGood, settingsGood}
 use Rattle.receipt.specs.declared.settings.Settings.{Settings}
 use Rattle.receipt.proofs.Entries.{length-array}
 use Rattle.journal.specs.Step.{fresh}
-use Rattle.journal.specs.Checking.{settingsChecked, refused, accepted, takeOver}
+use Rattle.journal.specs.Checking.{settingsChecked, refused, accepted, takeOver, lastAnswer}
 use Rattle.journal.specs.declared.state.TakenOver.{TakenOver}
 use Rattle.exports.specs.Text.{every}
 use Rattle.exports.specs.Shape.{Element}
-use Rattle.exports.specs.Spelled.{short, isEmpty}
+use Rattle.exports.specs.Spelled.{short, GoodPair, GoodPairs, nothing, also, isEmpty}
 use Rattle.exports.specs.Naming.{middle, fieldOf, settingsIn, payloadNames, notNamed, namedBy, named}
-use Rattle.exports.specs.Reading.{canonical, elementGood, hasReceipt, firstOf, settingsOf, namesRegister, ownerOf, pairOf, journalOf, surveyNumber}
-use Rattle.exports.specs.Running.{runAnswer, elementsRun, ownerNamed, runJournal}
-use Rattle.exports.specs.TakenOver.{GoodPair, GoodPairs, nothing, also, GoodParts, partsTaken}
+use Rattle.exports.specs.Reading.{canonical, elementGood, hasReceipt, firstOf, settingsOf, namesRegister, ownerOf, pairOf, journalOfElements, surveyNumber}
+use Rattle.exports.specs.Running.{elementsRun, ownerNamed, runJournal}
+use Rattle.exports.specs.TakenOver.{GoodParts, partsTaken}
 use Rattle.exports.proofs.TakenAsSpelled.{read-is-taken-over}
 
 -- ---- what a receipt names
@@ -138,14 +138,14 @@ settings-good s g = rw (g .csp, g .id, g .serial)
 module _ (e : Element) (es : List Element) (key : List ℕ) (n : ℕ) where
   -- with the answer about the settings
   answered : TakenOver → TakenOver
-  answered t = ifZero (t .number) (runAnswer (elementsRun (keySchedule key) (t .state) (e ∷ es))) t
+  answered t = ifZero (t .number) (lastAnswer (elementsRun (keySchedule key) (t .state) (e ∷ es))) t
 
   run-is : runJournal (e ∷ es) key n ≡ answered (settingsChecked (settingsOf e) key n)
   unfolding runJournal ownerNamed settingsOf answered
   run-is = refl
 
   run-yes : widthGood n ≡ true → settingsGood (settingsOf e) ≡ true
-      → runJournal (e ∷ es) key n ≡ runAnswer (elementsRun (keySchedule key) (fresh (settingsOf e) n key) (e ∷ es))
+      → runJournal (e ∷ es) key n ≡ lastAnswer (elementsRun (keySchedule key) (fresh (settingsOf e) n key) (e ∷ es))
   unfolding answered accepted
   run-yes w g = run-is ∙ (ap answered (settings-yes (settingsOf e) key n w g) ∙ ifZero-yes _ _ refl)
 
@@ -158,19 +158,19 @@ module _ (e : Element) (es : List Element) (key : List ℕ) (n : ℕ) where
   run-parts g = go (widthGood n) refl
     where
       go : (t : Bool) → widthGood n ≡ t
-          → runJournal (e ∷ es) key n ≡ cond t (runAnswer (elementsRun (keySchedule key) (fresh (settingsOf e) n key) (e ∷ es))) (refused 4 0)
+          → runJournal (e ∷ es) key n ≡ cond t (lastAnswer (elementsRun (keySchedule key) (fresh (settingsOf e) n key) (e ∷ es))) (refused 4 0)
       go true w = run-yes w g
       go false w = run-no w
 
-pub owner-parts : (e : Element) (es : List Element) → Surveyed (e ∷ es) → length (journalOf (e ∷ es)) < 18446744073709551616 → GoodParts (ownerOf (e ∷ es)) (map pairOf (e ∷ es))
-unfolding ownerOf journalOf
+pub owner-parts : (e : Element) (es : List Element) → Surveyed (e ∷ es) → length (journalOfElements (e ∷ es)) < 18446744073709551616 → GoodParts (ownerOf (e ∷ es)) (map pairOf (e ∷ es))
+unfolding ownerOf journalOfElements
 owner-parts e es s h =
     let n = element-names e (every-both namesRegister e es (s .named) .0) in
     record { three = n .three; csp = n .csp; long = n .id-long; id = n .id; pairs = elements-pairs (e ∷ es) (s .good) (s .named); fits = h }
 
-pub run-is-take-over : (es : List Element) (key : List ℕ) (n : ℕ) → surveyNumber es 0 ≡ 0 → length (journalOf es) < 18446744073709551616
-    → runJournal es key n ≡ takeOver (journalOf es) key n
-unfolding journalOf
+pub run-is-take-over : (es : List Element) (key : List ℕ) (n : ℕ) → surveyNumber es 0 ≡ 0 → length (journalOfElements es) < 18446744073709551616
+    → runJournal es key n ≡ takeOver (journalOfElements es) key n
+unfolding journalOfElements
 run-is-take-over [] key n z h = true-is-not-false (survey-zero [] z .some)
 run-is-take-over (e ∷ es) key n z h =
     let s = survey-zero (e ∷ es) z in

@@ -21,18 +21,18 @@ use Rattle.journal.proofs.Placing.{length-serials}
 use Rattle.journal.proofs.Accepting.{accepted-valid, valid-work}
 use Rattle.journal.proofs.AcceptedIsWritten.{names-good}
 use Rattle.journal.proofs.JournalStates.{state-of-journal}
-use Rattle.exports.specs.Spelled.{pairsSpelled, pairsOf}
+use Rattle.exports.specs.Spelled.{pairsSpelled, GoodPairs, pairsOf}
 use Rattle.exports.specs.Groups.{Group}
 use Rattle.exports.specs.Output.{start, Puts}
 use Rattle.exports.specs.Writing.{exportText, elementsFor, exportOf, answered, notWritten, exported, exportBuffer}
 use Rattle.exports.specs.Passing.{GroupsThere}
-use Rattle.exports.specs.Running.{AllFit, ExportPut}
+use Rattle.exports.specs.Running.{ExportPut}
 use Rattle.exports.specs.GroupLaws.{textPair}
 use Rattle.exports.specs.declared.output.End.{End}
 use Rattle.exports.specs.declared.writing.Exported.{Exported}
 use Rattle.exports.proofs.Putting.{two-runs, no-run}
 use Rattle.exports.proofs.GroupsBack.{groups-of-there, no-groups-there}
-use Rattle.exports.proofs.PairsBack.{valid-spelled, valid-fit, valid-pairs, after-owner, owner-room}
+use Rattle.exports.proofs.PairsBack.{valid-spelled, valid-good, valid-pairs, after-owner, owner-room}
 
 -- ---- a valid journal
 
@@ -62,7 +62,7 @@ module _ {j key : List ℕ} {n : ℕ} (v : Valid j key n) where
     run-puts d out out′ r x =
         let ps = map (textPair (v .owner) n) (v .pairs) in
         let e = valid-spelled v in
-        x .is (pairsOf j) (t .groups) (subst AllFit (sym (valid-pairs v)) (valid-fit v)) (t .good) refl (t .count)
+        x .is (pairsOf j) (t .groups) (subst GoodPairs (sym (valid-pairs v)) (valid-good v)) (t .good) refl (t .count)
         (subst (λ (l : List ℕ). sectionEnd l 7 ≤ length l) (sym e) (owner-room (v .owner) (v .good) ps))
         (ap (λ (l : List ℕ). drop (sectionEnd l 7) l) e ∙ after-owner (v .owner) (v .good) ps ∙ ap pairsSpelled (sym (valid-pairs v)))
         (t .bytes)

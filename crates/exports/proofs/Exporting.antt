@@ -16,20 +16,19 @@ use Rattle.receipt.specs.Settings.{nameText}
 use Rattle.journal.specs.Head.{section, sectionEnd, entryText}
 use Rattle.journal.proofs.Sections.{length-section}
 use Rattle.exports.specs.Text.{every}
-use Rattle.exports.specs.Spelled.{TextPair, sizedTexts, short, pairSpelled, pairsSpelled}
+use Rattle.exports.specs.Spelled.{TextPair, sizedTexts, short, pairSpelled, pairsSpelled, GoodPair, GoodPairs, also}
 use Rattle.exports.specs.Shape.{Element}
 use Rattle.exports.specs.Groups.{Group, groupsText, groupGood}
 use Rattle.exports.specs.Output.{start, moved, Puts}
-use Rattle.exports.specs.Writing.{quoted, listed, base64, opening, beforeCertificate, beforeIssuers, beforeReceipts, ending, certificatesPart, receiptsPart, elementText, exportText, elementFor, elementsFor}
+use Rattle.exports.specs.Writing.{comma, quoted, listed, inBase64, spelling, opening, beforeCertificate, beforeIssuers, beforeReceipts, ending, certificatesPart, receiptsPart, elementText, exportText, elementFor, elementsFor}
 use Rattle.exports.specs.Passing.{SizedRead}
-use Rattle.exports.specs.Running.{comma, PairFits, AllFit, ReceiptsPut, IssuersPut, SigningPut, GroupPut, FourRead, SectionRead, PairPut, ElementsPut, ExportPut}
-use Rattle.exports.specs.Running as running
+use Rattle.exports.specs.Running.{StringsPut, SigningPut, GroupPut, FourRead, SectionRead, PairPut, ElementsPut, ExportPut}
 use Rattle.exports.specs.declared.output.End.{End}
 use Rattle.exports.specs.declared.writing.Copied.{Copied}
 use Rattle.exports.proofs.Putting.{puts-then, puts-is, puts-nothing, puts-still}
 use Rattle.exports.proofs.Sized.{every-head, every-tail, sized-cons, all, good-texts, group-room, group-many, group-tail, groups-cons}
 use Rattle.exports.proofs.PairsBack.{pair-open, pair-end, pair-count, pair-entries, pairs-cons}
-use Rattle.exports.proofs.Copying.{piece-is, whole-more, listed-nil}
+use Rattle.exports.proofs.Copying.{piece-is, whole-more, listed-nil, spelling-coded, spellings-coded, spellings-plain}
 
 module _ {d : Bool} {out out₁ : List ℕ} {p a : End} where
   pub comma-put : (more : Bool) {y : List ℕ} → Puts d out out₁ p a y → y ≡ comma more → Puts d out out₁ p a (comma more)
@@ -45,13 +44,13 @@ module _ {d : Bool} {out out₁ : List ℕ} {p a : End} where
 
   module _ (more : Bool) (s : List ℕ) (at : ℕ) {e : ℕ} (r : SizedRead s at e) where
     pub signing-put : {out₂ out₃ : List ℕ} {b c : End} → Puts d out out₁ p a (comma more) → Puts d out₁ out₂ a b beforeCertificate
-        → Puts d out₂ out₃ b c (comma false ++ quoted (base64 (take (e - (at + 2)) (drop (at + 2) s)))) → SigningPut d more s at out out₃ p (record { end = c; at = e })
+        → Puts d out₂ out₃ b c (comma false ++ quoted (spelling true (take (e - (at + 2)) (drop (at + 2) s)))) → SigningPut d more s at out out₃ p (record { end = c; at = e })
     signing-put x y z = record {
       long = z .long ∙ y .long ∙ x .long;
       is = λ w rest h q.
           let f = r .complete w rest h q in
           let i = piece-is s at e w rest q (f .2) in
-          (puts-then x (puts-then y (puts-is (ap (λ (l : List ℕ). quoted (base64 l)) i) z)), f .1);
+          (puts-then x (puts-then y (puts-is (ap (λ (l : List ℕ). quoted (spelling true l)) i ∙ ap quoted (sym (spelling-coded true w refl))) z)), f .1);
     }
 
 pub signing-none : (d more : Bool) (s : List ℕ) (at : ℕ) (out : List ℕ) (p : End) (r : Copied) {e : ℕ} → SizedRead s at e → e ≡ 0 → SigningPut d more s at out out p r
@@ -72,7 +71,7 @@ module _ (d more : Bool) (s : List ℕ) (at : ℕ) (out : List ℕ) (p : End) wh
     group-zero z r = record { long = refl; is = λ g rest e q. absurd (omega (arith, z, group-many s at h g rest q)) }
 
     pub group-put : {out₁ out₂ out₃ out₄ : List ℕ} {sg : Copied} {b : End} {t : Copied} {e : End} → SigningPut d more s (at + 1) out out₁ p sg
-        → Puts d out₁ out₂ (sg .end) b beforeIssuers → IssuersPut d s (sg .at) (getD s at 0 - 1) out₂ out₃ b t → Puts d out₃ out₄ (t .end) e beforeReceipts
+        → Puts d out₁ out₂ (sg .end) b beforeIssuers → StringsPut d true s (sg .at) (getD s at 0 - 1) out₂ out₃ b t → Puts d out₃ out₄ (t .end) e beforeReceipts
         → GroupPut d more s at out out₄ p (record { end = e; at = t .at })
     group-put {out₁} {out₂} {out₃} {out₄} {sg} {b} {t} {e} x y z v = record {
       long = v .long ∙ z .long ∙ y .long ∙ x .long;
@@ -83,7 +82,7 @@ module _ (d more : Bool) (s : List ℕ) (at : ℕ) (out : List ℕ) (p : End) wh
           group-tail s at h g rest q ∙ ap (λ (u : List ℕ). u ++ rest) (sized-cons (g .certificate) (g .issuers)) ∙ append-assoc (entryText (g .certificate)) (sizedTexts (g .issuers)) rest in
           let f = x .is (g .certificate) (sizedTexts (g .issuers) ++ rest) (every-head short (g .certificate) (g .issuers) k) l in
           let i = z .is (g .issuers) rest (every-tail short (g .certificate) (g .issuers) k) (omega (arith, m)) (f .1) in
-          (puts-is (part-is more (base64 (g .certificate)) (map base64 (g .issuers))) (puts-then (puts-then (puts-then (f .0) y) (i .0)) v), i .1);
+          (puts-is (part-is more (inBase64 (g .certificate)) (map inBase64 (g .issuers))) (puts-then (puts-then (puts-then (f .0) y) (puts-is (ap (listed quoted false) (spellings-coded (g .issuers))) (i .0))) v), i .1);
     }
 
 -- ---- counts and sections
@@ -118,7 +117,7 @@ count-there : (j : List ℕ) (at k : ℕ) → countAt j (at + k) 4 ≡ countAt (
 unfolding countAt
 count-there j at k = ap (λ (l : List ℕ). valueOf (take 4 l)) (sym (drop-drop k at j))
 
-module _ (j : List ℕ) (at : ℕ) (x : TextPair) (rest : List ℕ) (f : PairFits x) (q : drop at j ≡ pairSpelled x ++ rest) where
+module _ (j : List ℕ) (at : ℕ) (x : TextPair) (rest : List ℕ) (f : GoodPair x) (q : drop at j ≡ pairSpelled x ++ rest) where
   long-enough : sectionEnd (pairSpelled x ++ rest) 0 + 4 ≤ length (pairSpelled x ++ rest)
   long-enough =
       let s = section (nameText (x .serial)) in
@@ -154,7 +153,7 @@ module _ (d : Bool) (j : List ℕ) (at : ℕ) (out : List ℕ) (p : End) {b : �
     is = λ x rest f q. let m = pair-room j at x rest f q in absurd (omega (arith, m, h, sr .is (omega (arith, m))));
   }
 
-  pub pair-put : {v : ℕ} → FourRead j b v → {out₁ out₂ : List ℕ} {r : Copied} {e : End} → ReceiptsPut d j (b + 4) v out out₁ p r → Puts d out₁ out₂ (r .end) e ending
+  pub pair-put : {v : ℕ} → FourRead j b v → {out₁ out₂ : List ℕ} {r : Copied} {e : End} → StringsPut d false j (b + 4) v out out₁ p r → Puts d out₁ out₂ (r .end) e ending
       → PairPut d j at out out₂ p (record { end = e; at = r .at })
   pair-put {v} four {out₁} {out₂} {r} {e} y z = record {
     long = z .long ∙ y .long;
@@ -163,7 +162,7 @@ module _ (d : Bool) (j : List ℕ) (at : ℕ) (out : List ℕ) (p : End) {b : �
         let i : b ≡ sectionEnd j at = sr .is (omega (arith, m)) in
         let c : v ≡ length (x .texts) = four .is (omega (arith, m, i)) ∙ ap (λ (k : ℕ). countAt j k 4) i ∙ pair-many j at x rest f q in
         let w = y .is (x .texts) rest (f .short) c (ap (λ (k : ℕ). drop (k + 4) j) i ∙ pair-texts j at x rest f q) in
-        (puts-is (receipts-is (x .texts)) (puts-then (w .0) z), w .1);
+        (puts-is (receipts-is (x .texts)) (puts-then (puts-is (ap (listed quoted false) (spellings-plain (x .texts))) (w .0)) z), w .1);
   }
 
 -- ---- elements: `i` of `k` are written
@@ -174,7 +173,7 @@ pub record Going (d : Bool) (k i : ℕ) (out₀ out : List ℕ) (p end : End) (t
   pub done : List ℕ
   pub many : i + length pairs ≡ k
   pub manys : i + length groups ≡ k
-  pub fit : AllFit pairs
+  pub fit : GoodPairs pairs
   pub good : every groupGood groups ≡ true
   pub here : tail ≡ pairsSpelled pairs
   pub there : others ≡ groupsText groups
@@ -184,7 +183,7 @@ pub record Going (d : Bool) (k i : ℕ) (out₀ out : List ℕ) (p end : End) (t
 pub record Elements (d : Bool) (j : List ℕ) (at : ℕ) (s : List ℕ) (k : ℕ) (out₀ : List ℕ) (p : End) (out : List ℕ) (end : End) (a g i : ℕ) : Type 0 where
   pub few : i ≤ k
   pub long : length out ≡ length out₀
-  pub is : (ps : List TextPair) (gs : List Group) → AllFit ps → every groupGood gs ≡ true → length ps ≡ k → length gs ≡ k
+  pub is : (ps : List TextPair) (gs : List Group) → GoodPairs ps → every groupGood gs ≡ true → length ps ≡ k → length gs ≡ k
       → drop at j ≡ pairsSpelled ps → s ≡ groupsText gs → Going d k i out₀ out p end (drop a j) (drop g s) ps gs
 
 pub elements-start : (d : Bool) (j : List ℕ) (at : ℕ) (s : List ℕ) (k : ℕ) (out : List ℕ) (p : End) {end : End} → end ≡ moved (length out) p 0
@@ -208,9 +207,9 @@ elements-start d j at s k out p {end} e = record {
 }
 
 element-is : (m : Bool) (p : TextPair) (g : Group)
-    → (comma m ++ certificatesPart (base64 (g .certificate)) (map base64 (g .issuers))) ++ receiptsPart (p .texts) ≡ comma m ++ elementText (elementFor p g)
+    → (comma m ++ certificatesPart (inBase64 (g .certificate)) (map inBase64 (g .issuers))) ++ receiptsPart (p .texts) ≡ comma m ++ elementText (elementFor p g)
 unfolding elementText elementFor
-element-is m p g = append-assoc (comma m) (certificatesPart (base64 (g .certificate)) (map base64 (g .issuers))) (receiptsPart (p .texts))
+element-is m p g = append-assoc (comma m) (certificatesPart (inBase64 (g .certificate)) (map inBase64 (g .issuers))) (receiptsPart (p .texts))
 
 elements-cons : (p : TextPair) (ps : List TextPair) (g : Group) (gs : List Group) → elementsFor (p ∷ ps) (g ∷ gs) ≡ elementFor p g ∷ elementsFor ps gs
 unfolding elementsFor
@@ -231,12 +230,12 @@ module _ {d : Bool} {j : List ℕ} {at : ℕ} {s : List ℕ} {k : ℕ} {out₀ :
         go ps gs (u .pairs) (u .groups) (u .done) (u .many) (u .manys) (u .fit) (u .good) (u .here) (u .there) (u .put) (u .whole);
   }
     where
-      go : (ps : List TextPair) (gs : List Group) (qs : List TextPair) (hs : List Group) (done : List ℕ) → i + length qs ≡ k → i + length hs ≡ k → AllFit qs → every groupGood hs ≡ true
+      go : (ps : List TextPair) (gs : List Group) (qs : List TextPair) (hs : List Group) (done : List ℕ) → i + length qs ≡ k → i + length hs ≡ k → GoodPairs qs → every groupGood hs ≡ true
           → drop a j ≡ pairsSpelled qs → drop g s ≡ groupsText hs → Puts d out₀ out p end done
           → done ++ listed elementText (ltb 0 i) (elementsFor qs hs) ≡ listed elementText false (elementsFor ps gs) → Going d k (i + 1) out₀ out₂ p (y .end) (drop (y .at) j) (drop (x .at) s) ps gs
       go ps gs [] hs done l n f h q r z all = absurd (omega (arith, l))
       go ps gs (b ∷ qs) [] done l n f h q r z all = absurd (omega (arith, n))
-      go ps gs (b ∷ qs) (c ∷ hs) done l n (running.also f fs) h q r z all =
+      go ps gs (b ∷ qs) (c ∷ hs) done l n (also f fs) h q r z all =
           let e₁ = v .is c (groupsText hs) (every-head groupGood c hs h) (r ∙ groups-cons c hs) in
           let e₂ = w .is b (pairsSpelled qs) f (q ∙ pairs-cons b qs) in
           record {

@@ -1,13 +1,15 @@
 -- The lexer finds exactly the tokens that the grammar gives a text.
 use mathlib.Core.Path.{_≡_, refl, sym, ap, _∙_}
-use mathlib.Core.Bool.{Bool, true, false, cond, _||_}
+use mathlib.Core.Bool.{Bool, true, false, cond, not, _||_}
 use mathlib.Core.List.{List, [], _∷_}
 use Prim.Native.Nat.{ℕ, zero, suc, _-_}
 use native.Mathlib.Omega.{arith}
 use borrow.Author.Tests.{eqb-true}
 use lib.Dec.{eqb, eqb·suc-zero}
-use Rattle.exports.specs.Text.{Token, mark, word, blank, isMark, plain, Inside, close, letter, escape, Tokens, end, space, sign, quoted}
+use Rattle.exports.specs.Text.{Token, every, mark, word, blank, isMark, plain, Inside, close, letter, escape, Tokens, end, space, sign, quoted}
 use Rattle.exports.specs.Lexer.{wrong, letterLeft, afterByte, content, lex, lexIn}
+use Rattle.exports.specs.Exact.{rightKind, TokensExactly}
+use Rattle.primitives.proofs.Rows.{both, true-is-not-false}
 use Rattle.exports.proofs.Lexing.{no-truth, plain-not}
 
 -- ---- from the grammar to the lexer
@@ -183,3 +185,49 @@ mutual
 
 pub tokens-of : (text : List ℕ) → Good (lex text) → Tokens text (lex text)
 tokens-of text g = back text g
+
+-- ---- as a statement
+
+mark-right : (b : ℕ) → isMark b ≡ true → rightKind (mark b) ≡ true
+unfolding rightKind isMark
+mark-right b h = go (eqb b 1) refl
+  where
+    go : (s : Bool) → eqb b 1 ≡ s → not s ≡ true
+    go false e = refl
+    go true e = true-is-not-false (rw (eqb-true b 1 e) at h)
+
+word-right : (w : List ℕ) → rightKind (word w) ≡ true
+unfolding rightKind
+word-right w = refl
+
+right-also : (t : Token) (ts : List Token) → rightKind t ≡ true → every rightKind ts ≡ true → every rightKind (t ∷ ts) ≡ true
+unfolding every
+right-also t ts h e = rw (h, e)
+
+tokens-right : {text : List ℕ} {ts : List Token} → Tokens text ts → every rightKind ts ≡ true
+unfolding every
+tokens-right end = refl
+tokens-right (space p k) = tokens-right k
+tokens-right (sign {b = b} {ts = ts} p k) = right-also (mark b) ts (mark-right b p) (tokens-right k)
+tokens-right (quoted {content = c} {ts = ts} i k) = right-also (word c) ts (word-right c) (tokens-right k)
+
+kind-right : (t : Token) → rightKind t ≡ true → t .kind ≡ 1 → ⊥
+unfolding rightKind
+kind-right t h e = true-is-not-false (rw e at h)
+
+right-good : (ts : List Token) → every rightKind ts ≡ true → Good ts
+unfolding every
+right-good [] h = none
+right-good (t ∷ ts) h = let a = both (rightKind t) (every rightKind ts) h in more (kind-right t (a .0)) (right-good ts (a .1))
+
+pub tokens-exactly : TokensExactly
+tokens-exactly =
+    record {
+      always = λ text ts k. (lexed k, tokens-right k);
+      only = λ text h. tokens-of text (right-good (lex text) h);
+      wrong = λ text never. go text never (every rightKind (lex text)) refl;
+    }
+  where
+    go : (text : List ℕ) → ((ts : List Token) → Tokens text ts → ⊥) → (t : Bool) → every rightKind (lex text) ≡ t → t ≡ false
+    go text never true e = absurd (never (lex text) (tokens-of text (right-good (lex text) e)))
+    go text never false e = refl

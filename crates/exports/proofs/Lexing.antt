@@ -11,7 +11,9 @@ use lib.ListN.{length, take, drop, getD, length-drop, drop-of-length-le}
 use lib.Seq.{drop-drop, drop-cons, drop-length, getD-drop}
 use Rattle.exports.specs.Text.{Token, mark, word, blank, isMark, plain}
 use Rattle.exports.specs.Lexer.{wrong, letterLeft, afterByte, before, content, lex, lexIn}
-use Rattle.exports.specs.Places.{from, Skipped, Stopped, EscapeAt, Closed, Next, Unescaped, nothing, letter, escape, Lying, LettersAt, LetterRead}
+use Rattle.exports.specs.Places.{from, Skipped, Stopped, EscapeAt, notClosed, Closed, atEnd, Next, Unescaped, nothing, letter, escape, Lying, LettersAt, LetterRead}
+use Rattle.exports.specs.declared.lexer.Found.{Found}
+use Rattle.exports.specs.declared.lexer.Close.{Close}
 
 pub no-truth {ℓ} : {X : Type ℓ} → false ≡ true → X
 no-truth e = let z : _≡_ {A = ℕ} 0 1 = cc in absurd (omega arith)
@@ -47,9 +49,10 @@ pub record Lexing (text : List ℕ) (start i : ℕ) : Type 0 where
   pub onward : start ≤ i
   pub same : (c : List ℕ) → lexIn (drop start text) 0 c ≡ lexIn (drop i text) 0 c
   pub clear : start + before (drop start text) ≡ i + before (drop i text)
+  pub long : start + length (content (drop start text) 0) ≡ i + length (content (drop i text) 0)
 
 pub plain-start : (text : List ℕ) (start : ℕ) → start ≤ length text → Lexing text start start
-plain-start text start h = record { inside = h; onward = omega arith; same = λ c. refl; clear = refl }
+plain-start text start h = record { inside = h; onward = omega arith; same = λ c. refl; clear = refl; long = refl }
 
 -- a plain byte is neither the quote nor the backslash
 pub plain-not : (b : ℕ) → plain b ≡ true → (eqb b 34 ≡ false) × (eqb b 92 ≡ false)
@@ -71,24 +74,31 @@ plain-before : (b : ℕ) (text : List ℕ) → plain b ≡ true → before (b �
 unfolding before
 plain-before b text e = rw (plain-not b e .0)
 
+plain-content : (b : ℕ) (text : List ℕ) → plain b ≡ true → content (b ∷ text) 0 ≡ b ∷ content text 0
+unfolding content
+plain-content b text e = let n = plain-not b e in rw (n .0, n .1)
+
 module _ {text : List ℕ} {start i : ℕ} (s : Lexing text start i) where
   pub plain-more : i < length text → plain (getD text i 0) ≡ true → Lexing text start (i + 1)
   plain-more h e =
       let a = s .onward in
       let d : drop i text ≡ getD text i 0 ∷ drop (suc i) text = drop-cons text i 0 h in
       let b : before (drop i text) ≡ suc (before (drop (suc i) text)) = ap before d ∙ plain-before (getD text i 0) (drop (suc i) text) e in
+      let l : length (content (drop i text) 0) ≡ suc (length (content (drop (suc i) text) 0))
+      = ap (λ (x : List ℕ). length (content x 0)) d ∙ ap length (plain-content (getD text i 0) (drop (suc i) text) e) in
       record {
         inside = omega arith;
         onward = omega arith;
         same = λ c. s .same c ∙ ap (λ (l : List ℕ). lexIn l 0 c) d ∙ plain-lexed (getD text i 0) (drop (suc i) text) c e ∙ rw (add-one i);
         clear = rw (add-one i) (omega (arith, s .clear, b));
+        long = rw (add-one i) (omega (arith, s .long, l));
       }
 
   pub plain-found : plain (getD text i 0) ≡ false → Stopped text start i
-  plain-found e = record { inside = s .inside; onward = s .onward; same = s .same; clear = s .clear; stop = λ h. e }
+  plain-found e = record { inside = s .inside; onward = s .onward; same = s .same; clear = s .clear; long = s .long; stop = λ h. e }
 
   pub plain-open : length text ≤ i → Stopped text start i
-  plain-open h = record { inside = s .inside; onward = s .onward; same = s .same; clear = s .clear; stop = λ l. absurd (omega arith) }
+  plain-open h = record { inside = s .inside; onward = s .onward; same = s .same; clear = s .clear; long = s .long; stop = λ l. absurd (omega arith) }
 
 -- ---- the escape
 
@@ -166,8 +176,9 @@ broken (suc k) (b ∷ text) c n = go (λ h. broken k text c h) (eqb b 34) (eqb b
 
 -- ---- a string
 
-pub no-string : (text : List ℕ) (start : ℕ) → ((c : List ℕ) → lexIn (drop start text) 0 c ≡ wrong) → Closed text start 0
-no-string text start h = record { inside = omega arith; none = λ z. h; is = λ p. absurd (omega arith); quote = λ p. absurd (omega arith) }
+no-string : (text : List ℕ) (start : ℕ) {r : Close} → r ≡ notClosed → ((c : List ℕ) → lexIn (drop start text) 0 c ≡ wrong) → Closed text start r
+no-string text start e h =
+    rw e (record { inside = omega arith; none = λ z. h; is = λ p. absurd (omega arith); quote = λ p. absurd (omega arith); long = λ p. absurd (omega arith) })
 
 -- neither a plain byte nor the quote nor an escape
 other-lexed : (b : ℕ) (text c : List ℕ) → plain b ≡ false → (b ≡ 34 → ⊥) → ((rest : List ℕ) → b ∷ text ≡ escaped rest → ⊥) → lexIn (b ∷ text) 0 c ≡ wrong
@@ -186,10 +197,28 @@ escape-before : (rest : List ℕ) → before (escaped rest) ≡ before rest + 6
 unfolding before
 escape-before rest = six-more (before rest)
 
-module _ {text : List ℕ} {start i : ℕ} (s : Stopped text start i) where
-  pub string-open : length text ≤ i → Closed text start 0
+escape-content : (rest : List ℕ) → content (escaped rest) 0 ≡ 61 ∷ content rest 0
+unfolding content
+escape-content rest = refl
+
+-- from `start` to i stand letters that spell n bytes, and at i no plain one
+pub record Ending (text : List ℕ) (start i n : ℕ) : Type 0 where
+  pub inside : i ≤ length text
+  pub small : start + n ≤ i
+  pub same : (c : List ℕ) → lexIn (drop start text) 0 c ≡ lexIn (drop i text) 0 c
+  pub clear : start + before (drop start text) ≡ i + before (drop i text)
+  pub long : length (content (drop start text) 0) ≡ n + length (content (drop i text) 0)
+  pub stop : i < length text → plain (getD text i 0) ≡ false
+
+pub string-start : {text : List ℕ} {start i : ℕ} → Stopped text start i → Ending text start i (i - start)
+string-start s =
+    let a = s .onward in
+    record { inside = s .inside; small = omega arith; same = s .same; clear = s .clear; long = omega (arith, s .long); stop = s .stop }
+
+module _ {text : List ℕ} {start i n : ℕ} (s : Ending text start i n) where
+  pub string-open : {r : Close} → r ≡ notClosed → length text ≤ i → Closed text start r
   unfolding lexIn
-  string-open h = no-string text start (λ c. s .same c ∙ rw (drop-of-length-le text h))
+  string-open e h = no-string text start e (λ c. s .same c ∙ rw (drop-of-length-le text h))
 
   module _ (h : i < length text) where
     here : drop i text ≡ getD text i 0 ∷ drop (suc i) text
@@ -202,28 +231,42 @@ module _ {text : List ℕ} {start i : ℕ} (s : Stopped text start i) where
     unfolding before
     before-quote e = rw (here, e)
 
-    pub string-close : getD text i 0 ≡ 34 → Closed text start (i + 1)
+    none-at-quote : getD text i 0 ≡ 34 → length (content (drop i text) 0) ≡ 0
+    unfolding content
+    none-at-quote e = rw (here, e)
+
+    pub string-close : getD text i 0 ≡ 34 → Closed text start (record { length = n; next = i + 1 })
     unfolding from lexIn
     string-close e =
-        let a = s .onward in
-        record { inside = omega arith; none = λ q. absurd (omega arith); is = λ p. (omega arith, λ c. lexed-here c ∙ rw (e, add-one)); quote = λ p. omega (arith, s .clear, before-quote e) }
+        let a = s .small in
+        record {
+          inside = omega arith;
+          none = λ q. absurd (omega arith);
+          is = λ p. (omega arith, λ c. lexed-here c ∙ rw (e, add-one));
+          quote = λ p. omega (arith, s .clear, before-quote e);
+          long = λ p. omega (arith, s .long, none-at-quote e);
+        }
 
-    pub string-wrong : {r : Bool} → (getD text i 0 ≡ 34 → ⊥) → EscapeAt text i r → r ≡ false → Closed text start 0
-    string-wrong n e z =
-        no-string text start (λ c. lexed-here c ∙ other-lexed (getD text i 0) (drop (suc i) text) c (s .stop h) n (λ rest q. e .none z rest (here ∙ q)))
+    pub string-wrong : {r : Close} {t : Bool} → r ≡ notClosed → (getD text i 0 ≡ 34 → ⊥) → EscapeAt text i t → t ≡ false → Closed text start r
+    string-wrong q n e z =
+        no-string text start q (λ c. lexed-here c ∙ other-lexed (getD text i 0) (drop (suc i) text) c (s .stop h) n (λ rest q. e .none z rest (here ∙ q)))
 
-    module _ {r : Bool} (e : EscapeAt text i r) (z : r ≡ true) where
+    module _ {t : Bool} (e : EscapeAt text i t) (z : t ≡ true) where
       pub escape-room : i + 6 ≤ length text
       escape-room = omega (arith, escape-length (drop (i + 6) text) (e .is z), length-drop i text)
 
-      pub string-more : {j : ℕ} → Stopped text (i + 6) j → Stopped text start j
+      pub string-more : {j : ℕ} → Stopped text (i + 6) j → Ending text start j (n + 1 + (j - (i + 6)))
       string-more {j} p =
+          let a = p .onward in
           let b : before (drop i text) ≡ before (drop (i + 6) text) + 6 = ap before (e .is z) ∙ escape-before (drop (i + 6) text) in
+          let l : length (content (drop i text) 0) ≡ suc (length (content (drop (i + 6) text) 0))
+          = ap (λ (x : List ℕ). length (content x 0)) (e .is z) ∙ ap length (escape-content (drop (i + 6) text)) in
           record {
             inside = p .inside;
-            onward = omega (arith, s .onward, p .onward);
+            small = omega (arith, s .small);
             same = λ c. s .same c ∙ ap (λ (l : List ℕ). lexIn l 0 c) (e .is z) ∙ escape-lexed (drop (i + 6) text) c ∙ p .same c;
             clear = omega (arith, s .clear, b, p .clear);
+            long = omega (arith, s .long, l, p .long);
             stop = p .stop;
           }
 
@@ -370,13 +413,22 @@ from-end : (text : List ℕ) → from text (length text) ≡ []
 unfolding from lex
 from-end text = rw (drop-length text)
 
-mark-above : (b : ℕ) → isMark b ≡ true → b ≡ 0 → ⊥
+pub mark-above : (b : ℕ) → isMark b ≡ true → b ≡ 0 → ⊥
 unfolding isMark
 mark-above b e z = no-truth (rw z at e)
 
 module _ {text : List ℕ} {at p : ℕ} (s : Skipped text at p) where
-  pub next-end : p ≡ length text → Next text at (record { kind = 0; start = length text; next = length text })
-  next-end e = record { inside = omega arith; start = omega arith; ended = λ z. s .same ∙ ap (from text) e ∙ from-end text; is = λ z. absurd (omega arith); quote = λ z. absurd (omega arith); lying = λ z. absurd (omega arith) }
+  pub next-end : {t : Found} → t ≡ atEnd 0 (length text) → p ≡ length text → Next text at t
+  next-end q e =
+      rw q (record {
+        inside = omega arith;
+        start = omega arith;
+        ended = λ z. s .same ∙ ap (from text) e ∙ from-end text;
+        is = λ z. absurd (omega arith);
+        quote = λ z. absurd (omega arith);
+        lying = λ z. absurd (omega arith);
+        long = λ z. absurd (omega arith);
+      })
 
   module _ (h : (p ≡ length text) → ⊥) where
     inside : p < length text
@@ -387,28 +439,45 @@ module _ {text : List ℕ} {at p : ℕ} (s : Skipped text at p) where
     unfolding from
     head = s .same ∙ ap lex (drop-cons text p 0 inside)
 
-    pub next-wrong : from text at ≡ wrong → Next text at (record { kind = 1; start = length text; next = length text })
-    next-wrong e =
+    next-wrong : {t : Found} → t ≡ atEnd 1 (length text) → from text at ≡ wrong → Next text at t
+    next-wrong q e =
         let a = inside in
         let o = s .onward in
-        record { inside = omega arith; start = omega arith; ended = λ z. absurd (omega arith); is = λ z. (omega arith, e ∙ ap (λ (l : List Token). mark 1 ∷ l) (sym (from-end text))); quote = λ z. absurd (omega arith); lying = λ z. absurd (omega arith) }
+        rw q (record {
+          inside = omega arith;
+          start = omega arith;
+          ended = λ z. absurd (omega arith);
+          is = λ z. (omega arith, e ∙ ap (λ (l : List Token). mark 1 ∷ l) (sym (from-end text)));
+          quote = λ z. absurd (omega arith);
+          lying = λ z. absurd (omega arith);
+          long = λ z. absurd (omega arith);
+        })
 
-    quote : getD text p 0 ≡ 34 → from text at ≡ lexIn (drop (p + 1) text) 0 (content (drop (p + 1) text) 0)
+    pub quote : getD text p 0 ≡ 34 → from text at ≡ lexIn (drop (p + 1) text) 0 (content (drop (p + 1) text) 0)
     unfolding lex blank
     quote e = head ∙ rw (e, add-one)
 
-    pub next-no-string : getD text p 0 ≡ 34 → Closed text (p + 1) 0 → Next text at (record { kind = 1; start = length text; next = length text })
-    next-no-string e k = next-wrong (quote e ∙ k .none refl _)
+    module _ {r : Close} (e : getD text p 0 ≡ 34) (k : Closed text (p + 1) r) where
+      pub next-no-string : {t : Found} → t ≡ atEnd 1 (length text) → r .next ≡ 0 → Next text at t
+      next-no-string q z = next-wrong q (quote e ∙ k .none z _)
 
-    pub next-string : {r : ℕ} → getD text p 0 ≡ 34 → Closed text (p + 1) r → (r ≡ 0 → ⊥) → Next text at (record { kind = 34; start = p + 1; next = r })
-    next-string {r} e k z =
-        let pos : 0 < r = omega (arith, z) in
-        let a = inside in
-        let o = s .onward in
-        let i = k .is pos in
-        record { inside = k .inside; start = omega arith; ended = λ q. absurd (omega arith); is = λ q. (omega (arith, i .0), quote e ∙ i .1 _); quote = λ q. k .quote pos; lying = λ q. lies (drop (p + 1) text) (i .1 []) }
+      pub next-string : (r .next ≡ 0 → ⊥) → Next text at (record { kind = 34; start = p + 1; length = r .length; next = r .next })
+      next-string z =
+          let pos : 0 < r .next = omega (arith, z) in
+          let a = inside in
+          let o = s .onward in
+          let i = k .is pos in
+          record {
+            inside = k .inside;
+            start = omega arith;
+            ended = λ q. absurd (omega arith);
+            is = λ q. (omega (arith, i .0), quote e ∙ i .1 _);
+            quote = λ q. k .quote pos;
+            lying = λ q. lies (drop (p + 1) text) (i .1 []);
+            long = λ q. k .long pos;
+          }
 
-    pub next-mark : (b : ℕ) → getD text p 0 ≡ b → (b ≡ 34 → ⊥) → isMark b ≡ true → Next text at (record { kind = b; start = p; next = p + 1 })
+    pub next-mark : (b : ℕ) → getD text p 0 ≡ b → (b ≡ 34 → ⊥) → isMark b ≡ true → Next text at (record { kind = b; start = p; length = 0; next = p + 1 })
     unfolding from lex
     next-mark b e n m =
         let a = inside in
@@ -420,8 +489,9 @@ module _ {text : List ℕ} {at p : ℕ} (s : Skipped text at p) where
           is = λ q. (omega arith, head ∙ rw (s .stop a, e, ne-eqb b 34 n, m, add-one));
           quote = λ q. absurd (n q);
           lying = λ q. absurd (n q);
+          long = λ q. absurd (n q);
         }
 
-    pub next-other : (b : ℕ) → getD text p 0 ≡ b → (b ≡ 34 → ⊥) → isMark b ≡ false → Next text at (record { kind = 1; start = length text; next = length text })
+    pub next-other : {t : Found} → t ≡ atEnd 1 (length text) → (b : ℕ) → getD text p 0 ≡ b → (b ≡ 34 → ⊥) → isMark b ≡ false → Next text at t
     unfolding lex
-    next-other b e n m = next-wrong (head ∙ rw (s .stop inside, e, ne-eqb b 34 n, m))
+    next-other q b e n m = next-wrong q (head ∙ rw (s .stop inside, e, ne-eqb b 34 n, m))

@@ -5,6 +5,7 @@ pub mod Tokening
 pub mod Arrays
 pub mod Members
 pub mod Objects
+pub mod Closings
 pub mod Lexical
 pub mod Documents
 pub mod Passing
@@ -42,3 +43,5 @@ pub mod Restoring
 pub mod EmptyPairs
 pub mod Ordering
 pub mod ReadNumbers
+pub mod RunStops
+pub mod IndexCounts

@@ -1,19 +1,16 @@
 -- A receipt names the settings that it is spelled with.
 use Prim.Native.Nat.{ℕ, zero, suc, _+_, _-_, _≤_, _<_}
-use mathlib.Core.Path.{_≡_, refl, sym, ap, _∙_, subst}
-use mathlib.Core.Bool.{Bool, true, false, cond, _&&_}
-use mathlib.Core.List.{List, [], _∷_, _++_, append-assoc, append-nil}
-use mathlib.Core.Option.{Option, none, some}
+use mathlib.Core.Path.{_≡_, refl, sym, ap, _∙_}
+use mathlib.Core.Bool.{true, _&&_}
+use mathlib.Core.List.{List, [], _∷_, _++_, append-assoc}
 use native.Mathlib.Omega.{arith}
 use borrow.Author.Tests.{eq-eqb, leb-true}
-use lib.Dec.{eqb, leb}
+use lib.Dec.{leb}
 use lib.IntN.{ℤ}
 use lib.ListN.{length, getD, take, drop, length-append}
 use lib.Seq.{take-at, drop-at}
-use Rattle.primitives.specs.Bytes.{AllBytes, same}
-use Rattle.primitives.specs.Counter.{widthGood}
-use Rattle.primitives.specs.Base64.{encoding, decoding}
-use Rattle.primitives.specs.declared.base64.Alphabet.the-variants.{Standard, UrlSafe}
+use Rattle.primitives.specs.Base64.{encoding}
+use Rattle.primitives.specs.declared.base64.Alphabet.the-variants.{UrlSafe}
 use Rattle.primitives.proofs.Rows.{both}
 use Rattle.primitives.proofs.ByteLists.{same-refl}
 use Rattle.primitives.proofs.Base64Laws.{no-dot, no-underscore, decode-encode}
@@ -21,10 +18,10 @@ use Rattle.receipt.specs.Decimal.{digits}
 use Rattle.receipt.specs.Amount.{amount, amountsText}
 use Rattle.receipt.specs.DateTime.{dateText}
 use Rattle.receipt.specs.Settings.{between, nameText, nameOf, cspGood, idGood, serialGood, settingsGood, SettingsLengths, SettingsBytes}
-use Rattle.receipt.specs.Texts.{separator, dot, beginning}
+use Rattle.receipt.specs.Texts.{beginning}
 use Rattle.receipt.specs.Separated.{after, skip}
 use Rattle.receipt.specs.Payload.{base64, registerPart, moment, counterField, closing, body, payload}
-use Rattle.receipt.specs.Form.{firstAt, nextAt, part, Without, parts, header, firstElement, signedForm}
+use Rattle.receipt.specs.Form.{firstAt, nextAt, Without, header, signedForm}
 use Rattle.receipt.specs.Line.{countOf}
 use Rattle.receipt.specs.Compact.{TypedEntry, signatureText, compact, spellable}
 use Rattle.receipt.specs.declared.settings.Settings.{Settings}
@@ -34,7 +31,7 @@ use Rattle.receipt.specs.declared.entry.Entry.{Entry}
 use Rattle.receipt.proofs.Joined.{after-mark, after-other}
 use Rattle.receipt.proofs.Marks.{no-mark, skip-amounts}
 use Rattle.receipt.proofs.Signs.{each-digits, each-amount, each-date}
-use Rattle.receipt.proofs.Names.{letters-no-mark, good-settings, name-of, length-text}
+use Rattle.receipt.proofs.Names.{letters-no-mark, good-settings, name-of}
 use Rattle.receipt.proofs.MarkCounts.{count-append, count-none, one-mark, without-each}
 use Rattle.receipt.proofs.Finding.{next-without}
 use Rattle.receipt.proofs.ExactEntry.{parts-bytes}

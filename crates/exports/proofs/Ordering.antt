@@ -1,12 +1,12 @@
 -- Names in any order, and blanks between tokens.
 use Prim.Native.Nat.{ℕ}
 use mathlib.Core.Path.{_≡_, refl, sym, ap, _∙_, subst}
-use mathlib.Core.Bool.{Bool, true}
-use mathlib.Core.List.{List, [], _∷_, _++_, append-assoc}
+use mathlib.Core.Bool.{true}
+use mathlib.Core.List.{List, [], _∷_, _++_}
 use mathlib.Core.Logic.{_↔_}
 use native.Mathlib.Omega.{arith}
 use lib.ListN.{length}
-use Rattle.exports.specs.Text.{Token, mark, word, blank, isMark, every, Inside, close, letter, escape, Tokens, end, space, sign, quoted}
+use Rattle.exports.specs.Text.{Token, blank, every, Inside, close, letter, escape, Tokens, end, space, sign, quoted}
 use Rattle.exports.specs.Shape.{Member, certificate, issuers, receipts, certificatesOf, issuersOf, receiptsOf, Element}
 use Rattle.exports.specs.Orders.{Order, szb, sbz, zsb, zbs, bsz, bzs, EachOnce, AnyOrder, BlanksBetween}
 use Rattle.exports.proofs.Sized.{every-head, every-tail}

@@ -26,17 +26,17 @@ use Rattle.journal.proofs.Placing as placing
 use Rattle.journal.proofs.Passing.{typed-for}
 use Rattle.journal.proofs.Accepting.{valid-work}
 use Rattle.exports.specs.Text.{every}
-use Rattle.exports.specs.Spelled.{TextPair, sizedTexts, textsIn, afterTexts, short, pairSpelled, pairsSpelled, journalSpelled, isEmpty, pairIn, afterPair, pairsIn, pairsOf}
-use Rattle.exports.specs.Running.{PairFits, AllFit}
-use Rattle.exports.specs.Running as running
-use Rattle.exports.specs.GroupLaws.{AllNamed, PairsAreThose, textPair, PairsOfValid}
-use Rattle.exports.specs.GroupLaws as laws
+use Rattle.exports.specs.Spelled.{TextPair, sizedTexts, textsIn, afterTexts, short, pairSpelled, pairsSpelled, journalSpelled, GoodPair, GoodPairs, nothing, also, isEmpty, pairIn, afterPair, pairsIn, pairsOf}
+use Rattle.exports.specs.GroupLaws.{PairsAreThose, textPair, PairsOfValid}
 use Rattle.exports.proofs.Sized.{lt-short, every-nil, every-one}
 use Rattle.exports.proofs.GroupsBack.{texts-in, after-in}
 
 -- ---- the pair at the start of a buffer
 
-module _ (x : TextPair) (f : PairFits x) (rest : List ℕ) where
+serial-fits : (x : TextPair) → GoodPair x → length (nameText (x .serial)) < 4294967296
+serial-fits x g = let m = good-name Serial (x .serial) (g .good) .most in omega (arith, m, length-text (x .serial) (g .long) m)
+
+module _ (x : TextPair) (g : GoodPair x) (rest : List ℕ) where
   pub pair-open : pairSpelled x ++ rest ≡ section (nameText (x .serial)) ++ (bytesOf 4 (length (x .texts)) ++ (sizedTexts (x .texts) ++ rest))
   unfolding pairSpelled pairStart
   pair-open = simp append-assoc
@@ -44,18 +44,18 @@ module _ (x : TextPair) (f : PairFits x) (rest : List ℕ) where
   pub pair-end : sectionEnd (pairSpelled x ++ rest) 0 ≡ 4 + length (nameText (x .serial))
   pair-end =
       ap (λ (b : List ℕ). sectionEnd b 0) pair-open
-      ∙ section-end [] (nameText (x .serial)) (bytesOf 4 (length (x .texts)) ++ (sizedTexts (x .texts) ++ rest)) 0 refl (f .serial) ∙ omega arith
+      ∙ section-end [] (nameText (x .serial)) (bytesOf 4 (length (x .texts)) ++ (sizedTexts (x .texts) ++ rest)) 0 refl (serial-fits x g) ∙ omega arith
 
   pub pair-name : sectionText (pairSpelled x ++ rest) 0 ≡ nameText (x .serial)
   pair-name =
       ap (λ (b : List ℕ). sectionText b 0) pair-open
-      ∙ section-text [] (nameText (x .serial)) (bytesOf 4 (length (x .texts)) ++ (sizedTexts (x .texts) ++ rest)) 0 refl (f .serial)
+      ∙ section-text [] (nameText (x .serial)) (bytesOf 4 (length (x .texts)) ++ (sizedTexts (x .texts) ++ rest)) 0 refl (serial-fits x g)
 
   pub pair-count : countAt (pairSpelled x ++ rest) (sectionEnd (pairSpelled x ++ rest) 0) 4 ≡ length (x .texts)
   pair-count =
       (λ i. countAt (pair-open i) (pair-end i) 4)
       ∙ count-in (section (nameText (x .serial))) (sizedTexts (x .texts) ++ rest) (4 + length (nameText (x .serial))) 4 (length (x .texts))
-      (length-section (nameText (x .serial))) (omega (arith, f .few))
+      (length-section (nameText (x .serial))) (omega (arith, g .few))
 
   pub pair-entries : drop (sectionEnd (pairSpelled x ++ rest) 0 + 4) (pairSpelled x ++ rest) ≡ sizedTexts (x .texts) ++ rest
   pair-entries =
@@ -66,16 +66,16 @@ module _ (x : TextPair) (f : PairFits x) (rest : List ℕ) where
       (λ i. drop (pair-end i + 4) ((pair-open ∙ sym (append-assoc s c (sizedTexts (x .texts) ++ rest))) i))
       ∙ drop-at (s ++ c) (sizedTexts (x .texts) ++ rest) (4 + length (nameText (x .serial)) + 4) l
 
-  pub pair-in : length (x .serial .bytes) ≡ 32 → serialGood (x .serial) ≡ true → pairIn (pairSpelled x ++ rest) ≡ x
+  pub pair-in : pairIn (pairSpelled x ++ rest) ≡ x
   unfolding pairIn serialAt
-  pair-in l g = λ i. record {
-    serial = (ap nameOf pair-name ∙ name-of Serial (x .serial) l g) i;
-    texts = ((λ j. textsIn (pair-count j) (pair-entries j)) ∙ texts-in (x .texts) rest (f .short)) i;
+  pair-in = λ i. record {
+    serial = (ap nameOf pair-name ∙ name-of Serial (x .serial) (g .long) (g .good)) i;
+    texts = ((λ j. textsIn (pair-count j) (pair-entries j)) ∙ texts-in (x .texts) rest (g .short)) i;
   }
 
   pub pair-after : afterPair (pairSpelled x ++ rest) ≡ rest
   unfolding afterPair
-  pair-after = (λ j. afterTexts (pair-count j) (pair-entries j)) ∙ after-in (x .texts) rest (f .short)
+  pair-after = (λ j. afterTexts (pair-count j) (pair-entries j)) ∙ after-in (x .texts) rest (g .short)
 
   pub pair-size : 8 ≤ length (pairSpelled x)
   unfolding pairSpelled pairStart
@@ -98,21 +98,21 @@ filled : (buf : List ℕ) → 0 < length buf → isEmpty buf ≡ false
 filled [] h = absurd (omega arith)
 filled (b ∷ buf) h = refl
 
-pub pairs-in : (k : ℕ) (ps : List TextPair) → length ps ≤ k → AllFit ps → AllNamed ps → pairsIn k (pairsSpelled ps) ≡ ps
+pub pairs-in : (k : ℕ) (ps : List TextPair) → length ps ≤ k → GoodPairs ps → pairsIn k (pairsSpelled ps) ≡ ps
 unfolding pairsIn
-pairs-in zero [] h f n = refl
-pairs-in (suc k) [] h f n = rw pairs-nil
-pairs-in zero (p ∷ ps) h f n = absurd (omega arith)
-pairs-in (suc k) (p ∷ ps) h (running.also f fs) (laws.also l g ns) =
+pairs-in zero [] h g = refl
+pairs-in (suc k) [] h g = rw pairs-nil
+pairs-in zero (p ∷ ps) h g = absurd (omega arith)
+pairs-in (suc k) (p ∷ ps) h (also g gs) =
     let b = pairSpelled p ++ pairsSpelled ps in
-    let some : 0 < length b = omega (arith, length-append (pairSpelled p) (pairsSpelled ps), pair-size p f []) in
+    let some : 0 < length b = omega (arith, length-append (pairSpelled p) (pairsSpelled ps), pair-size p g []) in
     rw (pairs-cons p ps, filled b some)
-    (λ i. pair-in p f (pairsSpelled ps) l g i ∷ (ap (pairsIn k) (pair-after p f (pairsSpelled ps)) ∙ pairs-in k ps (omega arith) fs ns) i)
+    (λ i. pair-in p g (pairsSpelled ps) i ∷ (ap (pairsIn k) (pair-after p g (pairsSpelled ps)) ∙ pairs-in k ps (omega arith) gs) i)
 
-pub pairs-size : (ps : List TextPair) → AllFit ps → length ps ≤ length (pairsSpelled ps)
-pairs-size [] f = omega arith
-pairs-size (p ∷ ps) (running.also f fs) =
-    omega (arith, ap length (pairs-cons p ps), length-append (pairSpelled p) (pairsSpelled ps), pair-size p f [], pairs-size ps fs)
+pub pairs-size : (ps : List TextPair) → GoodPairs ps → length ps ≤ length (pairsSpelled ps)
+pairs-size [] g = omega arith
+pairs-size (p ∷ ps) (also g gs) =
+    omega (arith, ap length (pairs-cons p ps), length-append (pairSpelled p) (pairsSpelled ps), pair-size p g [], pairs-size ps gs)
 
 -- ---- a journal
 
@@ -142,16 +142,16 @@ module _ (o : Owner) (g : GoodOwner o) (ps : List TextPair) where
   unfolding journalSpelled
   owner-room = omega (arith, serial-place, length-append (ownerText o) (pairsSpelled ps))
 
-  journal-size : AllFit ps → length ps ≤ length (journalSpelled o ps)
+  journal-size : GoodPairs ps → length ps ≤ length (journalSpelled o ps)
   unfolding journalSpelled
-  journal-size f = omega (arith, length-append (ownerText o) (pairsSpelled ps), pairs-size ps f)
+  journal-size gs = omega (arith, length-append (ownerText o) (pairsSpelled ps), pairs-size ps gs)
 
-  pub pairs-those : AllFit ps → AllNamed ps → pairsOf (journalSpelled o ps) ≡ ps
+  pub pairs-those : GoodPairs ps → pairsOf (journalSpelled o ps) ≡ ps
   unfolding pairsOf serialPlace
-  pairs-those f n = ap (pairsIn (length (journalSpelled o ps))) after-owner ∙ pairs-in (length (journalSpelled o ps)) ps (journal-size f) f n
+  pairs-those gs = ap (pairsIn (length (journalSpelled o ps))) after-owner ∙ pairs-in (length (journalSpelled o ps)) ps (journal-size gs) gs
 
 pub pairs-are-those : PairsAreThose
-pairs-are-those o ps g f n = pairs-those o g ps f n
+pairs-are-those o ps g gs = pairs-those o g ps gs
 
 -- ---- a valid journal
 
@@ -183,40 +183,30 @@ all-short k s n c (e ∷ es) ts (placing.more h hs) =
     every-one short (compact s n e) (map (compact s n) es) (lt-short (compact s n e) (omega (arith, compact-short s n e (ts .lengths) (h .typed) (h .spelled))))
     (all-short k s n (stepCore n c (record { settings = s; entry = e })) es ts hs)
 
-pair-fits : (o : Owner) (n : ℕ) (p : Pair) → length (nameText (p .serial)) < 4294967296 → length (p .entries) < 4294967296
-    → every short (map (compact (settingsFor o (p .serial)) n) (p .entries)) ≡ true → PairFits (textPair o n p)
+pair-good : (o : Owner) (n : ℕ) (p : Pair) → length (p .serial .bytes) ≡ 32 → serialGood (p .serial) ≡ true → length (p .entries) < 4294967296
+    → every short (map (compact (settingsFor o (p .serial)) n) (p .entries)) ≡ true → GoodPair (textPair o n p)
 unfolding textPair
-pair-fits o n p l m s = record { serial = l; few = omega (arith, length-map (p .entries) (compact (settingsFor o (p .serial)) n)); short = s }
+pair-good o n p l g m s = record { long = l; good = g; short = s; few = omega (arith, length-map (p .entries) (compact (settingsFor o (p .serial)) n)) }
 
-all-fit : (k : List ℕ) (o : Owner) (n : ℕ) (c : Core) (us : List Name) (ps : List Pair) → GoodOwner o → AllRight k n c (allPlaced o ps) → Names us ps
-    → AllFit (map (textPair o n) ps)
+pairs-good : (k : List ℕ) (o : Owner) (n : ℕ) (c : Core) (us : List Name) (ps : List Pair) → GoodOwner o → AllRight k n c (allPlaced o ps) → Names us ps
+    → GoodPairs (map (textPair o n) ps)
 unfolding allPlaced
-all-fit k o n c us [] g h ns = running.nothing
-all-fit k o n c us (p ∷ ps) g h (placing.more b ns) =
+pairs-good k o n c us [] g h ns = nothing
+pairs-good k o n c us (p ∷ ps) g h (placing.more b ns) =
     let s = settingsFor o (p .serial) in
     let r = right-split k n c (placedUnder s (p .entries)) (allPlaced o ps) h in
-    let m = good-name Serial (p .serial) (b .good) .most in
-    running.also
-    (pair-fits o n p (omega (arith, m, length-text (p .serial) (b .typed .long) m)) (b .few) (all-short k s n c (p .entries) (typed-for o (p .serial) g (b .typed)) (r .0)))
-    (all-fit k o n (runCore n c (placedUnder s (p .entries))) (us ++ (p .serial ∷ [])) ps g (r .1) ns)
-
-all-named : (o : Owner) (n : ℕ) (us : List Name) (ps : List Pair) → Names us ps → AllNamed (map (textPair o n) ps)
-unfolding textPair
-all-named o n us [] ns = laws.nothing
-all-named o n us (p ∷ ps) (placing.more b ns) = laws.also (b .typed .long) (b .good) (all-named o n (us ++ (p .serial ∷ [])) ps ns)
+    also (pair-good o n p (b .typed .long) (b .good) (b .few) (all-short k s n c (p .entries) (typed-for o (p .serial) g (b .typed)) (r .0)))
+    (pairs-good k o n (runCore n c (placedUnder s (p .entries))) (us ++ (p .serial ∷ [])) ps g (r .1) ns)
 
 module _ {j k : List ℕ} {n : ℕ} (v : Valid j k n) where
   pub valid-spelled : j ≡ journalSpelled (v .owner) (map (textPair (v .owner) n) (v .pairs))
   valid-spelled = v .bytes ∙ journal-is (v .owner) n (v .pairs)
 
-  pub valid-fit : AllFit (map (textPair (v .owner) n) (v .pairs))
-  valid-fit = let w = valid-work v in all-fit k (v .owner) n (startCore (v .owner)) [] (v .pairs) (v .good) (w .right) (w .names)
-
-  pub valid-named : AllNamed (map (textPair (v .owner) n) (v .pairs))
-  valid-named = all-named (v .owner) n [] (v .pairs) (valid-work v .names)
+  pub valid-good : GoodPairs (map (textPair (v .owner) n) (v .pairs))
+  valid-good = let w = valid-work v in pairs-good k (v .owner) n (startCore (v .owner)) [] (v .pairs) (v .good) (w .right) (w .names)
 
   pub valid-pairs : pairsOf j ≡ map (textPair (v .owner) n) (v .pairs)
-  valid-pairs = ap pairsOf valid-spelled ∙ pairs-those (v .owner) (v .good) (map (textPair (v .owner) n) (v .pairs)) valid-fit valid-named
+  valid-pairs = ap pairsOf valid-spelled ∙ pairs-those (v .owner) (v .good) (map (textPair (v .owner) n) (v .pairs)) valid-good
 
 pub pairs-of-valid : PairsOfValid
 pairs-of-valid j k n v = valid-pairs v

@@ -1,5 +1,6 @@
 -- What a payload names, as its tests are asked one after the other.
 use Prim.Native.Nat.{ℕ, _-_, _≤_, _<_}
+use mathlib.Core.Option.{some}
 use mathlib.Core.Path.{_≡_, refl, sym, ap, _∙_}
 use mathlib.Core.Bool.{Bool, true, false, cond, not, and-false}
 use mathlib.Core.List.{List, [], _∷_}
@@ -19,8 +20,7 @@ use Rattle.receipt.specs.Separated.{after, skip}
 use Rattle.receipt.specs.Settings.{nameOf, settingsGood}
 use Rattle.receipt.specs.declared.settings.Name.{Name}
 use Rattle.receipt.specs.declared.settings.Settings.{Settings}
-use Rattle.exports.specs.Naming.{fieldOf, settingsIn, payloadNames, notNamed}
-use Rattle.exports.specs.Running.{namedIn}
+use Rattle.exports.specs.Naming.{fieldOf, settingsIn, payloadNames, notNamed, namedBy}
 use Rattle.exports.specs.declared.naming.Named.{Named}
 
 abbrev named-as : Settings → Named
@@ -65,8 +65,7 @@ unmarked (x ∷ s) k = rw (ne-eqb x separator k)
 -- ---- the tests, one after the other
 
 module _ (p : List ℕ) where
-  pub names-not : {r : Named} → payloadNames p ≡ false → r ≡ notNamed → r ≡ namedIn p
-  unfolding namedIn
+  pub names-not : {r : Named} → payloadNames p ≡ false → r ≡ notNamed → r ≡ namedBy (some p)
   names-not e q = q ∙ sym (ap (λ (t : Bool). cond t (named-as (settingsIn p)) notNamed) e)
 
   pub names-short : {n : ℕ} → n ≡ length p → n < 4 → payloadNames p ≡ false
@@ -140,8 +139,8 @@ module _ (p : List ℕ) where
             unfolding payloadNames
             names-bad u = rw (sym (d ∙ ap settingsGood found-is) ∙ not-true v u, and-false six, and-false twelve, and-false begins)
 
-            pub names-good : {count : ℕ} → count ≡ countOf separator p → count ≡ 12 → not v ≡ false → named-as found ≡ namedIn p
-            unfolding payloadNames namedIn
+            pub names-good : {count : ℕ} → count ≡ countOf separator p → count ≡ 12 → not v ≡ false → named-as found ≡ namedBy (some p)
+            unfolding payloadNames
             names-good h o u =
                 rw (first-starts ∙ sym g ∙ not-false r t, eq-eqb (countOf separator p) 12 (sym h ∙ o), eq-eqb (length (fieldOf 1 p)) 6 sized, sym (d ∙ ap settingsGood found-is) ∙ not-false v u)
                 (ap (λ (s : Settings). named-as s) found-is)

@@ -1,19 +1,19 @@
 -- Compact forms and BASE64 can stand in a string as they are.
 use Prim.Native.Nat.{ℕ, _+_, _-_, _≤_, _<_}
-use mathlib.Core.Path.{_≡_, refl, sym, ap, _∙_}
-use mathlib.Core.Bool.{Bool, true, false, cond, _&&_, not}
+use mathlib.Core.Path.{_≡_, refl, _∙_}
+use mathlib.Core.Bool.{Bool, true, false, cond, _&&_}
 use mathlib.Core.List.{List, [], _∷_, _++_, map}
 use mathlib.Core.Option.{none, some}
 use native.Mathlib.Omega.{arith}
 use borrow.Author.Tests.{le-leb, ltb-true, ltb-false, ne-eqb}
-use lib.Dec.{ltb, leb, eqb}
+use lib.Dec.{ltb, eqb}
 use Rattle.primitives.specs.Bytes.{AllBytes}
-use Rattle.primitives.specs.Base64.{letter, letter62, letter63, pad, encoding, decoding, accepted}
+use Rattle.primitives.specs.Base64.{letter, letter62, letter63, encoding, decoding, accepted}
 use Rattle.primitives.specs.declared.base64.Alphabet.{Alphabet}
 use Rattle.primitives.specs.declared.base64.Alphabet.the-variants.{Standard, UrlSafe}
 use Rattle.primitives.proofs.Each.{Each, none-left, one-more, each-append}
 use Rattle.primitives.proofs.Base64Laws.{each-encoding, decode-encode}
-use Rattle.receipt.specs.Form.{header, firstElement, signedForm}
+use Rattle.receipt.specs.Form.{header, signedForm}
 use Rattle.receipt.specs.Compact.{compact}
 use Rattle.receipt.specs.declared.settings.Settings.{Settings}
 use Rattle.receipt.specs.declared.entry.Entry.{Entry}

@@ -6,45 +6,39 @@ use mathlib.Core.List.{List, [], _∷_, _++_, map}
 use mathlib.Core.Logic.{_↔_}
 use mathlib.Core.Option.{Option, none, some, Option·map}
 use native.Mathlib.Omega.{arith}
-use borrow.Author.Tests.{le-leb, lt-leb, leb-true, leb-false}
+use borrow.Author.Tests.{le-leb, lt-leb, leb-true}
 use lib.Dec.{leb}
-use lib.ListN.{length, take, drop, getD, length-map}
+use lib.ListN.{length, getD, length-map}
 use Rattle.primitives.specs.Bytes.{AllBytes}
 use Rattle.primitives.specs.Place.{overwrite, room, placed}
 use Rattle.primitives.specs.Answers.{written, answerWith, bufferWith}
 use Rattle.primitives.specs.Questions.{ask, ifZero}
 use Rattle.primitives.specs.declared.answer.Answer.{Answer}
-use Rattle.primitives.proofs.Rows.{both, true-is-not-false, ask-zero, ask-yes, ifZero-yes, ifZero-no}
+use Rattle.primitives.proofs.Rows.{both, true-is-not-false, ask-zero, ifZero-yes, ifZero-no}
 use Rattle.primitives.proofs.Over.{placed-room, length-placed}
 use Rattle.primitives.proofs.Laws.{writing-touches-no-other}
-use Rattle.receipt.specs.Settings.{between, cspGood, nameText, idGood}
-use Rattle.receipt.specs.declared.settings.Letters.the-variants.{Id, Serial}
-use Rattle.receipt.proofs.Names.{good-name, length-text}
+use Rattle.receipt.specs.Settings.{between, cspGood}
+use Rattle.receipt.specs.declared.settings.Letters.the-variants.{Id}
+use Rattle.receipt.proofs.Names.{good-name}
 use Rattle.journal.specs.State.{unopened}
 use Rattle.journal.specs.Valid.{Owner, GoodOwner}
 use Rattle.journal.specs.Checking.{takeOver}
-use Rattle.journal.specs.declared.state.TakenOver.{TakenOver}
 use Rattle.exports.specs.Text.{every}
-use Rattle.exports.specs.Shape.{Element, Shape, plainElement, plainText}
+use Rattle.exports.specs.Shape.{Element, Shape}
 use Rattle.exports.specs.Parsed.{elementsOf}
 use Rattle.exports.specs.Spelled.{isEmpty, TextPair, pairsOf, journalSpelled}
-use Rattle.exports.specs.Running.{PairFits, AllFit}
-use Rattle.exports.specs.Running as running
-use Rattle.exports.specs.TakenOver.{GoodPair, GoodPairs, GoodParts}
-use Rattle.exports.specs.TakenOver as parts
+use Rattle.exports.specs.TakenOver.{GoodParts}
 use Rattle.exports.specs.Groups.{Group, groupsText, groupGood, groupsOf}
-use Rattle.exports.specs.GroupLaws.{AllNamed}
-use Rattle.exports.specs.GroupLaws as laws
-use Rattle.exports.specs.Writing.{base64, elementFor, elementsFor, exportText, exportOf, answered, exported, exportBuffer}
-use Rattle.exports.specs.Reading.{elementGood, hasReceipt, namesRegister, pairOf, ownerOf, journalOf, surveyNumber, elementsNumber, restoredFrom, restoredBy, restored, restoredBuffer, journalBy, notRead}
+use Rattle.exports.specs.Writing.{elementFor, elementsFor, exportText, exportOf, answered, exported, exportBuffer}
+use Rattle.exports.specs.Reading.{elementGood, hasReceipt, namesRegister, pairOf, ownerOf, journalOfElements, surveyNumber, elementsNumber, restoredBy, restored, restoredBuffer, journalBy, notRead}
 use Rattle.exports.specs.Promises.{WrittenExactly, ExportIsPlain, SameCertificates, nothing, also, ReadIsExportedAgain, SameTextAgain, AnswerOfShape, ReadsAs, ReadExactly, OtherTextsGet28, RefusedExportChangesNothing, NothingAfterLength, RefusedByTakeOver}
 use Rattle.exports.specs.declared.writing.Exported.{Exported}
 use Rattle.exports.specs.declared.reading.Restored.{Restored}
 use Rattle.exports.proofs.Unique.{exact}
 use Rattle.exports.proofs.GroupsBack.{groups-read, groups-exactly}
 use Rattle.exports.proofs.PairsBack.{pairs-those}
-use Rattle.exports.proofs.TakenAsSpelled.{name-bytes, serial-typed}
-use Rattle.exports.proofs.ElementsTaken.{Surveyed, survey-zero, owner-parts}
+use Rattle.exports.proofs.TakenAsSpelled.{name-bytes}
+use Rattle.exports.proofs.ElementsTaken.{Surveyed, owner-parts}
 use Rattle.exports.proofs.ReadBack.{made, exported-taken, buffer-taken, exported-refused, buffer-refused, restored-is, restored-taken}
 use Rattle.exports.proofs.PlainText.{plain-text}
 use Rattle.exports.proofs.RoomEnough.{some-element}
@@ -57,8 +51,8 @@ pub record Read (o : Option (List Element)) (key : List ℕ) (n size : ℕ) : Ty
   pub elements : List Element
   pub is : o ≡ some elements
   pub asked : elementsNumber elements size ≡ 0
-  pub taken : takeOver (journalOf elements) key n .number ≡ 0
-  pub answer : restoredBy o key n size ≡ record { number = 0; index = 0; length = length (journalOf elements); state = takeOver (journalOf elements) key n .state }
+  pub taken : takeOver (journalOfElements elements) key n .number ≡ 0
+  pub answer : restoredBy o key n size ≡ record { number = 0; index = 0; length = length (journalOfElements elements); state = takeOver (journalOfElements elements) key n .state }
 
 -- an answer with a number
 pub record Unread (r : Restored) : Type 0 where
@@ -81,15 +75,15 @@ module _ (key : List ℕ) (n size : ℕ) where
   read-of none z = absurd (omega (arith, read-number 28 0, z))
   read-of (some es) z = go (elementsNumber es size) refl
     where
-      last : elementsNumber es size ≡ 0 → (m : ℕ) → takeOver (journalOf es) key n .number ≡ m → Read (some es) key n size
+      last : elementsNumber es size ≡ 0 → (m : ℕ) → takeOver (journalOfElements es) key n .number ≡ m → Read (some es) key n size
       last q zero t = record { elements = es; is = refl; asked = q; taken = t; answer = ifZero-yes _ _ q ∙ ifZero-yes _ _ t }
       last q (suc m) t =
-          let e : restoredBy (some es) key n size ≡ notRead (takeOver (journalOf es) key n .number) (takeOver (journalOf es) key n .index)
-          = ifZero-yes _ _ q ∙ ifZero-no (takeOver (journalOf es) key n .number) _ _ (not-zero t) in
-          absurd (omega (arith, z, ap (λ (r : Restored). r .number) e, read-number (takeOver (journalOf es) key n .number) (takeOver (journalOf es) key n .index), t))
+          let e : restoredBy (some es) key n size ≡ notRead (takeOver (journalOfElements es) key n .number) (takeOver (journalOfElements es) key n .index)
+          = ifZero-yes _ _ q ∙ ifZero-no (takeOver (journalOfElements es) key n .number) _ _ (not-zero t) in
+          absurd (omega (arith, z, ap (λ (r : Restored). r .number) e, read-number (takeOver (journalOfElements es) key n .number) (takeOver (journalOfElements es) key n .index), t))
 
       go : (m : ℕ) → elementsNumber es size ≡ m → Read (some es) key n size
-      go zero q = last q (takeOver (journalOf es) key n .number) refl
+      go zero q = last q (takeOver (journalOfElements es) key n .number) refl
       go (suc m) q =
           let e : restoredBy (some es) key n size ≡ notRead (elementsNumber es size) 0 = ifZero-no (elementsNumber es size) _ _ (not-zero q) in
           absurd (omega (arith, z, ap (λ (r : Restored). r .number) e, read-number (elementsNumber es size) 0, q))
@@ -98,16 +92,16 @@ module _ (key : List ℕ) (n size : ℕ) where
   unread-of none h = unread 28 0
   unread-of (some es) h = go (elementsNumber es size) refl
     where
-      last : elementsNumber es size ≡ 0 → (m : ℕ) → takeOver (journalOf es) key n .number ≡ m → Unread (restoredBy (some es) key n size)
+      last : elementsNumber es size ≡ 0 → (m : ℕ) → takeOver (journalOfElements es) key n .number ≡ m → Unread (restoredBy (some es) key n size)
       last q zero t =
-          let e : restoredBy (some es) key n size ≡ record { number = 0; index = 0; length = length (journalOf es); state = takeOver (journalOf es) key n .state }
+          let e : restoredBy (some es) key n size ≡ record { number = 0; index = 0; length = length (journalOfElements es); state = takeOver (journalOfElements es) key n .state }
           = ifZero-yes _ _ q ∙ ifZero-yes _ _ t in
           absurd (h (ap (λ (r : Restored). r .number) e))
       last q (suc m) t =
-          subst Unread (sym (ifZero-yes _ _ q ∙ ifZero-no (takeOver (journalOf es) key n .number) _ _ (not-zero t))) (unread (takeOver (journalOf es) key n .number) (takeOver (journalOf es) key n .index))
+          subst Unread (sym (ifZero-yes _ _ q ∙ ifZero-no (takeOver (journalOfElements es) key n .number) _ _ (not-zero t))) (unread (takeOver (journalOfElements es) key n .number) (takeOver (journalOfElements es) key n .index))
 
       go : (m : ℕ) → elementsNumber es size ≡ m → Unread (restoredBy (some es) key n size)
-      go zero q = last q (takeOver (journalOf es) key n .number) refl
+      go zero q = last q (takeOver (journalOfElements es) key n .number) refl
       go (suc m) q = subst Unread (sym (ifZero-no (elementsNumber es size) _ _ (not-zero q))) (unread (elementsNumber es size) 0)
 
 module _ (text key : List ℕ) (n : ℕ) (out : List ℕ) where
@@ -119,11 +113,11 @@ module _ (text key : List ℕ) (n : ℕ) (out : List ℕ) where
   unfolding restored
   not-read h = unread-of key n (length out) (elementsOf text) h
 
-  answer-is : (r : Read (elementsOf text) key n (length out)) → restored text key n (length out) ≡ record { number = 0; index = 0; length = length (journalOf (r .elements)); state = takeOver (journalOf (r .elements)) key n .state }
+  answer-is : (r : Read (elementsOf text) key n (length out)) → restored text key n (length out) ≡ record { number = 0; index = 0; length = length (journalOfElements (r .elements)); state = takeOver (journalOfElements (r .elements)) key n .state }
   unfolding restored
   answer-is r = r .answer
 
-  buffer-is : restored text key n (length out) .number ≡ 0 → (r : Read (elementsOf text) key n (length out)) → restoredBuffer text key n out ≡ overwrite out 0 (journalOf (r .elements))
+  buffer-is : restored text key n (length out) .number ≡ 0 → (r : Read (elementsOf text) key n (length out)) → restoredBuffer text key n out ≡ overwrite out 0 (journalOfElements (r .elements))
   unfolding restoredBuffer
   buffer-is z r = ifZero-yes _ _ z ∙ ap (overwrite out 0) (ap journalBy (r .is))
 
@@ -133,7 +127,7 @@ module _ (text key : List ℕ) (n : ℕ) (out : List ℕ) where
 
 -- ---- which texts are read
 
-pub asked-survey : (es : List Element) (size : ℕ) → elementsNumber es size ≡ 0 → Surveyed es × (length (journalOf es) ≤ size)
+pub asked-survey : (es : List Element) (size : ℕ) → elementsNumber es size ≡ 0 → Surveyed es × (length (journalOfElements es) ≤ size)
 unfolding elementsNumber surveyNumber
 asked-survey es size z =
     let a = ask-zero _ _ _ z in
@@ -141,7 +135,7 @@ asked-survey es size z =
     let c = ask-zero _ _ _ (b .1) in
     let d = both (not (isEmpty es)) (every elementGood es) (a .0) in
     let e = ask-zero _ _ _ (c .1) in
-    (record { some = d .0; good = d .1; receipts = b .0; named = c .0 }, leb-true (length (journalOf es)) size (e .0))
+    (record { some = d .0; good = d .1; receipts = b .0; named = c .0 }, leb-true (length (journalOfElements es)) size (e .0))
 
 not-empty : (es : List Element) → not (isEmpty es) ≡ true → es ≡ [] → ⊥
 not-empty [] h e = true-is-not-false h
@@ -155,8 +149,8 @@ pub read-exactly : ReadExactly
 read-exactly = record { only = only; always = always }
   where
     only : (text key : List ℕ) (n : ℕ) (out : List ℕ) → restored text key n (length out) .number ≡ 0
-        → (es : List Element) × ReadsAs text key n (length out) es × (restoredBuffer text key n out ≡ overwrite out 0 (journalOf es))
-        × (restored text key n (length out) .length ≡ length (journalOf es)) × (restored text key n (length out) .state ≡ takeOver (journalOf es) key n .state)
+        → (es : List Element) × ReadsAs text key n (length out) es × (restoredBuffer text key n out ≡ overwrite out 0 (journalOfElements es))
+        × (restored text key n (length out) .length ≡ length (journalOfElements es)) × (restored text key n (length out) .state ≡ takeOver (journalOfElements es) key n .state)
     only text key n out z =
         let r = read text key n out z in
         let a = asked-survey (r .elements) (length out) (r .asked) in
@@ -271,7 +265,7 @@ nothing-after-length = record { kept = kept; kept-read = kept-read; writes = wri
         go : (m : ℕ) → restored text key n (length out) .number ≡ m → length (restoredBuffer text key n out) ≡ length out
         go zero q =
             let r = read text key n out q in
-            ap length (buffer-is text key n out q r) ∙ over-long out (journalOf (r .elements)) (asked-survey (r .elements) (length out) (r .asked) .1)
+            ap length (buffer-is text key n out q r) ∙ over-long out (journalOfElements (r .elements)) (asked-survey (r .elements) (length out) (r .asked) .1)
         go (suc m) q = ap length (buffer-kept text key n out (not-zero q))
 
     writes : (j key : List ℕ) (n : ℕ) (certificates out : List ℕ) (i : ℕ) → exported j key n certificates out .length ≤ i
@@ -293,7 +287,7 @@ nothing-after-length = record { kept = kept; kept-read = kept-read; writes = wri
             let r = read text key n out q in
             let a = asked-survey (r .elements) (length out) (r .asked) in
             let l = ap (λ (x : Restored). x .length) (answer-is text key n out r) in
-            ap (λ (l : List ℕ). getD l i 0) (buffer-is text key n out q r) ∙ over-after out (journalOf (r .elements)) i (a .1) (omega (arith, h, l))
+            ap (λ (l : List ℕ). getD l i 0) (buffer-is text key n out q r) ∙ over-after out (journalOfElements (r .elements)) i (a .1) (omega (arith, h, l))
         go (suc m) q = ap (λ (l : List ℕ). getD l i 0) (buffer-kept text key n out (not-zero q))
 
 -- ---- exported again
@@ -325,17 +319,6 @@ good-owner o ps g =
       id = g .id;
     }
 
-pairs-fit : {ps : List TextPair} → GoodPairs ps → AllFit ps
-pairs-fit parts.nothing = running.nothing
-pairs-fit (parts.also {p = p} g gs) =
-    let m = good-name Serial (p .serial) (g .good) .most in
-    let l : length (nameText (p .serial)) < 4294967296 = omega (arith, length-text (p .serial) (g .long) m, m) in
-    running.also (record { serial = l; few = g .few; short = g .short }) (pairs-fit gs)
-
-pairs-named : {ps : List TextPair} → GoodPairs ps → AllNamed ps
-pairs-named parts.nothing = laws.nothing
-pairs-named (parts.also g gs) = laws.also (g .long) (g .good) (pairs-named gs)
-
 same-elements : {es : List Element} {gs : List Group} → SameCertificates es gs → elementsFor (map pairOf es) gs ≡ es
 unfolding elementsFor elementFor pairOf
 same-elements nothing = refl
@@ -346,10 +329,10 @@ same-length nothing = refl
 same-length (also c d s) = ap suc (same-length s)
 
 pairs-spelled : (o : Owner) (ps : List TextPair) → GoodParts o ps → pairsOf (journalSpelled o ps) ≡ ps
-pairs-spelled o ps g = pairs-those o (good-owner o ps g) ps (pairs-fit (g .pairs)) (pairs-named (g .pairs))
+pairs-spelled o ps g = pairs-those o (good-owner o ps g) ps (g .pairs)
 
 pub read-is-exported-again : ReadIsExportedAgain
-unfolding exportOf journalOf
+unfolding exportOf journalOfElements
 read-is-exported-again text key n out es gs s z small good c =
     let r = read text key n out z in
     let same : some (r .elements) ≡ some es = sym (r .is) ∙ exact text es .1 s in
@@ -357,12 +340,12 @@ read-is-exported-again text key n out es gs s z small good c =
     let a = asked-survey es (length out) (subst (λ (l : List Element). elementsNumber l (length out) ≡ 0) q (r .asked)) in
     let p = those es (a .0) (omega (arith, a .1, small)) in
     let l : length (map pairOf es) ≡ length gs = length-map es pairOf ∙ sym (same-length c) in
-    let g : groupsOf (length (pairsOf (journalOf es))) (groupsText gs) ≡ some gs
+    let g : groupsOf (length (pairsOf (journalOfElements es))) (groupsText gs) ≡ some gs
     = ap (λ (k : ℕ). groupsOf k (groupsText gs)) (ap length p ∙ l) ∙ groups-read gs good in
-    ap (Option·map (λ (hs : List Group). exportText (elementsFor (pairsOf (journalOf es)) hs))) g
+    ap (Option·map (λ (hs : List Group). exportText (elementsFor (pairsOf (journalOfElements es)) hs))) g
     ∙ ap some (ap exportText (ap (λ (x : List TextPair). elementsFor x gs) p ∙ same-elements c))
   where
-    those : (es : List Element) → Surveyed es → length (journalOf es) < 18446744073709551616 → pairsOf (journalOf es) ≡ map pairOf es
+    those : (es : List Element) → Surveyed es → length (journalOfElements es) < 18446744073709551616 → pairsOf (journalOfElements es) ≡ map pairOf es
     those [] v h = true-is-not-false (v .some)
     those (e ∷ es) v h =
         let g = owner-parts e es v h in

@@ -2,12 +2,13 @@
 use Prim.Native.Nat.{ℕ, _+_, _≤_, _<_}
 use mathlib.Core.Path.{_≡_, refl, sym, ap, _∙_, subst}
 use mathlib.Core.Bool.{Bool, true, false, cond, _&&_}
-use mathlib.Core.List.{List, [], _++_}
+use mathlib.Core.List.{List, [], _++_, append-assoc}
 use native.Mathlib.Nat.{add-zero, zero-add}
 use native.Mathlib.Omega.{arith}
 use borrow.Author.Tests.{leb-true, le-leb, lt-leb, leb-false}
 use lib.Dec.{leb}
-use lib.ListN.{length, length-append}
+use lib.ListN.{length, take, drop, length-append}
+use lib.Seq.{drop-at, length-take-le, take-append-le, take-take}
 use Rattle.primitives.specs.Place.{overwrite, placed, room}
 use Rattle.primitives.proofs.Over.{over-nil, then, placed-room, room-true, length-placed}
 use Rattle.primitives.proofs.Rows.{true-is-not-false}
@@ -115,6 +116,55 @@ puts-still {d} {out} {out′} {p} {r} {y} a = record {
   kept = λ e. refl;
   done = λ e f. sym (over-nil out′ (r .at));
 }
+
+-- ---- a text whose start is written last
+
+-- a write before another one that is there already
+over-before : (xs : List ℕ) (at : ℕ) (ys zs : List ℕ) → at + length ys ≤ length xs → overwrite (overwrite xs (at + length ys) zs) at ys ≡ overwrite xs at (ys ++ zs)
+unfolding overwrite
+over-before xs at ys zs h =
+    (λ i. front i ++ (ys ++ back i))
+    ∙ ap (λ (l : List ℕ). take at xs ++ l) (sym (append-assoc ys zs (drop (k + length zs) xs)) ∙ ap (λ (n : ℕ). (ys ++ zs) ++ drop n xs) e)
+  where
+    k : ℕ
+    k = at + length ys
+
+    rest : List ℕ
+    rest = zs ++ drop (k + length zs) xs
+
+    long : length (take k xs) ≡ k
+    long = length-take-le k xs h
+
+    front : take at (take k xs ++ rest) ≡ take at xs
+    front = take-append-le at (take k xs) rest (omega (arith, long)) ∙ take-take at k xs (omega arith)
+
+    back : drop k (take k xs ++ rest) ≡ rest
+    back = drop-at (take k xs) rest k long
+
+    e : k + length zs ≡ at + length (ys ++ zs)
+    e = omega (arith, length-append ys zs)
+
+-- n bytes are left out, what comes after them is written, and then they are
+pub puts-before : {out out₁ out₂ : List ℕ} {p b q r : End} {y z : List ℕ} (n : ℕ) → length y ≡ n → b ≡ moved (length out) p n → Puts false out out₁ b r z → Puts false out₁ out₂ p q y
+    → Puts false out out₂ p r (y ++ z)
+puts-before {out} {out₁} {out₂} {p} {b} {q} {r} {y} {z} n l m u v = record {
+  end = u .end ∙ ap (λ (x : End). moved (length out) x (length z)) m ∙ moved-moved (length out) p n (length z) ∙ ap (moved (length out) p) long;
+  long = v .long ∙ u .long;
+  kept = λ e. true-is-not-false e;
+  done = λ e f. both f;
+}
+  where
+    long : n + length z ≡ length (y ++ z)
+    long = omega (arith, l, length-append y z)
+
+    both : r .fits ≡ true → out₂ ≡ overwrite out (p .at) (y ++ z)
+    both f =
+        let g : b .fits ≡ true = onward (length out) b (length z) (sym (ap (λ (x : End). x .fits) (u .end)) ∙ f) .fits in
+        let o = onward (length out) p n (sym (ap (λ (x : End). x .fits) m) ∙ g) in
+        let room : p .at + length y ≤ length out = omega (arith, l, o .room) in
+        let at : b .at ≡ p .at + length y = omega (arith, l, ap (λ (x : End). x .at) m ∙ o .at) in
+        let fits : q .fits ≡ true = ap (λ (x : End). x .fits) (v .end ∙ moved-fits (length out₁) p (length y) (o .fits) (omega (arith, room, u .long))) in
+        v .done refl fits ∙ ap (λ (k : List ℕ). overwrite k (p .at) y) (u .done refl f ∙ ap (λ (k : ℕ). overwrite out k z) at) ∙ over-before out (p .at) y z room
 
 -- ---- two runs: the first measures, the second writes
 

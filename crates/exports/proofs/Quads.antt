@@ -17,7 +17,7 @@ use Rattle.exports.specs.Shape.{string, strings}
 use Rattle.exports.specs.Places.{from, LettersAt, LetterRead, PartRead, Followed}
 use Rattle.exports.specs.Spelled.{isEmpty}
 use Rattle.exports.specs.Reading.{canonical}
-use Rattle.exports.specs.Passing.{QuadRead, quadGood}
+use Rattle.exports.specs.Passing.{QuadRead}
 use Rattle.exports.specs.declared.walk.Cursor.{Cursor}
 use Rattle.exports.specs.declared.strings.Letter.{Letter}
 use Rattle.exports.specs.declared.strings.Part.{Part}
@@ -79,8 +79,7 @@ module _ {text : List ℕ} {at : ℕ} {bytes : List ℕ} {next i : ℕ} (f : Fil
 
 -- ---- what four letters decide
 
-fours : (bytes rest : List ℕ) → length bytes ≡ 4 → accepted Standard (bytes ++ rest) ≡ quadGood bytes && cond (eqb (getD bytes 3 0) 61) (isEmpty rest) (accepted Standard rest)
-unfolding quadGood
+fours : (bytes rest : List ℕ) → length bytes ≡ 4 → accepted Standard (bytes ++ rest) ≡ canonical bytes && cond (eqb (getD bytes 3 0) 61) (isEmpty rest) (accepted Standard rest)
 fours [] rest h = absurd (omega arith)
 fours (w ∷ []) rest h = absurd (omega arith)
 fours (w ∷ x ∷ []) rest h = absurd (omega arith)
@@ -119,7 +118,7 @@ module _ {text : List ℕ} {start at : ℕ} {q : Quad} (k : Quads text start at 
 
   module _ (c : q .count ≡ 4) where
     whole : canonical (content (drop start text) 0)
-        ≡ quadGood (q .bytes) && cond (eqb (getD (q .bytes) 3 0) 61) (isEmpty (content (drop (q .next) text) 0)) (canonical (content (drop (q .next) text) 0))
+        ≡ canonical (q .bytes) && cond (eqb (getD (q .bytes) 3 0) 61) (isEmpty (content (drop (q .next) text) 0)) (canonical (content (drop (q .next) text) 0))
     whole =
         let r = k .read in
         let t : take (q .count) (q .bytes) ≡ q .bytes = take-all (q .count) (q .bytes) (omega (arith, r .four)) in
@@ -133,12 +132,12 @@ module _ {text : List ℕ} {start at : ℕ} {q : Quad} (k : Quads text start at 
         let b = letters-inside text (q .next) (r .letters) in
         omega arith
 
-    module _ {g : Bool} (e : g ≡ quadGood (q .bytes)) where
+    module _ {g : Bool} (e : g ≡ canonical (q .bytes)) where
       pub quads-bad : g ≡ false → false ≡ canonical (content (drop start text) 0)
       quads-bad b = sym (rw (sym e ∙ b) at whole)
 
       module _ (y : g ≡ true) {q′ : Quad} (r : QuadRead text (q .next) q′) where
-        good : quadGood (q .bytes) ≡ true
+        good : canonical (q .bytes) ≡ true
         good = sym e ∙ y
 
         pub quads-last : getD (q .bytes) 3 0 ≡ 61 → eqb (q′ .count) 0 ≡ canonical (content (drop start text) 0)

@@ -1,48 +1,45 @@
 -- An export is read back into the journal that it was written from.
 use Prim.Native.Nat.{ℕ, zero, suc, _+_, _≤_, _<_}
 use mathlib.Core.Path.{_≡_, refl, sym, ap, _∙_, subst}
-use mathlib.Core.Bool.{Bool, true, false, cond, not, _&&_}
+use mathlib.Core.Bool.{Bool, true, false, cond, _&&_}
 use mathlib.Core.List.{List, [], _∷_, _++_, map}
 use mathlib.Core.Option.{Option, none, some, Option·map}
 use native.Mathlib.Omega.{arith}
 use borrow.Author.Tests.{le-leb, leb-true}
 use lib.Dec.{leb}
-use lib.ListN.{length, take, drop, getD, length-map}
+use lib.ListN.{length, take, drop, length-map}
 use lib.Seq.{take-at, drop-at}
 use Rattle.primitives.specs.Bytes.{AllBytes}
 use Rattle.primitives.specs.Number.{bytesOf}
 use Rattle.primitives.specs.Place.{overwrite, room, placed}
 use Rattle.primitives.specs.Answers.{written, answerWith, bufferWith}
-use Rattle.primitives.specs.Questions.{ask, ifZero}
+use Rattle.primitives.specs.Questions.{ask}
 use Rattle.primitives.specs.declared.base64.Alphabet.the-variants.{Standard}
 use Rattle.primitives.specs.declared.answer.Answer.{Answer}
-use Rattle.primitives.proofs.Rows.{both, true-is-not-false, ask-zero, ask-yes, ifZero-yes, ifZero-no}
+use Rattle.primitives.proofs.Rows.{true-is-not-false, ifZero-yes, ifZero-no}
 use Rattle.primitives.proofs.ByteLists.{bytes-take, bytes-drop}
-use Rattle.receipt.specs.Settings.{TypedSettings, settingsGood, serialGood, cspGood, idGood}
+use Rattle.receipt.specs.Settings.{TypedSettings, settingsGood}
 use Rattle.receipt.specs.Compact.{compact}
 use Rattle.receipt.specs.declared.settings.Name.{Name}
-use Rattle.receipt.specs.declared.settings.Settings.{Settings}
 use Rattle.receipt.specs.declared.entry.Entry.{Entry}
 use Rattle.journal.specs.Head.{entryText}
 use Rattle.journal.specs.Valid.{Owner, Pair, settingsFor, placedUnder, allPlaced, GoodOwner, Valid}
 use Rattle.journal.specs.Checking.{takeOver}
-use Rattle.journal.specs.declared.state.TakenOver.{TakenOver}
-use Rattle.journal.proofs.Placing.{Core, AllRight, Names, stepCore, runCore, startCore, right-split}
+use Rattle.journal.proofs.Placing.{Core, AllRight, Names, runCore, startCore, right-split}
 use Rattle.journal.proofs.Placing as placing
 use Rattle.journal.proofs.Passing.{typed-for, good-for}
 use Rattle.journal.proofs.Accepting.{valid-work}
 use Rattle.journal.proofs.WrittenIsAccepted.{accepted-is-valid}
 use Rattle.exports.specs.Text.{plain, every}
-use Rattle.exports.specs.Shape.{Element, Shape, plainText, plainElement}
+use Rattle.exports.specs.Shape.{Element, plainElement}
 use Rattle.exports.specs.Parsed.{elementsOf}
-use Rattle.exports.specs.Spelled.{short, isEmpty, TextPair, sizedTexts, journalSpelled, pairsOf}
-use Rattle.exports.specs.Running.{PairFits, AllFit}
-use Rattle.exports.specs.Running as running
-use Rattle.exports.specs.Groups.{Group, groupText, groupsText, groupGood, groupsOf}
+use Rattle.exports.specs.Spelled.{short, isEmpty, TextPair, sizedTexts, journalSpelled, GoodPair, GoodPairs, pairsOf}
+use Rattle.exports.specs.Spelled as spelled
+use Rattle.exports.specs.Groups.{Group, groupText, groupsText, groupsOf}
 use Rattle.exports.specs.GroupLaws.{textPair}
 use Rattle.exports.specs.Naming.{named}
-use Rattle.exports.specs.Writing.{base64, elementFor, elementsFor, exportText, exportOf, answered, notWritten, exported, exportBuffer}
-use Rattle.exports.specs.Reading.{canonical, elementGood, hasReceipt, firstOf, settingsOf, namesRegister, ownerOf, pairOf, journalOf, surveyNumber, elementsNumber, restoredBy, restored, restoredBuffer, journalBy}
+use Rattle.exports.specs.Writing.{inBase64, elementFor, elementsFor, exportText, exportOf, answered, notWritten, exported, exportBuffer}
+use Rattle.exports.specs.Reading.{canonical, elementGood, hasReceipt, settingsOf, namesRegister, ownerOf, pairOf, journalOfElements, surveyNumber, elementsNumber, restoredBy, restored, restoredBuffer, journalBy}
 use Rattle.exports.specs.Promises.{hasText, ExportReadsBack}
 use Rattle.exports.specs.declared.naming.Named.{Named}
 use Rattle.exports.specs.declared.writing.Exported.{Exported}
@@ -52,7 +49,7 @@ use Rattle.exports.proofs.NamedBack.{named-back}
 use Rattle.exports.proofs.PlainLetters.{plain-encoding, plain-compact, plain-each, canonical-encoding}
 use Rattle.exports.proofs.PlainText.{plain-text}
 use Rattle.exports.proofs.Back.{reads-back}
-use Rattle.exports.proofs.PairsBack.{valid-spelled, valid-fit, valid-pairs}
+use Rattle.exports.proofs.PairsBack.{valid-spelled, valid-good, valid-pairs}
 use Rattle.exports.proofs.GroupsBack.{groups-exactly}
 
 -- ---- the certificates of groups are bytes
@@ -93,9 +90,9 @@ unfolding groupsText
 groups-bytes [] b = done
 groups-bytes (g ∷ gs) b = next (group-bytes g (front-bytes (groupText g) (groupsText gs) b)) (groups-bytes gs (tail-bytes (groupText g) (groupsText gs) b))
 
-each-canonical : (ts : List (List ℕ)) → EachBytes ts → every canonical (map base64 ts) ≡ true
+each-canonical : (ts : List (List ℕ)) → EachBytes ts → every canonical (map inBase64 ts) ≡ true
 each-canonical [] nothing = every-nil canonical
-each-canonical (t ∷ ts) (also b bs) = every-one canonical (base64 t) (map base64 ts) (canonical-encoding t b) (each-canonical ts bs)
+each-canonical (t ∷ ts) (also b bs) = every-one canonical (inBase64 t) (map inBase64 ts) (canonical-encoding t b) (each-canonical ts bs)
 
 -- ---- one element, of a pair with a receipt and a group
 
@@ -110,9 +107,9 @@ module _ (o : Owner) (n : ℕ) (p : Pair) (g : Group) where
   pub element-plain : plainElement (elementFor (textPair o n p) g) ≡ true
   unfolding plainElement elementFor textPair
   element-plain =
-      rw (plain-encoding Standard (g .certificate), plain-each base64 (plain-encoding Standard) (g .issuers), plain-each (compact (settingsFor o (p .serial)) n) (plain-compact (settingsFor o (p .serial)) n) (p .entries))
+      rw (plain-encoding Standard (g .certificate), plain-each inBase64 (plain-encoding Standard) (g .issuers), plain-each (compact (settingsFor o (p .serial)) n) (plain-compact (settingsFor o (p .serial)) n) (p .entries))
 
-  pub element-good : PairFits (textPair o n p) → GroupBytes g → elementGood (elementFor (textPair o n p) g) ≡ true
+  pub element-good : GoodPair (textPair o n p) → GroupBytes g → elementGood (elementFor (textPair o n p) g) ≡ true
   unfolding elementGood elementFor
   element-good f b =
       rw (canonical-encoding (g .certificate) (b .certificate), each-canonical (g .issuers) (b .issuers), f .short, le-leb (length (textPair o n p .texts)) 4294967295 (omega (arith, f .few)))
@@ -131,7 +128,7 @@ module _ (k : List ℕ) (o : Owner) (n : ℕ) (serial : Name) (e : Entry) (es : 
   abbrev thePair : Pair
   thePair = record { serial = serial; entries = e ∷ es }
 
-  element-right : PairFits (textPair o n thePair) → GroupBytes g → ElementRight o n thePair g
+  element-right : GoodPair (textPair o n thePair) → GroupBytes g → ElementRight o n thePair g
   unfolding hasReceipt namesRegister settingsOf elementFor textPair
   element-right f b =
       record {
@@ -153,7 +150,7 @@ unfolding hasText textPair
 no-text o n serial e = true-is-not-false e
 
 one-element : (k : List ℕ) (o : Owner) (n : ℕ) (c : Core) (p : Pair) (g : Group) → TypedSettings (settingsFor o (p .serial)) → settingsGood (settingsFor o (p .serial)) ≡ true
-    → AllRight k n c (placedUnder (settingsFor o (p .serial)) (p .entries)) → PairFits (textPair o n p) → GroupBytes g → hasText (textPair o n p) ≡ true → ElementRight o n p g
+    → AllRight k n c (placedUnder (settingsFor o (p .serial)) (p .entries)) → GoodPair (textPair o n p) → GroupBytes g → hasText (textPair o n p) ≡ true → ElementRight o n p g
 one-element k o n c p g ts sg h f b t = go (p .entries) refl
   where
     go : (es : List Entry) → p .entries ≡ es → ElementRight o n p g
@@ -162,15 +159,15 @@ one-element k o n c p g ts sg h f b t = go (p .entries) refl
         let is : record { serial = p .serial; entries = e ∷ es } ≡ p = λ i. record { serial = p .serial; entries = sym q i } in
         subst (λ (x : Pair). ElementRight o n x g) is
         (element-right k o n (p .serial) e es g c ts sg (subst (λ (l : List Entry). AllRight k n c (placedUnder (settingsFor o (p .serial)) l)) q h)
-        (subst (λ (x : Pair). PairFits (textPair o n x)) (sym is) f) b)
+        (subst (λ (x : Pair). GoodPair (textPair o n x)) (sym is) f) b)
 
 all-elements : (k : List ℕ) (o : Owner) (n : ℕ) (c : Core) (us : List Name) (ps : List Pair) (gs : List Group) → GoodOwner o → AllRight k n c (allPlaced o ps) → Names us ps
-    → AllFit (map (textPair o n) ps) → AllGroupBytes gs → every hasText (map (textPair o n) ps) ≡ true → length gs ≡ length ps → AllElements o n ps gs
+    → GoodPairs (map (textPair o n) ps) → AllGroupBytes gs → every hasText (map (textPair o n) ps) ≡ true → length gs ≡ length ps → AllElements o n ps gs
 unfolding allPlaced
 all-elements k o n c us [] [] g h ns f bs t l = done
 all-elements k o n c us [] (y ∷ gs) g h ns f bs t l = absurd (omega arith)
 all-elements k o n c us (p ∷ ps) [] g h ns f bs t l = absurd (omega arith)
-all-elements k o n c us (p ∷ ps) (y ∷ gs) g h (placing.more b ns) (running.also f fs) (next x bs) t l =
+all-elements k o n c us (p ∷ ps) (y ∷ gs) g h (placing.more b ns) (spelled.also f fs) (next x bs) t l =
     let s = settingsFor o (p .serial) in
     let r = right-split k n c (placedUnder s (p .entries)) (allPlaced o ps) h in
     next (one-element k o n c p y (typed-for o (p .serial) g (b .typed)) (good-for o (p .serial) g (b .good)) (r .0) f x (every-head hasText _ _ t))
@@ -203,8 +200,8 @@ module _ {o : Owner} {n : ℕ} where
   some-of (next r rs) h = refl
 
   journal-of : {ps : List Pair} {gs : List Group} → AllElements o n ps gs → 0 < length ps
-      → journalOf (elementsFor (map (textPair o n) ps) gs) ≡ journalSpelled o (map (textPair o n) ps)
-  unfolding journalOf
+      → journalOfElements (elementsFor (map (textPair o n) ps) gs) ≡ journalSpelled o (map (textPair o n) ps)
+  unfolding journalOfElements
   journal-of a h = λ i. journalSpelled (owner-of a h i) (pairs-of a i)
 
 -- ---- what the writer wrote
@@ -283,13 +280,13 @@ module _ (text key : List ℕ) (n size : ℕ) (es : List Element) (found : eleme
   unfolding restored
   restored-is = ap (λ (x : Option (List Element)). restoredBy x key n size) found
 
-  module _ (survey : (rest : ℕ) → surveyNumber es rest ≡ rest) (fits : length (journalOf es) ≤ size) where
+  module _ (survey : (rest : ℕ) → surveyNumber es rest ≡ rest) (fits : length (journalOfElements es) ≤ size) where
     pub number-yes : elementsNumber es size ≡ 0
     unfolding elementsNumber ask
-    number-yes = survey _ ∙ rw (le-leb (length (journalOf es)) size fits)
+    number-yes = survey _ ∙ rw (le-leb (length (journalOfElements es)) size fits)
 
-    pub restored-taken : takeOver (journalOf es) key n .number ≡ 0
-        → restored text key n size ≡ record { number = 0; index = 0; length = length (journalOf es); state = takeOver (journalOf es) key n .state }
+    pub restored-taken : takeOver (journalOfElements es) key n .number ≡ 0
+        → restored text key n size ≡ record { number = 0; index = 0; length = length (journalOfElements es); state = takeOver (journalOfElements es) key n .state }
     restored-taken z = restored-is ∙ ifZero-yes _ _ number-yes ∙ ifZero-yes _ _ z
 
 -- ---- the theorem
@@ -329,10 +326,10 @@ module _ (j key : List ℕ) (n : ℕ) (certificates : List ℕ) (v : Valid j key
     elements : AllElements (v .owner) n (v .pairs) (the-groups .groups)
     elements =
         let w = valid-work v in
-        all-elements key (v .owner) n (startCore (v .owner)) [] (v .pairs) (the-groups .groups) (v .good) (w .right) (w .names) (valid-fit v) (the-groups .each-bytes)
+        all-elements key (v .owner) n (startCore (v .owner)) [] (v .pairs) (the-groups .groups) (v .good) (w .right) (w .names) (valid-good v) (the-groups .each-bytes)
         (ap (every hasText) (sym (valid-pairs v)) ∙ each) (the-groups .count)
 
-    journal-back : journalOf es ≡ j
+    journal-back : journalOfElements es ≡ j
     unfolding es ps
     journal-back = journal-of elements (v .some) ∙ sym (valid-spelled v)
 
@@ -348,10 +345,10 @@ module _ (j key : List ℕ) (n : ℕ) (certificates : List ℕ) (v : Valid j key
         ap elementsOf (the-groups .text-is ∙ plain-text es) ∙ reads-back es (each-of plainElement (λ p g r. r .plain) elements)
 
     module _ (z : takeOver j key n .number ≡ 0) (second : List ℕ) (fits : length j ≤ length second) where
-      taken : takeOver (journalOf es) key n .number ≡ 0
+      taken : takeOver (journalOfElements es) key n .number ≡ 0
       taken = ap (λ (x : List ℕ). takeOver x key n .number) journal-back ∙ z
 
-      small : length (journalOf es) ≤ length second
+      small : length (journalOfElements es) ≤ length second
       small = omega (arith, ap length journal-back, fits)
 
       back : restored text key n (length second) ≡ record { number = 0; index = 0; length = length j; state = takeOver j key n .state }

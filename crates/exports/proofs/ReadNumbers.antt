@@ -1,12 +1,12 @@
 -- Which numbers reading an export can give.
 use Prim.Native.Nat.{ℕ, zero, suc, _<_}
-use mathlib.Core.Path.{_≡_, refl, sym, ap, _∙_, subst}
+use mathlib.Core.Path.{_≡_, refl, sym, ap, _∙_}
 use mathlib.Core.Bool.{Bool, true, false, cond, _&&_, _||_}
 use mathlib.Core.List.{List, [], _∷_, map}
 use mathlib.Core.Option.{Option, none, some}
 use native.Mathlib.Omega.{arith}
 use borrow.Author.Tests.{ne-eqb}
-use lib.Dec.{eqb, leb}
+use lib.Dec.{leb}
 use lib.ListN.{length}
 use Rattle.primitives.specs.Counter.{widthGood}
 use Rattle.primitives.specs.Aes.{keySchedule}
@@ -14,7 +14,6 @@ use Rattle.primitives.specs.Questions.{ask, ifZero}
 use Rattle.primitives.proofs.Rows.{true-is-not-false, ifZero-yes, ifZero-no}
 use Rattle.receipt.specs.Settings.{serialGood}
 use Rattle.receipt.specs.declared.settings.Name.{Name}
-use Rattle.receipt.specs.declared.payload.PayloadFields.{PayloadFields}
 use Rattle.journal.specs.Step.{fresh, renewed, renewNumber}
 use Rattle.journal.specs.State.{unopened}
 use Rattle.journal.specs.Head.{headSettings, serialAt, textAt}
@@ -22,17 +21,15 @@ use Rattle.journal.specs.Valid.{Owner, settingsFor}
 use Rattle.journal.specs.Checking.{contextNumber, textNumber, entryNumber, stopped, checked, textChecked, placeChecked, startNumber, startChecked, endChecked, full, oneStep, steps, refused, accepted, lastAnswer, headNumber, takeOver, entryReady, entryChecked, serialReady, serialNumber, serialChecked}
 use Rattle.journal.specs.declared.state.State.{State}
 use Rattle.journal.specs.declared.state.TakenOver.{TakenOver}
-use Rattle.journal.specs.declared.checking.Checked.{Checked}
 use Rattle.journal.proofs.PartSteps.{turn}
 use Rattle.exports.specs.Shape.{Element}
 use Rattle.exports.specs.Parsed.{elementsOf}
-use Rattle.exports.specs.Spelled.{TextPair, journalSpelled}
-use Rattle.exports.specs.Running.{runTexts, runPair, runPairs, runAnswer}
-use Rattle.exports.specs.TakenOver.{GoodPair, GoodPairs, GoodParts, partsTaken}
-use Rattle.exports.specs.TakenOver as parts
-use Rattle.exports.specs.Reading.{pairOf, ownerOf, journalOf, surveyNumber, elementsNumber, restoredFrom, restoredBy, restored, notRead}
+use Rattle.exports.specs.Spelled.{TextPair, journalSpelled, GoodPair, GoodPairs, nothing, also}
+use Rattle.exports.specs.Running.{runTexts, runPair, runPairs}
+use Rattle.exports.specs.TakenOver.{GoodParts, partsTaken}
+use Rattle.exports.specs.Reading.{pairOf, ownerOf, journalOfElements, surveyNumber, elementsNumber, restoredBy, restored, notRead}
 use Rattle.exports.specs.Promises.{among, NumbersOfReading}
-use Rattle.exports.specs.declared.retaking.Run.{Run}
+use Rattle.journal.specs.declared.checking.Step.{Step}
 use Rattle.exports.specs.declared.reading.Restored.{Restored}
 use Rattle.exports.proofs.TakenAsSpelled.{read-is-taken-over}
 use Rattle.exports.proofs.ElementsTaken.{Surveyed, owner-parts}
@@ -40,12 +37,12 @@ use Rattle.exports.proofs.Promising.{asked-survey}
 
 -- ---- numbers of a list
 
-ask-among : (ns : List ℕ) (t : Bool) (k rest : ℕ) → among ns k ≡ true → among ns rest ≡ true → among ns (ask t k rest) ≡ true
+pub ask-among : (ns : List ℕ) (t : Bool) (k rest : ℕ) → among ns k ≡ true → among ns rest ≡ true → among ns (ask t k rest) ≡ true
 unfolding ask
 ask-among ns true k rest a b = b
 ask-among ns false k rest a b = a
 
-but-first : (k : ℕ) (ns : List ℕ) (m : ℕ) → among (k ∷ ns) m ≡ true → (m ≡ k → ⊥) → among ns m ≡ true
+pub but-first : (k : ℕ) (ns : List ℕ) (m : ℕ) → among (k ∷ ns) m ≡ true → (m ≡ k → ⊥) → among ns m ≡ true
 unfolding among
 but-first k ns m h d = rw (ne-eqb m k d) at h
 
@@ -93,16 +90,16 @@ module _ {ns : List ℕ} (h : Has ns) where
   unfolding renewNumber
   renew-among st s = ask-among ns _ 30 _ (h .n30) (ask-among ns _ 31 0 (h .n31) (h .zeros))
 
-checked-number : (m : ℕ) (st : State) (w : List ℕ) → checked m st w .number ≡ m
+pub checked-number : (m : ℕ) (st : State) (w : List ℕ) → checked m st w .number ≡ m
 unfolding checked ifZero stopped
 checked-number zero st w = refl
 checked-number (suc m) st w = refl
 
-stopped-number : (m : ℕ) (st : State) → stopped m st .number ≡ m
+pub stopped-number : (m : ℕ) (st : State) → stopped m st .number ≡ m
 unfolding stopped
 stopped-number m st = refl
 
-ended-number : (m : ℕ) (x st : State) → ifZero m (stopped 0 x) (stopped m st) .number ≡ m
+pub ended-number : (m : ℕ) (x st : State) → ifZero m (stopped 0 x) (stopped m st) .number ≡ m
 unfolding ifZero stopped
 ended-number zero x st = refl
 ended-number (suc m) x st = refl
@@ -117,7 +114,7 @@ entry-among k st w = go (entryReady st w)
     go true = ap (among readable) (checked-number (textNumber k st w) st w) ∙ text-among readable-has k st w
     go false = ap (among readable) (stopped-number 6 st)
 
-good-number : (st : State) (s : Name) → serialGood s ≡ true → serialNumber st s ≡ renewNumber st s 0
+pub good-number : (st : State) (s : Name) → serialGood s ≡ true → serialNumber st s ≡ renewNumber st s 0
 unfolding serialNumber ask
 good-number st s g = rw g
 
@@ -142,8 +139,8 @@ texts-among k st (w ∷ ws) = go (entryChecked k st w .number) (entry-among k st
   where
     go : (m : ℕ) → among readable m ≡ true → among readable (runTexts k (entryChecked k st w .state) ws .number) ≡ true
         → among readable (ifZero m (runTexts k (entryChecked k st w .state) ws) (record { number = m; state = st }) .number) ≡ true
-    go zero h rec = ap (λ (r : Run). among readable (r .number)) (ifZero-yes _ _ refl) ∙ rec
-    go (suc m) h rec = ap (λ (r : Run). among readable (r .number)) (ifZero-no (suc m) _ _ (λ z. omega arith)) ∙ h
+    go zero h rec = ap (λ (r : Step). among readable (r .number)) (ifZero-yes _ _ refl) ∙ rec
+    go (suc m) h rec = ap (λ (r : Step). among readable (r .number)) (ifZero-no (suc m) _ _ (λ z. omega arith)) ∙ h
 
 pair-among : (k : List (List ℕ)) (first : Bool) (st : State) (p : TextPair) → GoodPair p → among readable (runPair k first st p .number) ≡ true
 unfolding runPair
@@ -151,25 +148,25 @@ pair-among k true st p g = texts-among k st (p .texts)
 pair-among k false st p g = go (serialChecked st (p .serial) .number) (serial-among st (p .serial) (g .good))
   where
     go : (m : ℕ) → among readable m ≡ true → among readable (ifZero m (runTexts k (serialChecked st (p .serial) .state) (p .texts)) (record { number = m; state = st }) .number) ≡ true
-    go zero h = ap (λ (r : Run). among readable (r .number)) (ifZero-yes _ _ refl) ∙ texts-among k (serialChecked st (p .serial) .state) (p .texts)
-    go (suc m) h = ap (λ (r : Run). among readable (r .number)) (ifZero-no (suc m) _ _ (λ z. omega arith)) ∙ h
+    go zero h = ap (λ (r : Step). among readable (r .number)) (ifZero-yes _ _ refl) ∙ texts-among k (serialChecked st (p .serial) .state) (p .texts)
+    go (suc m) h = ap (λ (r : Step). among readable (r .number)) (ifZero-no (suc m) _ _ (λ z. omega arith)) ∙ h
 
 pairs-among : (k : List (List ℕ)) (first : Bool) (st : State) {ps : List TextPair} → GoodPairs ps → among readable (runPairs k first st ps .number) ≡ true
 unfolding runPairs
-pairs-among k first st parts.nothing = zero-among
-pairs-among k first st (parts.also {p = p} {ps = ps} g gs) =
+pairs-among k first st nothing = zero-among
+pairs-among k first st (also {p = p} {ps = ps} g gs) =
     go (runPair k first st p) (pair-among k first st p g) (pairs-among k false (runPair k first st p .state) gs)
   where
-    go : (r : Run) → among readable (r .number) ≡ true → among readable (runPairs k false (r .state) ps .number) ≡ true
+    go : (r : Step) → among readable (r .number) ≡ true → among readable (runPairs k false (r .state) ps .number) ≡ true
         → among readable (ifZero (r .number) (runPairs k false (r .state) ps) r .number) ≡ true
     go r h rec = last (r .number) refl
       where
         last : (m : ℕ) → r .number ≡ m → among readable (ifZero (r .number) (runPairs k false (r .state) ps) r .number) ≡ true
-        last zero q = ap (λ (x : Run). among readable (x .number)) (ifZero-yes _ _ q) ∙ rec
-        last (suc m) q = ap (λ (x : Run). among readable (x .number)) (ifZero-no (r .number) _ _ (λ z. omega (arith, z, q))) ∙ h
+        last zero q = ap (λ (x : Step). among readable (x .number)) (ifZero-yes _ _ q) ∙ rec
+        last (suc m) q = ap (λ (x : Step). among readable (x .number)) (ifZero-no (r .number) _ _ (λ z. omega (arith, z, q))) ∙ h
 
-answer-number : (r : Run) → runAnswer r .number ≡ r .number
-unfolding runAnswer
+answer-number : (r : Step) → lastAnswer r .number ≡ r .number
+unfolding lastAnswer accepted refused
 answer-number r = go (r .number) refl
   where
     go : (m : ℕ) → r .number ≡ m → ifZero {X = TakenOver} m (record { number = 0; index = 0; state = r .state }) (record { number = m; index = r .state .issued; state = unopened }) .number ≡ m
@@ -189,7 +186,7 @@ unfolding partsTaken
 spelled-among o p ps key n g =
     ap (λ (t : TakenOver). among readable (t .number)) (sym (read-is-taken-over o p ps key n g)) ∙ go (widthGood n)
   where
-    go : (t : Bool) → among readable (cond t (runAnswer (runPairs (keySchedule key) true (fresh (settingsFor o (p .serial)) n key) (p ∷ ps))) (refused 4 0) .number) ≡ true
+    go : (t : Bool) → among readable (cond t (lastAnswer (runPairs (keySchedule key) true (fresh (settingsFor o (p .serial)) n key) (p ∷ ps))) (refused 4 0) .number) ≡ true
     go true = ap (among readable) (answer-number (runPairs (keySchedule key) true (fresh (settingsFor o (p .serial)) n key) (p ∷ ps))) ∙ pairs-among (keySchedule key) true _ (g .pairs)
     go false = ap (among readable) refused-four ∙ four-among
 
@@ -252,7 +249,7 @@ six-not : among takeable 6 ≡ false
 unfolding among
 six-not = refl
 
-never-six : (j key : List ℕ) (n : ℕ) → takeOver j key n .number ≡ 6 → ⊥
+pub never-six : (j key : List ℕ) (n : ℕ) → takeOver j key n .number ≡ 6 → ⊥
 never-six j key n e = true-is-not-false (sym six-not ∙ sym (ap (among takeable) e) ∙ taken-among j key n)
 
 -- ---- the answer
@@ -269,16 +266,16 @@ read-number : (m i : ℕ) → notRead m i .number ≡ m
 unfolding notRead
 read-number m i = refl
 
-of-parts : (e : Element) (es : List Element) (key : List ℕ) (n : ℕ) → Surveyed (e ∷ es) → length (journalOf (e ∷ es)) < 18446744073709551616 → among readable (takeOver (journalOf (e ∷ es)) key n .number) ≡ true
-unfolding journalOf
+of-parts : (e : Element) (es : List Element) (key : List ℕ) (n : ℕ) → Surveyed (e ∷ es) → length (journalOfElements (e ∷ es)) < 18446744073709551616 → among readable (takeOver (journalOfElements (e ∷ es)) key n .number) ≡ true
+unfolding journalOfElements
 of-parts e es key n s l = spelled-among (ownerOf (e ∷ es)) (pairOf e) (map pairOf es) key n (owner-parts e es s l)
 
-journal-among : (es : List Element) (key : List ℕ) (n size : ℕ) → size < 18446744073709551616 → elementsNumber es size ≡ 0 → among listed (takeOver (journalOf es) key n .number) ≡ true
+journal-among : (es : List Element) (key : List ℕ) (n size : ℕ) → size < 18446744073709551616 → elementsNumber es size ≡ 0 → among listed (takeOver (journalOfElements es) key n .number) ≡ true
 journal-among es key n size h z =
     let a = asked-survey es size z in
-    but-first 6 listed (takeOver (journalOf es) key n .number) (go es (a .0) (omega (arith, a .1, h))) (never-six (journalOf es) key n)
+    but-first 6 listed (takeOver (journalOfElements es) key n .number) (go es (a .0) (omega (arith, a .1, h))) (never-six (journalOfElements es) key n)
   where
-    go : (es : List Element) → Surveyed es → length (journalOf es) < 18446744073709551616 → among readable (takeOver (journalOf es) key n .number) ≡ true
+    go : (es : List Element) → Surveyed es → length (journalOfElements es) < 18446744073709551616 → among readable (takeOver (journalOfElements es) key n .number) ≡ true
     go [] s l = true-is-not-false (s .some)
     go (e ∷ es) s l = of-parts e es key n s l
 
@@ -286,14 +283,14 @@ pub numbers-of-reading : NumbersOfReading
 unfolding restored among
 numbers-of-reading text key n size h = go (elementsOf text)
   where
-    last : (es : List Element) → elementsNumber es size ≡ 0 → (m : ℕ) → takeOver (journalOf es) key n .number ≡ m → among listed (restoredBy (some es) key n size .number) ≡ true
+    last : (es : List Element) → elementsNumber es size ≡ 0 → (m : ℕ) → takeOver (journalOfElements es) key n .number ≡ m → among listed (restoredBy (some es) key n size .number) ≡ true
     last es q zero t = ap (λ (r : Restored). among listed (r .number)) (ifZero-yes _ _ q ∙ ifZero-yes _ _ t)
     last es q (suc m) t =
-        ap (λ (r : Restored). among listed (r .number)) (ifZero-yes _ _ q ∙ ifZero-no (takeOver (journalOf es) key n .number) _ _ (λ z. omega (arith, z, t)))
-        ∙ (ap (among listed) (read-number (takeOver (journalOf es) key n .number) (takeOver (journalOf es) key n .index)) ∙ journal-among es key n size h q)
+        ap (λ (r : Restored). among listed (r .number)) (ifZero-yes _ _ q ∙ ifZero-no (takeOver (journalOfElements es) key n .number) _ _ (λ z. omega (arith, z, t)))
+        ∙ (ap (among listed) (read-number (takeOver (journalOfElements es) key n .number) (takeOver (journalOfElements es) key n .index)) ∙ journal-among es key n size h q)
 
     some-of : (es : List Element) (m : ℕ) → elementsNumber es size ≡ m → among listed (restoredBy (some es) key n size .number) ≡ true
-    some-of es zero q = last es q (takeOver (journalOf es) key n .number) refl
+    some-of es zero q = last es q (takeOver (journalOfElements es) key n .number) refl
     some-of es (suc m) q =
         ap (λ (r : Restored). among listed (r .number)) (ifZero-no (elementsNumber es size) _ _ (λ z. omega (arith, z, q)))
         ∙ (ap (among listed) (read-number (elementsNumber es size) 0) ∙ number-among es size)

@@ -16,7 +16,6 @@ use Rattle.receipt.specs.Form.{firstAt, nextAt, part}
 use Rattle.receipt.specs.Line.{countOf}
 use Rattle.receipt.proofs.Finding.{next-from}
 use Rattle.exports.specs.Naming.{middle, notNamed, namedBy, named}
-use Rattle.exports.specs.Running.{namedIn}
 use Rattle.exports.specs.declared.naming.Named.{Named}
 use Rattle.exports.proofs.PayloadLetters.{decoding-is}
 
@@ -108,6 +107,5 @@ module _ (w : List ℕ) where
           pub dots-foreign : {r : Named} → not t ≡ true → r ≡ notNamed → r ≡ named w
           dots-foreign n q = q ∙ sym (named-here ∙ ap (λ (v : Bool). namedBy (cond v (some (bytes UrlSafe (part (a + 1) e w))) none)) (not-true t n))
 
-          pub dots-good : {r : Named} → not t ≡ false → r ≡ namedIn (bytes UrlSafe (part (a + 1) e w)) → r ≡ named w
-          unfolding namedIn
+          pub dots-good : {r : Named} → not t ≡ false → r ≡ namedBy (some (bytes UrlSafe (part (a + 1) e w))) → r ≡ named w
           dots-good n q = q ∙ sym (named-here ∙ ap (λ (v : Bool). namedBy (cond v (some (bytes UrlSafe (part (a + 1) e w))) none)) (not-false t n))

@@ -1,17 +1,17 @@
 -- What each return of the call that reads an export shows: the answer and the output.
-use Prim.Native.Nat.{ℕ, _+_, _≤_, _<_}
+use Prim.Native.Nat.{ℕ, _≤_, _<_}
 use mathlib.Core.Path.{_≡_, refl, sym, ap, _∙_}
 use mathlib.Core.Bool.{Bool, true, false, not, _&&_}
 use mathlib.Core.List.{List}
 use mathlib.Core.Logic.{_↔_}
 use mathlib.Core.Option.{Option, some}
 use native.Mathlib.Omega.{arith}
-use borrow.Author.Tests.{le-leb}
+use borrow.Author.Tests.{leb-true}
 use lib.Dec.{leb}
 use lib.ListN.{length}
-use Rattle.primitives.specs.Place.{overwrite, room}
+use Rattle.primitives.specs.Place.{overwrite}
 use Rattle.primitives.specs.Questions.{ask}
-use Rattle.primitives.proofs.Rows.{ask-yes, ask-no, ifZero-yes, ifZero-no}
+use Rattle.primitives.proofs.Rows.{ask-zero, ifZero-yes, ifZero-no}
 use Rattle.journal.specs.State.{unopened}
 use Rattle.journal.specs.Checking.{takeOver}
 use Rattle.journal.specs.declared.state.State.{State}
@@ -21,12 +21,15 @@ use Rattle.exports.specs.Shape.{Element, Shape, Shaped}
 use Rattle.exports.specs.Parsed.{elementsOf}
 use Rattle.exports.specs.Output.{start, Puts}
 use Rattle.exports.specs.Spelled.{isEmpty}
-use Rattle.exports.specs.Reading.{elementGood, hasReceipt, namesRegister, journalOf, surveyNumber, elementsNumber, notRead, restoredFrom, restoredBy, restored, journalBy, restoredBuffer}
-use Rattle.exports.specs.Running.{runJournal}
+use Rattle.exports.specs.Reading.{elementGood, hasReceipt, namesRegister, journalOfElements, surveyNumber, elementsNumber, notRead, restoredFrom, restoredBy, restored, journalBy, restoredBuffer}
+use Rattle.exports.specs.Passing.{SurveyedAs}
+use Rattle.exports.specs.Running.{ownerNamed, runJournal}
+use Rattle.exports.specs.declared.naming.Named.{Named}
 use Rattle.exports.specs.declared.output.End.{End}
+use Rattle.exports.specs.declared.survey.Surveyed.{Surveyed}
 use Rattle.exports.specs.declared.reading.Restored.{Restored}
 use Rattle.exports.proofs.Unique.{decided, exact}
-use Rattle.exports.proofs.Putting.{two-runs, no-run, onward}
+use Rattle.exports.proofs.Putting.{moved-fits}
 use Rattle.exports.proofs.ElementsTaken.{run-is-take-over}
 
 pub not-read : {st : State} (number index : ℕ) → st ≡ unopened → record { number = number; index = index; length = 0; state = st } ≡ notRead number index
@@ -36,49 +39,19 @@ not-read number index e = rw e
 -- ---- questions before 23, and those after
 
 -- a row of three questions, and then the rest
-row : Bool → Bool → Bool → ℕ → ℕ
-row a b c rest = ask a 28 (ask b 29 (ask c 28 rest))
+row-zero : (a b c : Bool) (rest : ℕ) → ask a 28 (ask b 29 (ask c 28 rest)) ≡ 0 → (ask a 28 (ask b 29 (ask c 28 0)) ≡ 0) × (rest ≡ 0)
+unfolding ask
+row-zero false b c rest h = absurd (omega (arith, h))
+row-zero true false c rest h = absurd (omega (arith, h))
+row-zero true true false rest h = absurd (omega (arith, h))
+row-zero true true true rest h = (refl, h)
 
-row-stops : (a b c : Bool) (rest : ℕ) → (row a b c 0 ≡ 0 → ⊥) → row a b c rest ≡ row a b c 0
-unfolding row ask
-row-stops false b c rest h = refl
-row-stops true false c rest h = refl
-row-stops true true false rest h = refl
-row-stops true true true rest h = absurd (h refl)
-
-row-passes : (a b c : Bool) (rest : ℕ) → row a b c 0 ≡ 0 → row a b c rest ≡ rest
-unfolding row ask
-row-passes false b c rest h = absurd (omega (arith, h))
-row-passes true false c rest h = absurd (omega (arith, h))
-row-passes true true false rest h = absurd (omega (arith, h))
-row-passes true true true rest h = refl
-
-survey-stops : (es : List Element) (rest : ℕ) → (surveyNumber es 0 ≡ 0 → ⊥) → surveyNumber es rest ≡ surveyNumber es 0
-unfolding surveyNumber row
-survey-stops es rest h = row-stops (not (isEmpty es) && every elementGood es) (every hasReceipt es) (every namesRegister es) rest h
-
-survey-passes : (es : List Element) (rest : ℕ) → surveyNumber es 0 ≡ 0 → surveyNumber es rest ≡ rest
-unfolding surveyNumber row
-survey-passes es rest h = row-passes (not (isEmpty es) && every elementGood es) (every hasReceipt es) (every namesRegister es) rest h
-
--- 23
-elements-full : (es : List Element) (size : ℕ) → surveyNumber es 0 ≡ 0 → leb (length (journalOf es)) size ≡ false → elementsNumber es size ≡ 23
-unfolding elementsNumber
-elements-full es size z e = survey-passes es _ z ∙ ask-no 23 0 e
-
-elements-fit : (es : List Element) (size : ℕ) → surveyNumber es 0 ≡ 0 → leb (length (journalOf es)) size ≡ true → elementsNumber es size ≡ 0
-unfolding elementsNumber
-elements-fit es size z e = survey-passes es _ z ∙ ask-yes 23 0 e
-
-elements-stop : (es : List Element) (size : ℕ) → (surveyNumber es 0 ≡ 0 → ⊥) → elementsNumber es size ≡ surveyNumber es 0
-unfolding elementsNumber
-elements-stop es size h = survey-stops es _ h
-
-full : {out out₁ : List ℕ} {p : End} {y : List ℕ} → Puts true out out₁ start p y → p .fits ≡ false → leb (length y) (length out) ≡ false
-unfolding room
-full {out} {y = y} a other =
-    let q : length y ≡ 0 + length y = omega arith in
-    ap (λ (x : ℕ). leb x (length out)) q ∙ no-run a other
+-- nothing was answered no: so neither before 23, and the journal fits
+elements-zero : (es : List Element) (size : ℕ) → elementsNumber es size ≡ 0 → (surveyNumber es 0 ≡ 0) × (length (journalOfElements es) ≤ size)
+unfolding elementsNumber surveyNumber
+elements-zero es size z =
+    let r = row-zero (not (isEmpty es) && every elementGood es) (every hasReceipt es) (every namesRegister es) (ask (leb (length (journalOfElements es)) size) 23 0) z in
+    (r .0, leb-true (length (journalOfElements es)) size (ask-zero _ _ _ (r .1) .0))
 
 -- ---- the answer and the output
 
@@ -100,9 +73,9 @@ module _ (text key : List ℕ) (n : ℕ) (out : List ℕ) where
       sym (ap (λ (x : ℕ). notRead x 0) k) ∙ sym (ifZero-no (elementsNumber es (length out)) _ _ (λ z. h (sym k ∙ z))) ∙ by e
 
   -- elements whose journal is taken over
-  taken : (es : List Element) → elementsOf text ≡ some es → elementsNumber es (length out) ≡ 0 → {t : TakenOver} → t ≡ takeOver (journalOf es) key n
-      → restoredFrom t (length (journalOf es)) ≡ restored text key n (length out)
-  taken es e z k = ap (λ (x : TakenOver). restoredFrom x (length (journalOf es))) k ∙ sym (ifZero-yes _ _ z) ∙ by e
+  taken : (es : List Element) → elementsOf text ≡ some es → elementsNumber es (length out) ≡ 0 → {t : TakenOver} → t ≡ takeOver (journalOfElements es) key n
+      → restoredFrom t (length (journalOfElements es)) ≡ restored text key n (length out)
+  taken es e z k = ap (λ (x : TakenOver). restoredFrom x (length (journalOfElements es))) k ∙ sym (ifZero-yes _ _ z) ∙ by e
 
   number-is : (m i : ℕ) → notRead m i .number ≡ m
   unfolding notRead
@@ -120,47 +93,42 @@ module _ (text key : List ℕ) (n : ℕ) (out : List ℕ) where
       found : (es : List Element) × (elementsOf text ≡ some es) × (Shape text es)
       found = let d = decided text s h .0 shaped in (d .0, d .1, exact text (d .0) .0 (d .1))
 
-      module _ {m : ℕ} (v : (es : List Element) → Shape text es → m ≡ surveyNumber es 0) where
-        pub read-survey : {r : Restored} → r ≡ notRead m 0 → (m ≡ 0 → ⊥) → (r ≡ restored text key n (length out)) × (out ≡ restoredBuffer text key n out)
+      module _ {n₀ : Named} {a : Surveyed} (owner : (es : List Element) → Shape text es → n₀ ≡ ownerNamed es)
+          (v : (es : List Element) → Shape text es → n₀ ≡ ownerNamed es → SurveyedAs (length out) es a) where
+        surveyed : (es : List Element) → Shape text es → SurveyedAs (length out) es a
+        surveyed es x = v es x (owner es x)
+
+        pub read-survey : {r : Restored} → r ≡ notRead (a .number) 0 → (a .number ≡ 0 → ⊥) → (r ≡ restored text key n (length out)) × (out ≡ restoredBuffer text key n out)
         read-survey e other =
             let f = found in
-            let k = v (f .0) (f .2) in
-            refused m 0 e (numbered (f .0) m (f .1) (elements-stop (f .0) (length out) (λ z. other (k ∙ z)) ∙ sym k) other) other refl
+            refused (a .number) 0 e (numbered (f .0) (a .number) (f .1) (sym (surveyed (f .0) (f .2) .number)) other) other refl
 
-        module _ (passed : m ≡ 0) {out₁ : List ℕ} {p : End} (w : (es : List Element) → Shape text es → Puts true out out₁ start p (journalOf es)) where
-          pub read-full : {r : Restored} → r ≡ notRead 23 0 → p .fits ≡ false → (r ≡ restored text key n (length out)) × (out₁ ≡ restoredBuffer text key n out)
-          read-full e other =
+        module _ (passed : a .number ≡ 0) (small : length out < 18446744073709551616) {t : TakenOver}
+            (k : (es : List Element) → Shape text es → n₀ ≡ ownerNamed es → t ≡ runJournal es key n) where
+          over : (es : List Element) → Shape text es → (elementsNumber es (length out) ≡ 0) × (length (journalOfElements es) ≤ length out) × (t ≡ takeOver (journalOfElements es) key n)
+          over es x =
+              let z = sym (surveyed es x .number) ∙ passed in
+              let q = elements-zero es (length out) z in
+              (z, q .1, k es x (owner es x) ∙ run-is-take-over es key n (q .0) (omega (arith, q .1)))
+
+          pub read-refused : {r : Restored} → r ≡ notRead (t .number) (t .index) → (t .number ≡ 0 → ⊥) → (r ≡ restored text key n (length out)) × (out ≡ restoredBuffer text key n out)
+          read-refused e other =
               let f = found in
-              let u = w (f .0) (f .2) in
-              refused 23 0 e (numbered (f .0) 23 (f .1) (elements-full (f .0) (length out) (sym (v (f .0) (f .2)) ∙ passed) (full u other)) (λ z. omega arith)) (λ z. omega arith) (u .kept refl)
+              let o = over (f .0) (f .2) in
+              refused (t .number) (t .index) e (sym (ifZero-no (t .number) _ _ other) ∙ taken (f .0) (f .1) (o .0) (o .2)) other refl
 
-          module _ (fits : p .fits ≡ true) (small : length out < 18446744073709551616) {t : TakenOver} (k : (es : List Element) → Shape text es → t ≡ runJournal es key n) where
-            within : {y : List ℕ} → Puts true out out₁ start p y → length y ≤ length out
-            within {y} a = omega (arith, onward (length out) start (length y) (sym (ap (λ (x : End). x .fits) (a .end)) ∙ fits) .room)
-
-            over : (es : List Element) → elementsOf text ≡ some es → Shape text es
-                → (elementsNumber es (length out) ≡ 0) × (t ≡ takeOver (journalOf es) key n)
-            over es e x =
-                let z = sym (v es x) ∙ passed in
-                let l = within (w es x) in
-                (elements-fit es (length out) z (le-leb (length (journalOf es)) (length out) l), k es x ∙ run-is-take-over es key n z (omega (arith, l)))
-
-            pub read-refused : {r : Restored} → r ≡ notRead (t .number) (t .index) → (t .number ≡ 0 → ⊥) → (r ≡ restored text key n (length out)) × (out₁ ≡ restoredBuffer text key n out)
-            read-refused e other =
-                let f = found in
-                let o = over (f .0) (f .1) (f .2) in
-                refused (t .number) (t .index) e (sym (ifZero-no (t .number) _ _ other) ∙ taken (f .0) (f .1) (o .0) (o .1)) other (w (f .0) (f .2) .kept refl)
-
-            pub read-all : {out₂ : List ℕ} {q : End} → t .number ≡ 0 → ((es : List Element) → Shape text es → Puts false out₁ out₂ start q (journalOf es))
-                → (record { number = 0; index = 0; length = p .at; state = t .state } ≡ restored text key n (length out)) × (out₂ ≡ restoredBuffer text key n out)
-            unfolding restoredBuffer
-            read-all {out₂} {q} z w₂ =
-                let f = found in
-                let o = over (f .0) (f .1) (f .2) in
-                let b = two-runs (w (f .0) (f .2)) fits (w₂ (f .0) (f .2)) in
-                let e : record { number = 0; index = 0; length = p .at; state = t .state } ≡ restored text key n (length out)
-                = ap (λ (l : ℕ). record { number = 0; index = 0; length = l; state = t .state }) (b .at) ∙ sym (ifZero-yes _ _ z) ∙ taken (f .0) (f .1) (o .0) (o .1) in (
-                  e,
-                  b .is ∙ ap (λ (x : Option (List Element)). overwrite out 0 (journalBy x)) (sym (f .1))
-                      ∙ sym (ifZero-yes _ _ (sym (ap (λ (x : Restored). x .number) e))),
-                )
+          pub read-all : {out₁ : List ℕ} {p : End} → t .number ≡ 0 → ((es : List Element) → Shape text es → n₀ ≡ ownerNamed es → Puts false out out₁ start p (journalOfElements es))
+              → (record { number = 0; index = 0; length = a .length; state = t .state } ≡ restored text key n (length out)) × (out₁ ≡ restoredBuffer text key n out)
+          unfolding restoredBuffer
+          read-all {out₁} {p} z w =
+              let f = found in
+              let o = over (f .0) (f .2) in
+              let b = w (f .0) (f .2) (owner (f .0) (f .2)) in
+              let y = journalOfElements (f .0) in
+              let fits : p .fits ≡ true = ap (λ (x : End). x .fits) (b .end ∙ moved-fits (length out) start (length y) refl (omega (arith, o .1))) in
+              let e : record { number = 0; index = 0; length = a .length; state = t .state } ≡ restored text key n (length out)
+              = ap (λ (l : ℕ). record { number = 0; index = 0; length = l; state = t .state }) (surveyed (f .0) (f .2) .length passed) ∙ sym (ifZero-yes _ _ z) ∙ taken (f .0) (f .1) (o .0) (o .2) in (
+                e,
+                b .done refl fits ∙ ap (λ (x : Option (List Element)). overwrite out 0 (journalBy x)) (sym (f .1))
+                    ∙ sym (ifZero-yes _ _ (sym (ap (λ (x : Restored). x .number) e))),
+              )

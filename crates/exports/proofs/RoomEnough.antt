@@ -1,17 +1,17 @@
 -- The journal that a text spells is not longer than the text.
-use Prim.Native.Nat.{ℕ, zero, suc, _+_, _*_, _≤_, _<_}
-use mathlib.Core.Path.{_≡_, refl, sym, ap, _∙_, subst}
+use Prim.Native.Nat.{ℕ, suc, _+_, _*_, _≤_, _<_}
+use mathlib.Core.Path.{_≡_, refl, ap, _∙_}
 use mathlib.Core.Bool.{Bool, true, false, cond, not, _&&_}
 use mathlib.Core.List.{List, [], _∷_, _++_, map}
 use mathlib.Core.Option.{Option, none, some}
 use native.Mathlib.Omega.{arith}
-use borrow.Author.Tests.{leb-true, le-leb, leb-false}
+use borrow.Author.Tests.{le-leb}
 use lib.Dec.{eqb, leb}
 use lib.ListN.{length, length-append}
 use Rattle.primitives.specs.Number.{bytesOf}
 use Rattle.primitives.specs.Questions.{ask, ifZero}
 use Rattle.primitives.proofs.Numbers.{length-bytesOf}
-use Rattle.primitives.proofs.Rows.{both, true-is-not-false, ifZero-yes, ifZero-no}
+use Rattle.primitives.proofs.Rows.{true-is-not-false}
 use Rattle.receipt.specs.Settings.{nameText}
 use Rattle.receipt.proofs.Names.{text-short}
 use Rattle.journal.specs.Head.{section, pairStart, entryText}
@@ -21,8 +21,8 @@ use Rattle.journal.proofs.Places.{length-entry}
 use Rattle.journal.proofs.Sections.{length-section}
 use Rattle.exports.specs.Text.{Token, mark, word, every, Inside, close, letter, escape, Tokens, end, space, sign, quoted}
 use Rattle.exports.specs.Shape.{groupName, certificateName, issuersName, receiptsName, array, following, string, Member, certificate, issuers, receipts, member, nameOf, valueOf, certificatesOf, issuersOf, receiptsOf, Element, Written, object, written, document, elements, Shape}
-use Rattle.exports.specs.Spelled.{isEmpty, TextPair, sizedTexts, pairSpelled, pairsSpelled, journalSpelled}
-use Rattle.exports.specs.Reading.{elementGood, hasReceipt, namesRegister, settingsOf, pairOf, ownerOf, journalOf, surveyNumber, elementsNumber, restoredFrom, restoredBy, restored, notRead}
+use Rattle.exports.specs.Spelled.{isEmpty, sizedTexts, pairSpelled, pairsSpelled, journalSpelled}
+use Rattle.exports.specs.Reading.{elementGood, hasReceipt, namesRegister, settingsOf, pairOf, ownerOf, journalOfElements, surveyNumber, elementsNumber, restoredFrom, restoredBy, restored, notRead}
 use Rattle.exports.specs.Parsed.{elementsOf}
 use Rattle.exports.specs.Promises.{TextIsRoomEnough}
 use Rattle.exports.proofs.Unique.{exact}
@@ -204,8 +204,8 @@ owner-short e es h =
       length-section (nameText (settingsOf e .id)),
     )
 
-pub journal-short : (text : List ℕ) (es : List Element) → Shape text es → not (isEmpty es) ≡ true → every namesRegister es ≡ true → length (journalOf es) ≤ length text
-unfolding journalOf journalSpelled
+pub journal-short : (text : List ℕ) (es : List Element) → Shape text es → not (isEmpty es) ≡ true → every namesRegister es ≡ true → length (journalOfElements es) ≤ length text
+unfolding journalOfElements journalSpelled
 journal-short text [] s n h = true-is-not-false n
 journal-short text (e ∷ es) s n h =
     omega (
@@ -235,8 +235,8 @@ number-same : (text : List ℕ) (es : List Element) (size : ℕ) → Shape text 
 unfolding elementsNumber ask
 number-same text es size s h = survey-same es _ _ (λ n e.
     let l = journal-short text es s n e in
-    let x : leb (length (journalOf es)) size ≡ true = le-leb (length (journalOf es)) size (omega (arith, l, h)) in
-    let y : leb (length (journalOf es)) (length text) ≡ true = le-leb (length (journalOf es)) (length text) l in
+    let x : leb (length (journalOfElements es)) size ≡ true = le-leb (length (journalOfElements es)) size (omega (arith, l, h)) in
+    let y : leb (length (journalOfElements es)) (length text) ≡ true = le-leb (length (journalOfElements es)) (length text) l in
     rw (x, y))
 
 answer-same : (text key : List ℕ) (n size : ℕ) → length text ≤ size → restored text key n size ≡ restored text key n (length text)
@@ -246,7 +246,7 @@ answer-same text key n size h = go (elementsOf text) refl
     go : (o : Option (List Element)) → elementsOf text ≡ o → restoredBy o key n size ≡ restoredBy o key n (length text)
     go none q = refl
     go (some es) q =
-        ap (λ (m : ℕ). ifZero m (restoredFrom (takeOver (journalOf es) key n) (length (journalOf es))) (notRead m 0)) (number-same text es size (exact text es .0 q) h)
+        ap (λ (m : ℕ). ifZero m (restoredFrom (takeOver (journalOfElements es) key n) (length (journalOfElements es))) (notRead m 0)) (number-same text es size (exact text es .0 q) h)
 
 pub some-element : (es : List Element) → (es ≡ [] → ⊥) → not (isEmpty es) ≡ true
 some-element [] h = absurd (h refl)

@@ -39,10 +39,10 @@ use Rattle.journal.proofs.Starting.{serial-read, count-read, start-there}
 use Rattle.journal.proofs.Stepping.{full-yes, full-no, step-entry, end-none, end-start, idle, answer-zero, answer-no}
 use Rattle.journal.proofs.PartSteps.{Ready, ready-step, turn, stuck}
 use Rattle.exports.specs.Text.{every}
-use Rattle.exports.specs.Spelled.{short, sizedTexts, TextPair, pairSpelled, pairsSpelled, journalSpelled}
-use Rattle.exports.specs.TakenOver.{GoodPair, GoodPairs, also, GoodParts, partsTaken, ReadIsTakenOver}
-use Rattle.exports.specs.Running.{runTexts, runPair, runPairs, runAnswer}
-use Rattle.exports.specs.declared.retaking.Run.{Run}
+use Rattle.exports.specs.Spelled.{short, sizedTexts, TextPair, pairSpelled, pairsSpelled, journalSpelled, GoodPair, GoodPairs, also}
+use Rattle.exports.specs.TakenOver.{GoodParts, partsTaken, ReadIsTakenOver}
+use Rattle.exports.specs.Running.{runTexts, runPair, runPairs}
+use Rattle.journal.specs.declared.checking.Step.{Step}
 
 -- ---- an answer of a check: passed or refused
 
@@ -62,24 +62,24 @@ started-case (suc m) x st e =
 
 -- ---- runs: what goes on after one that is not refused
 
-unfoldable then : (State → Run) → Run → Run
+unfoldable then : (State → Step) → Step → Step
 then F r = ifZero (r .number) (F (r .state)) r
 
-then-none : (k : List (List ℕ)) (F : State → Run) (st : State) → then F (runTexts k st []) ≡ F st
+then-none : (k : List (List ℕ)) (F : State → Step) (st : State) → then F (runTexts k st []) ≡ F st
 unfolding then runTexts
 then-none k F st = ifZero-yes _ _ refl
 
-answer-yes : (st : State) → runAnswer (record { number = 0; state = st }) ≡ accepted st
-unfolding runAnswer accepted
+answer-yes : (st : State) → lastAnswer (record { number = 0; state = st }) ≡ accepted st
+unfolding lastAnswer accepted
 answer-yes st = ifZero-yes _ _ refl
 
-answer-suc : (m : ℕ) (st : State) → runAnswer (record { number = suc m; state = st }) ≡ refused (suc m) (st .issued)
-unfolding runAnswer refused
+answer-suc : (m : ℕ) (st : State) → lastAnswer (record { number = suc m; state = st }) ≡ refused (suc m) (st .issued)
+unfolding lastAnswer refused
 answer-suc m st = ifZero-no (suc m) _ _ (λ z. omega arith)
 
-then-no : (F : State → Run) (m : ℕ) (st : State) → runAnswer (then F (record { number = suc m; state = st })) ≡ refused (suc m) (st .issued)
+then-no : (F : State → Step) (m : ℕ) (st : State) → lastAnswer (then F (record { number = suc m; state = st })) ≡ refused (suc m) (st .issued)
 unfolding then
-then-no F m st = ap runAnswer (ifZero-no (suc m) _ _ (λ z. omega arith)) ∙ answer-suc m st
+then-no F m st = ap lastAnswer (ifZero-no (suc m) _ _ (λ z. omega arith)) ∙ answer-suc m st
 
 module _ (k : List (List ℕ)) (st : State) where
   texts-on : (w : List ℕ) (ws : List (List ℕ)) → entryChecked k st w .number ≡ 0 → runTexts k st (w ∷ ws) ≡ runTexts k (entryChecked k st w .state) ws
@@ -311,16 +311,16 @@ module _ (k : List (List ℕ)) (j : List ℕ) (fits : length j < 184467440737095
   no-step n st x m e z =
       ap lastAnswer (stuck k j n st (ap (λ (y : Checked). y .number) e ∙ z)) ∙ answer-no (suc m) st (λ q. omega arith)
 
-  abbrev Onward : List ℕ → (State → Run) → Type 0
+  abbrev Onward : List ℕ → (State → Step) → Type 0
   Onward rest F =
       (st : State) (n : ℕ) → At j st rest → countAt j (st .place) 4 ≡ st .since → length j ≤ n + st .length
-      → lastAnswer (steps k n st j) ≡ runAnswer (F st)
+      → lastAnswer (steps k n st j) ≡ lastAnswer (F st)
 
-  texts-run : (ws : List (List ℕ)) (rest : List ℕ) (F : State → Run) → Onward rest F
+  texts-run : (ws : List (List ℕ)) (rest : List ℕ) (F : State → Step) → Onward rest F
       → (st : State) (n : ℕ) → At j st (sizedTexts ws ++ rest) → every short ws ≡ true → countAt j (st .place) 4 ≡ st .since + length ws → length j ≤ n + st .length
-      → lastAnswer (steps k n st j) ≡ runAnswer (then F (runTexts k st ws))
+      → lastAnswer (steps k n st j) ≡ lastAnswer (then F (runTexts k st ws))
   texts-run [] rest F on st n a s c h =
-      on st n (left-is j (texts-none rest) a) (c ∙ omega arith) h ∙ ap runAnswer (sym (then-none k F st))
+      on st n (left-is j (texts-none rest) a) (c ∙ omega arith) h ∙ ap lastAnswer (sym (then-none k F st))
   texts-run (w ∷ ws) rest F on st zero a s c h =
       absurd (omega (arith, h, entry-long st w (sizedTexts ws ++ rest) (every-cons w ws s .0) (left-is j (texts-cons w ws rest) a), length-entry w))
   texts-run (w ∷ ws) rest F on st (suc n) a s c h =
@@ -340,8 +340,8 @@ module _ (k : List (List ℕ)) (j : List ℕ) (fits : length j < 184467440737095
 
       go : (m : ℕ) → entryChecked k st w .number ≡ m
           → ((x : State) → At j x (sizedTexts ws ++ rest) → every short ws ≡ true → countAt j (x .place) 4 ≡ x .since + length ws → length j ≤ n + x .length
-          → lastAnswer (steps k n x j) ≡ runAnswer (then F (runTexts k x ws)))
-          → lastAnswer (steps k (suc n) st j) ≡ runAnswer (then F (runTexts k st (w ∷ ws)))
+          → lastAnswer (steps k n x j) ≡ lastAnswer (then F (runTexts k x ws)))
+          → lastAnswer (steps k (suc n) st j) ≡ lastAnswer (then F (runTexts k st (w ∷ ws)))
       go zero z rec =
           let x = entryChecked k st w .state in
           let e = entry-at st w (sizedTexts ws ++ rest) sh b less z in
@@ -351,10 +351,10 @@ module _ (k : List (List ℕ)) (j : List ℕ) (fits : length j < 184467440737095
           let l₂ = entry-long st w (sizedTexts ws ++ rest) sh b in
           on-step n st (entryChecked k st w) step z
           ∙ (rec x e (every-cons w ws s .1) (ap (λ (m : ℕ). countAt j m 4) p ∙ omega (arith, c, i)) (omega (arith, h, l, l₂, length-entry w))
-          ∙ ap (λ (r : Run). runAnswer (then F r)) (sym (texts-on k st w ws z)))
+          ∙ ap (λ (r : Step). lastAnswer (then F r)) (sym (texts-on k st w ws z)))
       go (suc m) z rec =
           no-step n st (entryChecked k st w) m step z
-          ∙ sym (ap (λ (r : Run). runAnswer (then F r)) (texts-no k st w ws m z) ∙ then-no F m st)
+          ∙ sym (ap (λ (r : Step). lastAnswer (then F r)) (texts-no k st w ws m z) ∙ then-no F m st)
 
   -- ---- all pairs
 
@@ -362,7 +362,7 @@ module _ (k : List (List ℕ)) (j : List ℕ) (fits : length j < 184467440737095
   pairs-run [] g st n a c h =
       let l = left-long j st [] (left-is j pairs-none a) in
       ap lastAnswer (idle k j n st (end-none k st j (full-yes st j (omega (arith, c))) (omega (arith, l))))
-      ∙ (answer-zero st ∙ sym (ap runAnswer (run-none k st) ∙ answer-yes st))
+      ∙ (answer-zero st ∙ sym (ap lastAnswer (run-none k st) ∙ answer-yes st))
   pairs-run (p ∷ ps) (also g gs) st zero a c h =
       absurd (omega (arith, h, start-long st (p .serial) (length (p .texts)) (sizedTexts (p .texts) ++ pairsSpelled ps) (g .long) (g .good) (g .few) (left-is j (pairs-cons p ps) a)))
   pairs-run (p ∷ ps) (also g gs) st (suc n) a c h =
@@ -379,8 +379,8 @@ module _ (k : List (List ℕ)) (j : List ℕ) (fits : length j < 184467440737095
 
       go : (m : ℕ) → serialChecked st (p .serial) .number ≡ m
           → ((x : State) (i : ℕ) → At j x (sizedTexts (p .texts) ++ pairsSpelled ps) → every short (p .texts) ≡ true → countAt j (x .place) 4 ≡ x .since + length (p .texts)
-          → length j ≤ i + x .length → lastAnswer (steps k i x j) ≡ runAnswer (then (λ y. runPairs k false y ps) (runTexts k x (p .texts))))
-          → lastAnswer (steps k (suc n) st j) ≡ runAnswer (runPairs k false st (p ∷ ps))
+          → length j ≤ i + x .length → lastAnswer (steps k i x j) ≡ lastAnswer (then (λ y. runPairs k false y ps) (runTexts k x (p .texts))))
+          → lastAnswer (steps k (suc n) st j) ≡ lastAnswer (runPairs k false st (p ∷ ps))
       go zero z rec =
           let x = serialChecked st (p .serial) .state in
           let e = start-at st (p .serial) (length (p .texts)) (sizedTexts (p .texts) ++ pairsSpelled ps) (g .long) (g .good) (g .few) b c z in
@@ -390,9 +390,9 @@ module _ (k : List (List ℕ)) (j : List ℕ) (fits : length j < 184467440737095
           let l₃ = length-append (sizedTexts (p .texts)) (pairsSpelled ps) in
           on-step n st (serialChecked st (p .serial)) step z
           ∙ (rec x n e (g .short) q (omega (arith, h, l, l₂))
-          ∙ ap runAnswer (sym (pairs-on k st p ps z)))
+          ∙ ap lastAnswer (sym (pairs-on k st p ps z)))
       go (suc m) z rec =
-          no-step n st (serialChecked st (p .serial)) m step z ∙ sym (ap runAnswer (pairs-no k st p ps m z) ∙ answer-suc m st)
+          no-step n st (serialChecked st (p .serial)) m step z ∙ sym (ap lastAnswer (pairs-no k st p ps m z) ∙ answer-suc m st)
 
 -- ---- the head
 
@@ -492,7 +492,7 @@ module _ (o : Owner) (p : TextPair) (ps : List TextPair) (g : GoodParts o (p ∷
       unfolding runPairs runPair then
       first-run k st = refl
 
-      width-yes : takeOver (journalSpelled o (p ∷ ps)) key n ≡ runAnswer (runPairs (keySchedule key) true (fresh (settingsFor o (p .serial)) n key) (p ∷ ps))
+      width-yes : takeOver (journalSpelled o (p ∷ ps)) key n ≡ lastAnswer (runPairs (keySchedule key) true (fresh (settingsFor o (p .serial)) n key) (p ∷ ps))
       width-yes =
           let k = keySchedule key in
           let j = journalSpelled o (p ∷ ps) in
@@ -500,13 +500,13 @@ module _ (o : Owner) (p : TextPair) (ps : List TextPair) (g : GoodParts o (p ∷
           taken-is
           ∙ (texts-run k j (g .fits) (p .texts) (pairsSpelled ps) (λ y. runPairs k false y ps) (pairs-run k j (g .fits) ps (later-pairs (g .pairs)))
           st (length j) start-here (first-pair (g .pairs) .short) first-count (omega arith)
-          ∙ ap runAnswer (sym (first-run k st)))
+          ∙ ap lastAnswer (sym (first-run k st)))
 
 pub read-is-taken-over : ReadIsTakenOver
 unfolding partsTaken
 read-is-taken-over o p ps key n g = go (widthGood n) refl
   where
     go : (t : Bool) → widthGood n ≡ t
-        → cond t (runAnswer (runPairs (keySchedule key) true (fresh (settingsFor o (p .serial)) n key) (p ∷ ps))) (refused 4 0) ≡ takeOver (journalSpelled o (p ∷ ps)) key n
+        → cond t (lastAnswer (runPairs (keySchedule key) true (fresh (settingsFor o (p .serial)) n key) (p ∷ ps))) (refused 4 0) ≡ takeOver (journalSpelled o (p ∷ ps)) key n
     go true w = sym (width-yes o p ps g key n w)
     go false w = sym (width-no o p ps g key n w)

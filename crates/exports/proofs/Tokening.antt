@@ -1,17 +1,18 @@
 -- One token more: marks, strings, names, and the two steps in an array.
 use mathlib.Core.Path.{_≡_, refl, sym, ap, _∙_}
-use mathlib.Core.Bool.{true, false}
+use mathlib.Core.Bool.{Bool, true, false, cond}
 use mathlib.Core.List.{List, [], _∷_}
-use Prim.Native.Nat.{ℕ, zero, suc, _<_}
+use Prim.Native.Nat.{ℕ, zero, suc, _+_, _<_}
 use native.Mathlib.Omega.{arith}
-use borrow.Author.Tests.{ne-eqb}
-use lib.ListN.{drop}
-use Rattle.exports.specs.Text.{Token, mark, word}
-use Rattle.exports.specs.Lexer.{content}
+use borrow.Author.Tests.{ne-eqb, eqb-true, eqb-false}
+use lib.Dec.{eqb}
+use lib.ListN.{length, drop, getD}
+use Rattle.exports.specs.Text.{Token, mark, word, isMark}
+use Rattle.exports.specs.Lexer.{wrong, afterByte, content, lex, lexIn}
 use Rattle.exports.specs.Shape.{string}
-use Rattle.exports.specs.Places.{from, Next, tokenAt, Reads, one, Keyed, nameNumber, Begun, Followed}
+use Rattle.exports.specs.Places.{from, Skipped, Next, tokenAt, Reads, one, Keyed, nameNumber, Begun, Followed}
 use Rattle.exports.specs.declared.lexer.Found.{Found}
-use Rattle.exports.proofs.Lexing.{no-truth}
+use Rattle.exports.proofs.Lexing.{no-truth, mark-above, next-end, next-mark, next-other, quote}
 
 pub nil-cons : {X A : Type 0} {x : A} {xs : List A} → [] ≡ x ∷ xs → X
 nil-cons p = let z : _≡_ {A = ℕ} 0 1 = cc in absurd (omega arith)
@@ -25,6 +26,25 @@ tail-is p = cc
 -- two marks that stand at one place
 pub other-mark : {X : Type 0} {a b : ℕ} {xs ys : List Token} → (a ≡ b → ⊥) → mark a ∷ xs ≡ mark b ∷ ys → X
 other-mark n p = absurd (n (ap (λ (t : Token). t .kind) (head-is p)))
+
+-- a mark is not the quote
+mark-no-quote : (b : ℕ) → isMark b ≡ true → b ≡ 34 → ⊥
+unfolding isMark
+mark-no-quote b e z = no-truth (rw z at e)
+
+-- nor the kind of a wrong byte
+mark-no-wrong : (b : ℕ) → isMark b ≡ true → 1 ≡ b → ⊥
+unfolding isMark
+mark-no-wrong b e z = no-truth (rw (sym z) at e)
+
+no-mark : {text : List ℕ} {at b : ℕ} → ((rest : List Token) → from text at ≡ mark b ∷ rest → ⊥) → Reads (one b) text at 0
+no-mark h =
+    record {
+      inside = omega arith;
+      onward = λ p. absurd (omega arith);
+      sound = λ p. absurd (omega arith);
+      complete = λ x rest q. absurd (h rest q);
+    }
 
 module _ {text : List ℕ} {at : ℕ} {t : Found} (n : Next text at t) where
   -- what stands there is what was found
@@ -42,10 +62,10 @@ module _ {text : List ℕ} {at : ℕ} {t : Found} (n : Next text at t) where
           let i = n .is (omega arith) in
           record { kind = ap (λ (x : Token). x .kind) (head-is (sym (i .1) ∙ e)); onward = i .0; rest′ = tail-is (sym (i .1) ∙ e) }
 
-  pub found-mark : (b : ℕ) → 34 < b → t .kind ≡ b → (at < t .next) × (from text at ≡ mark b ∷ from text (t .next))
+  pub found-mark : (b : ℕ) → isMark b ≡ true → t .kind ≡ b → (at < t .next) × (from text at ≡ mark b ∷ from text (t .next))
   found-mark b h e =
-      let i = n .is (omega arith) in
-      let q : tokenAt text t ≡ mark b = rw (e, ne-eqb b 34 (λ x. omega arith)) in
+      let i = n .is (omega (arith, mark-above b h)) in
+      let q : tokenAt text t ≡ mark b = rw (e, ne-eqb b 34 (mark-no-quote b h)) in
       (i .0, i .1 ∙ ap (λ (x : Token). x ∷ from text (t .next)) q)
 
   pub found-word : t .kind ≡ 34 → (at < t .next) × (from text at ≡ word (content (drop (t .start) text) 0) ∷ from text (t .next))
@@ -54,7 +74,7 @@ module _ {text : List ℕ} {at : ℕ} {t : Found} (n : Next text at t) where
       let q : tokenAt text t ≡ word (content (drop (t .start) text) 0) = rw e in
       (i .0, i .1 ∙ ap (λ (x : Token). x ∷ from text (t .next)) q)
 
-  pub read-mark : (b : ℕ) → 34 < b → t .kind ≡ b → Reads (one b) text at (t .next)
+  read-mark : (b : ℕ) → isMark b ≡ true → t .kind ≡ b → Reads (one b) text at (t .next)
   read-mark b h e =
       let f = found-mark b h e in
       record {
@@ -64,14 +84,8 @@ module _ {text : List ℕ} {at : ℕ} {t : Found} (n : Next text at t) where
         complete = λ x rest q. (omega (arith, f .0), stands (mark b) rest q .rest′);
       }
 
-  pub read-no-mark : (b : ℕ) → (t .kind ≡ b → ⊥) → Reads (one b) text at 0
-  read-no-mark b h =
-      record {
-        inside = omega arith;
-        onward = λ p. absurd (omega arith);
-        sound = λ p. absurd (omega arith);
-        complete = λ x rest q. absurd (h (stands (mark b) rest q .kind));
-      }
+  read-no-mark : (b : ℕ) → (t .kind ≡ b → ⊥) → Reads (one b) text at 0
+  read-no-mark b h = no-mark (λ rest q. h (stands (mark b) rest q .kind))
 
   pub read-word : t .kind ≡ 34 → Reads string text at (t .next)
   read-word e =
@@ -126,8 +140,9 @@ module _ {text : List ℕ} {at : ℕ} {t : Found} (n : Next text at t) where
   -- ---- after an item
 
   pub follow-more : t .kind ≡ 44 → Followed text at (record { more = true; at = t .next })
+  unfolding isMark
   follow-more e =
-      let f = found-mark 44 (omega arith) e in
+      let f = found-mark 44 refl e in
       record {
         inside = n .inside;
         onward = λ p. f .0;
@@ -137,8 +152,9 @@ module _ {text : List ℕ} {at : ℕ} {t : Found} (n : Next text at t) where
       }
 
   pub follow-end : t .kind ≡ 93 → Followed text at (record { more = false; at = t .next })
+  unfolding isMark
   follow-end e =
-      let f = found-mark 93 (omega arith) e in
+      let f = found-mark 93 refl e in
       record {
         inside = n .inside;
         onward = λ p. f .0;
@@ -156,6 +172,37 @@ module _ {text : List ℕ} {at : ℕ} {t : Found} (n : Next text at t) where
         ended = λ p q. absurd (omega arith);
         none = λ p q r. (λ e. a (stands (mark 44) r e .kind), λ e. b (stands (mark 93) r e .kind));
       }
+
+-- ---- a mark, by one byte
+
+-- after a quote stands a word or a wrong token
+module _ (b : ℕ) (m : isMark b ≡ true) {rest : List Token} where
+  quoted-no-mark : (text : List ℕ) (k : ℕ) (c : List ℕ) → lexIn text k c ≡ mark b ∷ rest → ⊥
+  unfolding lexIn
+  quoted-no-mark [] k c e = other-mark (mark-no-wrong b m) e
+  quoted-no-mark (x ∷ text) k c e = go (eqb x 34) (eqb k 0) (eqb (afterByte k x) 9) (λ q. quoted-no-mark text (afterByte k x) c q) e
+    where
+      go : (s t u : Bool) → (lexIn text (afterByte k x) c ≡ mark b ∷ rest → ⊥) → cond s (cond t (word c ∷ lex text) wrong) (cond u wrong (lexIn text (afterByte k x) c)) ≡ mark b ∷ rest → ⊥
+      go true true u ih q = mark-no-quote b m (sym (ap (λ (t : Token). t .kind) (head-is q)))
+      go true false u ih q = other-mark (mark-no-wrong b m) q
+      go false t true ih q = other-mark (mark-no-wrong b m) q
+      go false t false ih q = ih q
+
+module _ {text : List ℕ} {at p b : ℕ} (s : Skipped text at p) (m : isMark b ≡ true) where
+  pub expect-end : p ≡ length text → Reads (one b) text at 0
+  expect-end e = read-no-mark (next-end s refl e) b (λ z. mark-above b m (sym z))
+
+  module _ (h : p ≡ length text → ⊥) where
+    pub expect-found : getD text p 0 ≡ b → Reads (one b) text at (p + 1)
+    expect-found e = read-mark (next-mark s h b e (mark-no-quote b m) m) b m refl
+
+    pub expect-other : (getD text p 0 ≡ b → ⊥) → Reads (one b) text at 0
+    expect-other n = go (eqb (getD text p 0) 34) (isMark (getD text p 0)) refl refl
+      where
+        go : (t u : Bool) → eqb (getD text p 0) 34 ≡ t → isMark (getD text p 0) ≡ u → Reads (one b) text at 0
+        go true u i j = no-mark (λ rest q. quoted-no-mark b m (drop (p + 1) text) 0 _ (sym (quote s h (eqb-true _ 34 i)) ∙ q))
+        go false true i j = read-no-mark (next-mark s h _ refl (eqb-false _ 34 i) j) b n
+        go false false i j = read-no-mark (next-other s h refl _ refl (eqb-false _ 34 i) j) b (mark-no-wrong b m)
 
 -- ---- from an array's place on
 

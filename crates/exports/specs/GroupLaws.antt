@@ -2,18 +2,16 @@
 use Prim.Native.Nat.{ℕ}
 use mathlib.Core.Path.{_≡_}
 use mathlib.Core.Bool.{true}
-use mathlib.Core.List.{List, [], _∷_, map}
+use mathlib.Core.List.{List, map}
 use mathlib.Core.Option.{none, some}
 use mathlib.Core.Logic.{_↔_}
 use lib.ListN.{length}
-use Rattle.receipt.specs.Settings.{serialGood}
 use Rattle.receipt.specs.Compact.{compact}
 use Rattle.journal.specs.Valid.{Owner, Pair, settingsFor, GoodOwner, Valid}
 use Rattle.exports.specs.Text.{every}
-use Rattle.exports.specs.Spelled.{TextPair, journalSpelled, pairsOf}
+use Rattle.exports.specs.Spelled.{TextPair, journalSpelled, GoodPairs, pairsOf}
 use Rattle.exports.specs.Groups.{Group, groupsText, groupGood, groupsOf}
 use Rattle.exports.specs.Passing.{GroupsThere}
-use Rattle.exports.specs.Running.{AllFit}
 
 -- ---- groups
 
@@ -34,14 +32,9 @@ NoGroupsThere = (k : ℕ) (buf : List ℕ) → (GroupsThere k buf → ⊥) → g
 
 -- ---- pairs
 
--- each serial is good, in an array of 32 bytes
-pub data AllNamed : List TextPair → Type 0 where
-  nothing : AllNamed []
-  also : {p : TextPair} {ps : List TextPair} → length (p .serial .bytes) ≡ 32 → serialGood (p .serial) ≡ true → AllNamed ps → AllNamed (p ∷ ps)
-
 -- the pairs of a journal that was spelled are those that it was spelled with
 abbrev pub PairsAreThose : Type 0
-PairsAreThose = (o : Owner) (ps : List TextPair) → GoodOwner o → AllFit ps → AllNamed ps → pairsOf (journalSpelled o ps) ≡ ps
+PairsAreThose = (o : Owner) (ps : List TextPair) → GoodOwner o → GoodPairs ps → pairsOf (journalSpelled o ps) ≡ ps
 
 -- a pair with its entries as texts
 unfoldable pub textPair : Owner → ℕ → Pair → TextPair

@@ -1,7 +1,7 @@
 -- Certificates: "a lent buffer of groups: a byte with the number of certificates, 1 or more, then each after a two-byte big-endian length, the
 -- signing one first, its issuers behind it".
 use Prim.Native.Nat.{ℕ, zero, suc}
-use mathlib.Core.Bool.{Bool, true, cond, _&&_}
+use mathlib.Core.Bool.{Bool, cond, _&&_}
 use mathlib.Core.List.{List, [], _∷_, _++_}
 use mathlib.Core.Option.{Option, none, some}
 use lib.Dec.{leb}

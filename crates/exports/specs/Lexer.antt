@@ -1,4 +1,4 @@
--- The tokens of a text as a function of it: what the code finds. It is exact for the grammar where no token is wrong (proofs/Lexical.antt).
+-- The tokens of a text as a function of it: what the code finds. It is exact for the grammar: `TokensExactly` of Exact.antt.
 use Prim.Native.Nat.{ℕ, zero, suc, _-_}
 use mathlib.Core.Bool.{cond}
 use mathlib.Core.List.{List, [], _∷_}

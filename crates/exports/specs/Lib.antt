@@ -16,5 +16,6 @@ pub mod Running
 pub mod Names
 pub mod GroupLaws
 pub mod Promises
+pub mod Indices
 pub mod TakenOver
 pub mod Orders

@@ -1,4 +1,4 @@
--- Writing to an output in two runs: the first only measures, the second writes.
+-- Writing to an output, or measuring what would be written.
 use Prim.Native.Nat.{ℕ, _+_}
 use mathlib.Core.Path.{_≡_}
 use mathlib.Core.Bool.{Bool, true, false, cond, _&&_}

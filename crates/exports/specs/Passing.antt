@@ -1,21 +1,25 @@
 -- What the contracts of private functions cite: certificates and groups at a place, and a pass over all elements.
 use Prim.Native.Nat.{ℕ, _+_, _<_, _≤_}
 use mathlib.Core.Path.{_≡_}
-use mathlib.Core.Bool.{Bool, true, false, _&&_}
+use mathlib.Core.Bool.{Bool, true, _&&_}
 use mathlib.Core.List.{List, [], _∷_, _++_}
+use lib.Dec.{leb}
 use lib.ListN.{length, take, drop}
-use Rattle.primitives.specs.Base64.{accepted}
-use Rattle.primitives.specs.declared.base64.Alphabet.the-variants.{Standard}
+use Rattle.primitives.specs.Questions.{ask}
 use Rattle.journal.specs.Head.{entryText}
 use Rattle.exports.specs.Text.{every}
 use Rattle.exports.specs.Lexer.{content}
 use Rattle.exports.specs.Shape.{Element}
 use Rattle.exports.specs.Places.{LettersAt}
-use Rattle.exports.specs.Spelled.{short}
+use Rattle.exports.specs.Output.{moved}
+use Rattle.exports.specs.Spelled.{short, sizedTexts, pairSpelled}
 use Rattle.exports.specs.Groups.{Group, groupText, groupsText, groupGood}
-use Rattle.exports.specs.Reading.{elementGood, hasReceipt, namesRegister}
+use Rattle.exports.specs.Reading.{elementGood, hasReceipt, namesRegister, pairOf, journalOfElements, elementsNumber}
 use Rattle.exports.specs.declared.certificates.Quad.{Quad}
+use Rattle.exports.specs.declared.output.End.{End}
 use Rattle.exports.specs.declared.survey.Survey.{Survey}
+use Rattle.exports.specs.declared.survey.Measured.{Measured}
+use Rattle.exports.specs.declared.survey.Surveyed.{Surveyed}
 
 -- ---- four letters of a string: those at a place and what follows them is what the string spells from there
 
@@ -26,9 +30,6 @@ pub record QuadRead (text : List ℕ) (at : ℕ) (q : Quad) : Type 0 where
   pub ended : q .count < 4 → content (drop (q .next) text) 0 ≡ []
   pub onward : 0 < q .count → at < q .next
   pub letters : LettersAt text (q .next)
-
-unfoldable pub quadGood : List ℕ → Bool
-quadGood bytes = accepted Standard bytes
 
 -- ---- a text after its length in two bytes
 
@@ -53,15 +54,33 @@ pub record GroupsThere (k : ℕ) (s : List ℕ) : Type 0 where
   pub good : every groupGood groups ≡ true
   pub bytes : s ≡ groupsText groups
 
--- ---- the survey of the elements: the three questions, each of all elements so far
+-- ---- the survey of the elements: the questions, each of all elements so far, and the place after their pairs in an output of this length
 
-unfoldable pub asked : Survey → Element → Survey
-asked s e =
-    record { good = s .good && elementGood e; some = s .some && hasReceipt e; named = s .named && namesRegister e }
+unfoldable pub measured : ℕ → End → List (List ℕ) → Measured
+measured room p ws =
+    record { good = every short ws && leb (length ws) 4294967295; end = moved room p (length (sizedTexts ws)) }
 
-unfoldable pub surveyed : Survey → List Element → Survey
-surveyed s [] = s
-surveyed s (e ∷ es) = surveyed (asked s e) es
+unfoldable pub asked : ℕ → Survey → Element → Survey
+asked room s e =
+    record {
+      good = s .good && elementGood e;
+      some = s .some && hasReceipt e;
+      named = s .named && namesRegister e;
+      end = moved room (s .end) (length (pairSpelled (pairOf e)));
+    }
 
-abbrev pub unasked : Survey
-unasked = record { good = true; some = true; named = true }
+unfoldable pub surveyed : ℕ → Survey → List Element → Survey
+surveyed room s [] = s
+surveyed room s (e ∷ es) = surveyed room (asked room s e) es
+
+abbrev pub unasked : End → Survey
+unasked p = record { good = true; some = true; named = true; end = p }
+
+-- the answers of a survey in the order of the questions; `some` says whether there is an element
+unfoldable pub surveyAnswer : Bool → Survey → ℕ
+surveyAnswer some s = ask (some && s .good) 28 (ask (s .some) 29 (ask (s .named) 28 (ask (s .end .fits) 23 0)))
+
+-- the number of the first question answered no; or 0 and the length of the journal that the elements spell
+pub record SurveyedAs (room : ℕ) (es : List Element) (r : Surveyed) : Type 0 where
+  pub number : r .number ≡ elementsNumber es room
+  pub length : r .number ≡ 0 → r .length ≡ length (journalOfElements es)

@@ -1,4 +1,4 @@
--- What the code finds at a place of a text. A function that reads answers the place after what it read, and 0 where that doesn't stand there.
+-- What the code finds at a place of a text. A function that reads answers the place after what it read, and 0 where that doesn't stand there; `ReceiptsFound` and `ElementEnded` speak only of places where an element stands.
 use Prim.Native.Nat.{ℕ, _<_, _≤_, _+_, _-_}
 use mathlib.Core.Path.{_≡_}
 use mathlib.Core.Bool.{Bool, true, false, cond, _&&_, _||_, not}
@@ -8,8 +8,9 @@ use lib.ListN.{length, take, drop, getD}
 use Rattle.primitives.specs.Bytes.{same}
 use Rattle.exports.specs.Text.{Token, mark, word, blank, plain}
 use Rattle.exports.specs.Lexer.{wrong, before, content, lex, lexIn}
-use Rattle.exports.specs.Shape.{certificateName, issuersName, receiptsName, groupName, array, string, strings, Member, certificate, issuers, receipts, member, valueOf, Element, Written, written}
+use Rattle.exports.specs.Shape.{certificateName, issuersName, receiptsName, groupName, string, strings, Member, certificate, issuers, receipts, member, valueOf, Element, Written, written}
 use Rattle.exports.specs.declared.lexer.Found.{Found}
+use Rattle.exports.specs.declared.lexer.Close.{Close}
 use Rattle.exports.specs.declared.walk.Key.{Key}
 use Rattle.exports.specs.declared.walk.Cursor.{Cursor}
 use Rattle.exports.specs.declared.strings.Letter.{Letter}
@@ -36,6 +37,7 @@ pub record Stopped (text : List ℕ) (start r : ℕ) : Type 0 where
   pub onward : start ≤ r
   pub same : (c : List ℕ) → lexIn (drop start text) 0 c ≡ lexIn (drop r text) 0 c
   pub clear : start + before (drop start text) ≡ r + before (drop r text)
+  pub long : start + length (content (drop start text) 0) ≡ r + length (content (drop r text) 0)
   pub stop : r < length text → plain (getD text r 0) ≡ false
 
 -- whether the escape stands at a place
@@ -43,12 +45,16 @@ pub record EscapeAt (text : List ℕ) (at : ℕ) (r : Bool) : Type 0 where
   pub is : r ≡ true → drop at text ≡ 92 ∷ 117 ∷ 48 ∷ 48 ∷ 51 ∷ 100 ∷ drop (at + 6) text
   pub none : r ≡ false → (rest : List ℕ) → drop at text ≡ 92 ∷ 117 ∷ 48 ∷ 48 ∷ 51 ∷ 100 ∷ rest → ⊥
 
--- r is the place after a string whose letters begin at `start`; 0 where there is none
-pub record Closed (text : List ℕ) (start r : ℕ) : Type 0 where
-  pub inside : r ≤ length text
-  pub none : r ≡ 0 → (c : List ℕ) → lexIn (drop start text) 0 c ≡ wrong
-  pub is : 0 < r → (start < r) × ((c : List ℕ) → lexIn (drop start text) 0 c ≡ word c ∷ from text r)
-  pub quote : 0 < r → r ≡ start + before (drop start text) + 1
+abbrev pub notClosed : Close
+notClosed = record { length = 0; next = 0 }
+
+-- the end of a string whose letters begin at `start`; its place is 0 where there is none
+pub record Closed (text : List ℕ) (start : ℕ) (r : Close) : Type 0 where
+  pub inside : r .next ≤ length text
+  pub none : r .next ≡ 0 → (c : List ℕ) → lexIn (drop start text) 0 c ≡ wrong
+  pub is : 0 < r .next → (start < r .next) × ((c : List ℕ) → lexIn (drop start text) 0 c ≡ word c ∷ from text (r .next))
+  pub quote : 0 < r .next → r .next ≡ start + before (drop start text) + 1
+  pub long : 0 < r .next → r .length ≡ length (content (drop start text) 0)
 
 -- a list contains a byte
 unfoldable pub holds : ℕ → List ℕ → Bool
@@ -70,6 +76,10 @@ pub record Lying (text : List ℕ) : Type 0 where
 abbrev pub tokenAt : List ℕ → Found → Token
 tokenAt text t = record { kind = t .kind; content = cond (eqb (t .kind) 34) (content (drop (t .start) text) 0) [] }
 
+-- the end of the tokens, or a wrong one: the place is the text's end
+abbrev pub atEnd : ℕ → ℕ → Found
+atEnd kind n = record { kind = kind; start = n; length = 0; next = n }
+
 -- the next token, of kind 0 where there is none
 pub record Next (text : List ℕ) (at : ℕ) (t : Found) : Type 0 where
   pub inside : t .next ≤ length text
@@ -78,6 +88,7 @@ pub record Next (text : List ℕ) (at : ℕ) (t : Found) : Type 0 where
   pub is : 0 < t .kind → (at < t .next) × (from text at ≡ tokenAt text t ∷ from text (t .next))
   pub quote : t .kind ≡ 34 → t .next ≡ t .start + before (drop (t .start) text) + 1
   pub lying : t .kind ≡ 34 → Lying (drop (t .start) text)
+  pub long : t .kind ≡ 34 → t .length ≡ length (content (drop (t .start) text) 0)
 
 -- ---- one of the things x : A, which are spelled by tokens
 
@@ -146,6 +157,14 @@ pub record ValueRead (number : ℕ) (text : List ℕ) (at r : ℕ) : Type 0 wher
 unfoldable pub led : ℕ → Member → List Token
 led b m = mark b ∷ member m
 
+-- a mark and a member's name; the name's number, and 0 where there is none of the three
+pub record MemberKeyed (text : List ℕ) (at lead : ℕ) (k : Key) : Type 0 where
+  pub inside : k .next ≤ length text
+  pub onward : 0 < k .number → at < k .next
+  pub small : k .number ≤ 3
+  pub sound : 0 < k .number → (w : List ℕ) × (nameNumber w ≡ k .number) × (from text at ≡ mark lead ∷ word w ∷ mark 58 ∷ from text (k .next))
+  pub complete : (m : Member) (rest : List Token) → from text at ≡ led lead m ++ rest → (k .number ≡ numberOf m) × (from text (k .next) ≡ valueOf m ++ rest)
+
 pub record MemberRead (text : List ℕ) (at lead : ℕ) (v : Value) : Type 0 where
   pub reads : Reads (led lead) text at (v .next)
   pub found : (m : Member) (rest : List Token) → from text at ≡ led lead m ++ rest → (v .number ≡ numberOf m) × (0 < v .place) × (from text (v .place) ≡ valueOf m ++ rest)
@@ -183,6 +202,22 @@ pub record ElementRead (text : List ℕ) (at : ℕ) (p : Places) : Type 0 where
   pub certificateInside : p .certificate ≤ length text
   pub issuersInside : p .issuers ≤ length text
   pub receiptsInside : p .receipts ≤ length text
+
+-- after the receipts of an element: its other members and "}", and then `rest`
+pub data Closing : List Token → List Token → Type 0 where
+  end : {rest : List Token} → Closing (mark 125 ∷ rest) rest
+  more : (m : Member) {ts rest : List Token} → Closing ts rest → Closing (led 44 m ++ ts) rest
+
+-- r is the place of the receipts of the element at a place
+pub record ReceiptsFound (text : List ℕ) (at r : ℕ) : Type 0 where
+  pub inside : r ≤ length text
+  pub is : (w : Written) (rest : List Token) → from text at ≡ written w ++ rest
+      → (at < r) × (ts : List Token) × (from text r ≡ strings (w .element .receipts) ++ ts) × (Closing ts rest)
+
+-- r is the place after the element whose receipts end at a place
+pub record ElementEnded (text : List ℕ) (at r : ℕ) : Type 0 where
+  pub inside : r ≤ length text
+  pub is : (ts rest : List Token) → Closing ts rest → from text at ≡ ts → (at < r) × (from text r ≡ rest)
 
 -- ---- a string where it lies
 

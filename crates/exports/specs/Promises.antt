@@ -1,22 +1,22 @@
 -- What holds of the two calls, as statements.
 use Prim.Native.Nat.{ℕ, _≤_, _<_}
 use mathlib.Core.Path.{_≡_}
-use mathlib.Core.Bool.{Bool, true, false, not, _||_}
+use mathlib.Core.Bool.{Bool, true, false, _||_}
 use mathlib.Core.List.{List, [], _∷_, _++_, map}
 use mathlib.Core.Logic.{_↔_}
-use mathlib.Core.Option.{Option, none, some}
+use mathlib.Core.Option.{some}
 use lib.Dec.{eqb}
-use lib.ListN.{length, take, drop, getD}
+use lib.ListN.{length, take, getD}
 use Rattle.primitives.specs.Bytes.{AllBytes}
 use Rattle.primitives.specs.Place.{overwrite}
 use Rattle.journal.specs.State.{unopened}
 use Rattle.journal.specs.Checking.{takeOver}
 use Rattle.exports.specs.Text.{every}
 use Rattle.exports.specs.Shape.{Element, Shape, plainElement, plainText}
-use Rattle.exports.specs.Spelled.{isEmpty, TextPair, pairsOf}
+use Rattle.exports.specs.Spelled.{someOf, TextPair, pairsOf}
 use Rattle.exports.specs.Groups.{Group, groupsText, groupGood}
-use Rattle.exports.specs.Writing.{base64, elementsFor, exportText, exportOf, exported, exportBuffer}
-use Rattle.exports.specs.Reading.{elementGood, hasReceipt, namesRegister, journalOf, notRead, restoredBy, restored, restoredBuffer}
+use Rattle.exports.specs.Writing.{inBase64, elementsFor, exportText, exportOf, exported, exportBuffer}
+use Rattle.exports.specs.Reading.{elementGood, hasReceipt, namesRegister, journalOfElements, notRead, restoredBy, restored, restoredBuffer}
 
 -- ---- written
 
@@ -45,7 +45,7 @@ abbrev pub textWritten : List ℕ → List ℕ → ℕ → List ℕ → List ℕ
 textWritten j key n certificates out = take (exported j key n certificates out .length) (exportBuffer j key n certificates out)
 
 unfoldable pub hasText : TextPair → Bool
-hasText p = not (isEmpty (p .texts))
+hasText p = someOf (p .texts)
 
 -- "It reads back to the journal if every pair has a receipt": byte by byte, with the state that Take over gives, whatever output the text was written to, and read
 -- into every output that the journal fits
@@ -66,21 +66,21 @@ EmptyPairGets29 =
 -- the certificates of elements are those of groups, in BASE64
 pub data SameCertificates : List Element → List Group → Type 0 where
   nothing : SameCertificates [] []
-  also : {e : Element} {g : Group} {es : List Element} {gs : List Group} → e .certificate ≡ base64 (g .certificate) → e .issuers ≡ map base64 (g .issuers)
+  also : {e : Element} {g : Group} {es : List Element} {gs : List Group} → e .certificate ≡ inBase64 (g .certificate) → e .issuers ≡ map inBase64 (g .issuers)
       → SameCertificates es gs → SameCertificates (e ∷ es) (g ∷ gs)
 
 -- whatever text spells the elements: what is read of it and exported again, with the same certificates, is their text without blanks
 abbrev pub ReadIsExportedAgain : Type 0
 ReadIsExportedAgain =
     (text key : List ℕ) (n : ℕ) (out : List ℕ) (es : List Element) (gs : List Group) → Shape text es → restored text key n (length out) .number ≡ 0
-    → length out < 18446744073709551616 → every groupGood gs ≡ true → SameCertificates es gs → exportOf (journalOf es) (groupsText gs) ≡ some (exportText es)
+    → length out < 18446744073709551616 → every groupGood gs ≡ true → SameCertificates es gs → exportOf (journalOfElements es) (groupsText gs) ≡ some (exportText es)
 
 -- and so the same text, if it has no blanks and the order in which elements are written
 abbrev pub SameTextAgain : Type 0
 SameTextAgain =
     (text key : List ℕ) (n : ℕ) (out : List ℕ) (fs : List Element) (gs : List Group) → every plainElement fs ≡ true → text ≡ exportText fs
     → restored text key n (length out) .number ≡ 0 → length out < 18446744073709551616 → every groupGood gs ≡ true → SameCertificates fs gs
-    → exportOf (journalOf fs) (groupsText gs) ≡ some text
+    → exportOf (journalOfElements fs) (groupsText gs) ≡ some text
 
 -- ---- which texts are read
 
@@ -98,14 +98,14 @@ pub record ReadsAs (text key : List ℕ) (n room : ℕ) (es : List Element) : Ty
   pub good : every elementGood es ≡ true
   pub receipts : every hasReceipt es ≡ true
   pub names : every namesRegister es ≡ true
-  pub fits : length (journalOf es) ≤ room
-  pub taken : takeOver (journalOf es) key n .number ≡ 0
+  pub fits : length (journalOfElements es) ≤ room
+  pub taken : takeOver (journalOfElements es) key n .number ≡ 0
 
 -- exactly these texts are read, and what stands in the output is the journal that they spell
 pub record ReadExactly : Type 0 where
   pub only : (text key : List ℕ) (n : ℕ) (out : List ℕ) → restored text key n (length out) .number ≡ 0
-      → (es : List Element) × ReadsAs text key n (length out) es × (restoredBuffer text key n out ≡ overwrite out 0 (journalOf es))
-      × (restored text key n (length out) .length ≡ length (journalOf es)) × (restored text key n (length out) .state ≡ takeOver (journalOf es) key n .state)
+      → (es : List Element) × ReadsAs text key n (length out) es × (restoredBuffer text key n out ≡ overwrite out 0 (journalOfElements es))
+      × (restored text key n (length out) .length ≡ length (journalOfElements es)) × (restored text key n (length out) .state ≡ takeOver (journalOfElements es) key n .state)
   pub always : (text key : List ℕ) (n : ℕ) (out : List ℕ) (es : List Element) → ReadsAs text key n (length out) es
       → restored text key n (length out) .number ≡ 0
 
@@ -116,7 +116,7 @@ OtherTextsGet28 =
 
 -- an output as long as the text is always enough: the journal that a text spells is not longer, and with a longer output the answer is the same
 pub record TextIsRoomEnough : Type 0 where
-  pub fits : (text : List ℕ) (es : List Element) → Shape text es → (es ≡ [] → ⊥) → every namesRegister es ≡ true → length (journalOf es) ≤ length text
+  pub fits : (text : List ℕ) (es : List Element) → Shape text es → (es ≡ [] → ⊥) → every namesRegister es ≡ true → length (journalOfElements es) ≤ length text
   pub same : (text key : List ℕ) (n size : ℕ) → length text ≤ size → restored text key n size ≡ restored text key n (length text)
 
 -- ---- which numbers come

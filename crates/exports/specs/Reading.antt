@@ -1,6 +1,6 @@
 -- Reading an export: "It rebuilds the journal, with the head from the first receipt, and takes it over."
 use Prim.Native.Nat.{ℕ}
-use mathlib.Core.Bool.{Bool, true, false, cond, not, _&&_}
+use mathlib.Core.Bool.{Bool, _&&_}
 use mathlib.Core.List.{List, [], _∷_, map}
 use mathlib.Core.Option.{Option, none, some}
 use lib.Dec.{leb}
@@ -17,7 +17,7 @@ use Rattle.journal.specs.declared.state.TakenOver.{TakenOver}
 use Rattle.exports.specs.Text.{every}
 use Rattle.exports.specs.Shape.{Element}
 use Rattle.exports.specs.Parsed.{elementsOf}
-use Rattle.exports.specs.Spelled.{short, isEmpty, TextPair, journalSpelled}
+use Rattle.exports.specs.Spelled.{short, someOf, TextPair, journalSpelled}
 use Rattle.exports.specs.Naming.{named}
 use Rattle.exports.specs.declared.reading.Restored.{Restored}
 
@@ -34,7 +34,7 @@ elementGood e =
 
 -- 29: "an element without one gets 29"
 unfoldable pub hasReceipt : Element → Bool
-hasReceipt e = not (isEmpty (e .receipts))
+hasReceipt e = someOf (e .receipts)
 
 abbrev pub firstOf : List (List ℕ) → List ℕ
 firstOf [] = []
@@ -58,19 +58,19 @@ ownerOf (e ∷ es) = record { csp = settingsOf e .csp; id = settingsOf e .id }
 unfoldable pub pairOf : Element → TextPair
 pairOf e = record { serial = settingsOf e .serial; texts = e .receipts }
 
-unfoldable pub journalOf : List Element → List ℕ
-journalOf es = journalSpelled (ownerOf es) (map pairOf es)
+unfoldable pub journalOfElements : List Element → List ℕ
+journalOfElements es = journalSpelled (ownerOf es) (map pairOf es)
 
 -- ---- the questions: "each question before 23 goes through all elements first"
 
 -- 28 ("an empty outer array too"), 29, 28, and then the rest
 unfoldable pub surveyNumber : List Element → ℕ → ℕ
 surveyNumber es rest =
-    ask (not (isEmpty es) && every elementGood es) 28 (ask (every hasReceipt es) 29 (ask (every namesRegister es) 28 rest))
+    ask (someOf es && every elementGood es) 28 (ask (every hasReceipt es) 29 (ask (every namesRegister es) 28 rest))
 
 -- and 23
 unfoldable pub elementsNumber : List Element → ℕ → ℕ
-elementsNumber es room = surveyNumber es (ask (leb (length (journalOf es)) room) 23 0)
+elementsNumber es room = surveyNumber es (ask (leb (length (journalOfElements es)) room) 23 0)
 
 -- ---- the call
 
@@ -84,7 +84,7 @@ restoredFrom t n = ifZero (t .number) (record { number = 0; index = 0; length = 
 abbrev pub restoredBy : Option (List Element) → List ℕ → ℕ → ℕ → Restored
 restoredBy none key n room = notRead 28 0
 restoredBy (some es) key n room =
-    ifZero (elementsNumber es room) (restoredFrom (takeOver (journalOf es) key n) (length (journalOf es))) (notRead (elementsNumber es room) 0)
+    ifZero (elementsNumber es room) (restoredFrom (takeOver (journalOfElements es) key n) (length (journalOfElements es))) (notRead (elementsNumber es room) 0)
 
 -- the answer for a text, a key, a width and an output of this length
 unfoldable pub restored : List ℕ → List ℕ → ℕ → ℕ → Restored
@@ -92,7 +92,7 @@ restored text key n room = restoredBy (elementsOf text) key n room
 
 abbrev pub journalBy : Option (List Element) → List ℕ
 journalBy none = []
-journalBy (some es) = journalOf es
+journalBy (some es) = journalOfElements es
 
 -- the output after it
 unfoldable pub restoredBuffer : List ℕ → List ℕ → ℕ → List ℕ → List ℕ

@@ -3,30 +3,32 @@ use Prim.Native.Nat.{ℕ, _+_, _<_, _≤_}
 use mathlib.Core.Path.{_≡_}
 use mathlib.Core.Bool.{Bool, true, false, cond}
 use mathlib.Core.List.{List, [], _∷_, _++_, map}
-use lib.ListN.{length, take, drop}
+use lib.ListN.{length, drop}
 use Rattle.primitives.specs.Number.{countAt}
 use Rattle.primitives.specs.Aes.{keySchedule}
 use Rattle.primitives.specs.Questions.{ifZero}
 use Rattle.receipt.specs.Separated.{skip}
-use Rattle.receipt.specs.declared.settings.Settings.{Settings}
-use Rattle.journal.specs.State.{unopened}
 use Rattle.journal.specs.Head.{sectionEnd}
 use Rattle.journal.specs.Valid.{Owner}
-use Rattle.journal.specs.Checking.{entryChecked, serialChecked, settingsChecked}
+use Rattle.journal.specs.Checking.{lastAnswer, entryChecked, serialChecked, settingsChecked}
 use Rattle.journal.specs.declared.state.State.{State}
 use Rattle.journal.specs.declared.state.TakenOver.{TakenOver}
-use Rattle.exports.specs.Text.{every}
-use Rattle.exports.specs.Shape.{Element}
+use Rattle.journal.specs.declared.checking.Step.{Step}
+use Rattle.journal.specs.declared.checking.Checked.{Checked}
+use Rattle.exports.specs.Text.{Token, every}
+use Rattle.exports.specs.Shape.{Element, strings}
+use Rattle.exports.specs.Places.{from}
 use Rattle.exports.specs.Output.{Puts, start}
-use Rattle.exports.specs.Spelled.{short, isEmpty, sizedTexts, TextPair, pairSpelled, pairsSpelled}
+use Rattle.exports.specs.Spelled.{short, sizedTexts, TextPair, pairSpelled, pairsSpelled, GoodPair, GoodPairs}
 use Rattle.exports.specs.Groups.{Group, groupText, groupsText, groupGood}
-use Rattle.exports.specs.Naming.{named, notNamed, payloadNames, settingsIn}
-use Rattle.exports.specs.Reading.{firstOf, pairOf, ownerOf}
-use Rattle.exports.specs.Writing.{quoted, listed, base64, beforeCertificate, certificatesPart, receiptsPart, elementText, elementsFor, exportText}
+use Rattle.exports.specs.Naming.{named}
+use Rattle.exports.specs.Reading.{firstOf, pairOf}
+use Rattle.exports.specs.Writing.{comma, quoted, listed, inBase64, spelling, beforeCertificate, certificatesPart, receiptsPart, elementText, elementsFor, exportText}
 use Rattle.exports.specs.declared.naming.Named.{Named}
 use Rattle.exports.specs.declared.shape.Places.{Places}
 use Rattle.exports.specs.declared.output.End.{End}
-use Rattle.exports.specs.declared.retaking.Run.{Run}
+use Rattle.exports.specs.declared.retaking.Ran.{Ran}
+use Rattle.exports.specs.declared.rebuilding.Wrote.{Wrote}
 use Rattle.exports.specs.declared.writing.Copied.{Copied}
 
 -- ---- places
@@ -36,21 +38,12 @@ pub record PlacesInside (text : List ℕ) (e : Places) : Type 0 where
   pub issuers : e .issuers ≤ length text
   pub receipts : e .receipts ≤ length text
 
--- a list has an item
-unfoldable pub someOf : {A : Type 0} → List A → Bool
-someOf [] = false
-someOf (x ∷ xs) = true
-
 -- ---- naming
 
 -- r is the place after the first k "_" of a payload
 pub record PayloadPlace (p : List ℕ) (k r : ℕ) : Type 0 where
   pub inside : r ≤ length p
   pub is : drop r p ≡ skip k p
-
--- what a payload names
-unfoldable pub namedIn : List ℕ → Named
-namedIn p = cond (payloadNames p) (record { good = true; settings = settingsIn p }) notNamed
 
 -- what the first receipt of the first element names
 unfoldable pub ownerNamed : List Element → Named
@@ -68,73 +61,80 @@ pub record SmallNames (n : Named) : Type 0 where
 -- ---- taken over where it lies
 
 -- entries, up to the first that is refused: its number, and the state before it
-unfoldable pub runTexts : List (List ℕ) → State → List (List ℕ) → Run
+unfoldable pub runTexts : List (List ℕ) → State → List (List ℕ) → Step
 runTexts schedule st [] = record { number = 0; state = st }
 runTexts schedule st (w ∷ ws) =
     ifZero (entryChecked schedule st w .number) (runTexts schedule (entryChecked schedule st w .state) ws)
     (record { number = entryChecked schedule st w .number; state = st })
 
 -- a pair: its serial, except in the first one, whose serial is in the head; then its entries
-unfoldable pub runPair : List (List ℕ) → Bool → State → TextPair → Run
+unfoldable pub runPair : List (List ℕ) → Bool → State → TextPair → Step
 runPair schedule first st p =
     cond first (runTexts schedule st (p .texts))
     (ifZero (serialChecked st (p .serial) .number) (runTexts schedule (serialChecked st (p .serial) .state) (p .texts))
     (record { number = serialChecked st (p .serial) .number; state = st }))
 
-unfoldable pub runPairs : List (List ℕ) → Bool → State → List TextPair → Run
+unfoldable pub runPairs : List (List ℕ) → Bool → State → List TextPair → Step
 runPairs schedule first st [] = record { number = 0; state = st }
 runPairs schedule first st (p ∷ ps) =
     ifZero (runPair schedule first st p .number) (runPairs schedule false (runPair schedule first st p .state) ps) (runPair schedule first st p)
 
-abbrev pub elementsRun : List (List ℕ) → State → List Element → Run
+abbrev pub elementsRun : List (List ℕ) → State → List Element → Step
 elementsRun schedule st es = runPairs schedule true st (map pairOf es)
-
-unfoldable pub runAnswer : Run → TakenOver
-runAnswer r =
-    ifZero (r .number) (record { number = 0; index = 0; state = r .state })
-    (record { number = r .number; index = r .state .issued; state = unopened })
 
 unfoldable pub runJournal : List Element → List ℕ → ℕ → TakenOver
 runJournal es key n =
     ifZero (settingsChecked (ownerNamed es .settings) key n .number)
-    (runAnswer (elementsRun (keySchedule key) (settingsChecked (ownerNamed es .settings) key n .state) es))
+    (lastAnswer (elementsRun (keySchedule key) (settingsChecked (ownerNamed es .settings) key n .state) es))
     (settingsChecked (ownerNamed es .settings) key n)
 
--- ---- pairs whose lengths and counts fit their bytes
+-- what a run answered
+abbrev pub stepOf : Ran → Step
+stepOf r = record { number = r .number; state = r .state }
 
-pub record PairFits (x : TextPair) : Type 0 where
-  pub serial : length (Rattle.receipt.specs.Settings.nameText (x .serial)) < 4294967296
-  pub few : length (x .texts) < 4294967296
-  pub short : every short (x .texts) ≡ true
+-- a run over the strings of the array at a place; if none is refused, `next` is the place after the array
+pub record TextsRan (schedule : List (List ℕ)) (st : State) (text : List ℕ) (at : ℕ) (r : Ran) : Type 0 where
+  pub inside : r .next ≤ length text
+  pub is : (ws : List (List ℕ)) (rest : List Token) → from text at ≡ strings ws ++ rest
+      → (stepOf r ≡ runTexts schedule st ws) × (r .number ≡ 0 → (at < r .next) × (from text (r .next) ≡ rest))
 
-pub data AllFit : List TextPair → Type 0 where
-  nothing : AllFit []
-  also : {p : TextPair} {ps : List TextPair} → PairFits p → AllFit ps → AllFit (p ∷ ps)
+-- the serial of the receipts at a place, as the start of a pair
+pub record PairStarted (st : State) (text : List ℕ) (at : ℕ) (r : Checked) : Type 0 where
+  pub is : (x : Element) (rest : List Token) → from text at ≡ strings (x .receipts) ++ rest → r ≡ serialChecked st (pairOf x .serial)
+
+-- ---- the journal written
+
+-- the strings of the array at a place as entries, their count, and the place after the array
+pub record EntriesWritten (text : List ℕ) (at : ℕ) (out out′ : List ℕ) (p : End) (r : Wrote) : Type 0 where
+  pub inside : r .next ≤ length text
+  pub long : length out′ ≡ length out
+  pub is : (ws : List (List ℕ)) (rest : List Token) → from text at ≡ strings ws ++ rest
+      → (Puts false out out′ p (r .end) (sizedTexts ws)) × (r .count ≡ length ws) × (at < r .next) × (from text (r .next) ≡ rest)
+
+-- the pair of the receipts at a place
+pub record PairWritten (text : List ℕ) (at : ℕ) (out out′ : List ℕ) (p : End) (r : Wrote) : Type 0 where
+  pub inside : r .next ≤ length text
+  pub long : length out′ ≡ length out
+  pub is : (x : Element) (rest : List Token) → from text at ≡ strings (x .receipts) ++ rest
+      → (Puts false out out′ p (r .end) (pairSpelled (pairOf x))) × (at < r .next) × (from text (r .next) ≡ rest)
 
 -- ---- written: what stands at a place of the journal or of the groups is copied
 
-abbrev pub comma : Bool → List ℕ
-comma more = cond more (44 ∷ []) []
-
-pub record ReceiptsPut (dry : Bool) (j : List ℕ) (at count : ℕ) (out out′ : List ℕ) (p : End) (r : Copied) : Type 0 where
-  pub long : length out′ ≡ length out
-  pub is : (ws : List (List ℕ)) (rest : List ℕ) → every short ws ≡ true → count ≡ length ws → drop at j ≡ sizedTexts ws ++ rest
-      → Puts dry out out′ p (r .end) (listed quoted false ws) × (drop (r .at) j ≡ rest)
-
-pub record IssuersPut (dry : Bool) (s : List ℕ) (at count : ℕ) (out out′ : List ℕ) (p : End) (r : Copied) : Type 0 where
+-- so many strings from a place on, in BASE64 if they are coded
+pub record StringsPut (dry coded : Bool) (s : List ℕ) (at count : ℕ) (out out′ : List ℕ) (p : End) (r : Copied) : Type 0 where
   pub long : length out′ ≡ length out
   pub is : (ws : List (List ℕ)) (rest : List ℕ) → every short ws ≡ true → count ≡ length ws → drop at s ≡ sizedTexts ws ++ rest
-      → Puts dry out out′ p (r .end) (listed quoted false (map base64 ws)) × (drop (r .at) s ≡ rest)
+      → Puts dry out out′ p (r .end) (listed quoted false (map (spelling coded) ws)) × (drop (r .at) s ≡ rest)
 
 pub record SigningPut (dry more : Bool) (s : List ℕ) (at : ℕ) (out out′ : List ℕ) (p : End) (r : Copied) : Type 0 where
   pub long : length out′ ≡ length out
   pub is : (c rest : List ℕ) → short c ≡ true → drop at s ≡ Rattle.journal.specs.Head.entryText c ++ rest
-      → Puts dry out out′ p (r .end) (comma more ++ (beforeCertificate ++ quoted (base64 c))) × (drop (r .at) s ≡ rest)
+      → Puts dry out out′ p (r .end) (comma more ++ (beforeCertificate ++ quoted (inBase64 c))) × (drop (r .at) s ≡ rest)
 
 pub record GroupPut (dry more : Bool) (s : List ℕ) (at : ℕ) (out out′ : List ℕ) (p : End) (r : Copied) : Type 0 where
   pub long : length out′ ≡ length out
   pub is : (g : Group) (rest : List ℕ) → groupGood g ≡ true → drop at s ≡ groupText g ++ rest
-      → Puts dry out out′ p (r .end) (comma more ++ certificatesPart (base64 (g .certificate)) (map base64 (g .issuers))) × (drop (r .at) s ≡ rest)
+      → Puts dry out out′ p (r .end) (comma more ++ certificatesPart (inBase64 (g .certificate)) (map inBase64 (g .issuers))) × (drop (r .at) s ≡ rest)
 
 -- the number in four bytes that are there
 pub record FourRead (j : List ℕ) (at r : ℕ) : Type 0 where
@@ -147,15 +147,15 @@ pub record SectionRead (j : List ℕ) (at r : ℕ) : Type 0 where
 
 pub record PairPut (dry : Bool) (j : List ℕ) (at : ℕ) (out out′ : List ℕ) (p : End) (r : Copied) : Type 0 where
   pub long : length out′ ≡ length out
-  pub is : (x : TextPair) (rest : List ℕ) → PairFits x → drop at j ≡ pairSpelled x ++ rest
+  pub is : (x : TextPair) (rest : List ℕ) → GoodPair x → drop at j ≡ pairSpelled x ++ rest
       → Puts dry out out′ p (r .end) (receiptsPart (x .texts)) × (drop (r .at) j ≡ rest)
 
 pub record ElementsPut (dry : Bool) (j : List ℕ) (at : ℕ) (s : List ℕ) (k : ℕ) (out out′ : List ℕ) (p r : End) : Type 0 where
   pub long : length out′ ≡ length out
-  pub is : (ps : List TextPair) (gs : List Group) → AllFit ps → every groupGood gs ≡ true → length ps ≡ k → length gs ≡ k
+  pub is : (ps : List TextPair) (gs : List Group) → GoodPairs ps → every groupGood gs ≡ true → length ps ≡ k → length gs ≡ k
       → drop at j ≡ pairsSpelled ps → s ≡ groupsText gs → Puts dry out out′ p r (listed elementText false (elementsFor ps gs))
 
 pub record ExportPut (dry : Bool) (j s : List ℕ) (k : ℕ) (out out′ : List ℕ) (r : End) : Type 0 where
   pub long : length out′ ≡ length out
-  pub is : (ps : List TextPair) (gs : List Group) → AllFit ps → every groupGood gs ≡ true → length ps ≡ k → length gs ≡ k
+  pub is : (ps : List TextPair) (gs : List Group) → GoodPairs ps → every groupGood gs ≡ true → length ps ≡ k → length gs ≡ k
       → sectionEnd j 7 ≤ length j → drop (sectionEnd j 7) j ≡ pairsSpelled ps → s ≡ groupsText gs → Puts dry out out′ start r (exportText (elementsFor ps gs))

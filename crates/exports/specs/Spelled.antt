@@ -1,13 +1,16 @@
 -- Journals by their parts: the texts of each pair, whatever they are.
-use Prim.Native.Nat.{ℕ, zero, suc, _+_}
-use mathlib.Core.Bool.{Bool, true, false, cond}
+use Prim.Native.Nat.{ℕ, zero, suc, _+_, _<_}
+use mathlib.Core.Path.{_≡_}
+use mathlib.Core.Bool.{Bool, true, false, cond, not}
 use mathlib.Core.List.{List, [], _∷_, _++_}
-use lib.Dec.{leb, eqb}
+use lib.Dec.{leb}
 use lib.ListN.{length, drop}
 use Rattle.primitives.specs.Number.{countAt}
+use Rattle.receipt.specs.Settings.{serialGood}
 use Rattle.receipt.specs.declared.settings.Name.{Name}
 use Rattle.journal.specs.Head.{pairStart, sectionEnd, serialAt, serialPlace, entryText, lengthAt, textAt}
 use Rattle.journal.specs.Valid.{Owner, ownerText}
+use Rattle.exports.specs.Text.{every}
 
 -- ---- texts, each after its length in two bytes: entries of a journal, and certificates of a group
 
@@ -45,11 +48,27 @@ pairsSpelled (p ∷ ps) = pairSpelled p ++ pairsSpelled ps
 unfoldable pub journalSpelled : Owner → List TextPair → List ℕ
 journalSpelled o ps = ownerText o ++ pairsSpelled ps
 
+-- ---- pairs that a journal can have
+
+-- a good serial, texts whose lengths fit two bytes, and not more of them than four bytes can count
+pub record GoodPair (p : TextPair) : Type 0 where
+  pub long : length (p .serial .bytes) ≡ 32
+  pub good : serialGood (p .serial) ≡ true
+  pub short : every short (p .texts) ≡ true
+  pub few : length (p .texts) < 4294967296
+
+pub data GoodPairs : List TextPair → Type 0 where
+  nothing : GoodPairs []
+  also : {p : TextPair} {ps : List TextPair} → GoodPair p → GoodPairs ps → GoodPairs (p ∷ ps)
+
 -- ---- the pairs of a journal
 
 abbrev pub isEmpty : {A : Type 0} → List A → Bool
 isEmpty [] = true
 isEmpty (x ∷ xs) = false
+
+abbrev pub someOf : {A : Type 0} → List A → Bool
+someOf xs = not (isEmpty xs)
 
 -- the pair at the start of a buffer: its serial, its count and its texts
 unfoldable pub pairIn : List ℕ → TextPair

@@ -2,31 +2,19 @@
 use Prim.Native.Nat.{ℕ, _<_}
 use mathlib.Core.Path.{_≡_}
 use mathlib.Core.Bool.{true, cond}
-use mathlib.Core.List.{List, [], _∷_}
+use mathlib.Core.List.{List, _∷_}
 use lib.ListN.{length}
 use Rattle.primitives.specs.Counter.{widthGood}
 use Rattle.primitives.specs.Aes.{keySchedule}
-use Rattle.receipt.specs.Settings.{cspGood, idGood, serialGood}
+use Rattle.receipt.specs.Settings.{cspGood, idGood}
 use Rattle.journal.specs.Step.{fresh}
 use Rattle.journal.specs.Valid.{Owner, settingsFor}
-use Rattle.journal.specs.Checking.{refused, takeOver}
+use Rattle.journal.specs.Checking.{refused, lastAnswer, takeOver}
 use Rattle.journal.specs.declared.state.TakenOver.{TakenOver}
-use Rattle.exports.specs.Text.{every}
-use Rattle.exports.specs.Spelled.{short, TextPair, journalSpelled}
-use Rattle.exports.specs.Running.{runPairs, runAnswer}
+use Rattle.exports.specs.Spelled.{TextPair, GoodPairs, journalSpelled}
+use Rattle.exports.specs.Running.{runPairs}
 
 -- ---- parts that a journal can have
-
--- a good serial, texts whose lengths fit two bytes, and not more of them than four bytes can count
-pub record GoodPair (p : TextPair) : Type 0 where
-  pub long : length (p .serial .bytes) ≡ 32
-  pub good : serialGood (p .serial) ≡ true
-  pub short : every short (p .texts) ≡ true
-  pub few : length (p .texts) < 4294967296
-
-pub data GoodPairs : List TextPair → Type 0 where
-  nothing : GoodPairs []
-  also : {p : TextPair} {ps : List TextPair} → GoodPair p → GoodPairs ps → GoodPairs (p ∷ ps)
 
 -- good CSP and ID, good pairs, and a journal whose length fits 64 bits
 pub record GoodParts (o : Owner) (ps : List TextPair) : Type 0 where
@@ -42,7 +30,7 @@ pub record GoodParts (o : Owner) (ps : List TextPair) : Type 0 where
 -- 4; then each text as an entry and each later serial as the start of a pair, up to the first that is refused
 unfoldable pub partsTaken : Owner → TextPair → List TextPair → List ℕ → ℕ → TakenOver
 partsTaken o p ps key n =
-    cond (widthGood n) (runAnswer (runPairs (keySchedule key) true (fresh (settingsFor o (p .serial)) n key) (p ∷ ps))) (refused 4 0)
+    cond (widthGood n) (lastAnswer (runPairs (keySchedule key) true (fresh (settingsFor o (p .serial)) n key) (p ∷ ps))) (refused 4 0)
 
 -- Number, index and state are those of Take over on the journal that the parts spell, whether or not it is written; for every key and every width, good or
 -- not, and whatever the texts are.

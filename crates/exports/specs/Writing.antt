@@ -3,7 +3,7 @@
 use Prim.Native.Nat.{ℕ}
 use mathlib.Core.Bool.{Bool, true, false, cond}
 use mathlib.Core.List.{List, [], _∷_, _++_, map}
-use mathlib.Core.Option.{Option, none, some, Option·map}
+use mathlib.Core.Option.{Option, Option·map}
 use lib.ListN.{length}
 use Rattle.primitives.specs.Text.{ascii}
 use Rattle.primitives.specs.Answers.{answerWith, bufferWith}
@@ -23,11 +23,15 @@ use Rattle.exports.specs.declared.writing.Exported.{Exported}
 unfoldable pub quoted : List ℕ → List ℕ
 quoted w = 34 ∷ (w ++ (34 ∷ []))
 
+-- a "," if other items precede
+abbrev pub comma : Bool → List ℕ
+comma more = cond more (44 ∷ []) []
+
 -- items with "," between them, and one before the first if other items precede it
 module _ {A : Type 0} (item : A → List ℕ) where
   unfoldable pub listed : Bool → List A → List ℕ
   listed more [] = []
-  listed more (x ∷ xs) = cond more (44 ∷ []) [] ++ (item x ++ listed true xs)
+  listed more (x ∷ xs) = comma more ++ (item x ++ listed true xs)
 
 unfoldable pub opening : List ℕ
 unfolding ascii
@@ -66,12 +70,16 @@ exportText es = opening ++ (listed elementText false es ++ ending)
 
 -- ---- the elements of a journal
 
-abbrev pub base64 : List ℕ → List ℕ
-base64 xs = encoding Standard xs
+abbrev pub inBase64 : List ℕ → List ℕ
+inBase64 xs = encoding Standard xs
+
+-- what is written of a string: BASE64 of it, if it is coded
+unfoldable pub spelling : Bool → List ℕ → List ℕ
+spelling coded w = cond coded (inBase64 w) w
 
 -- "Certificates .. leave in BASE64."
 unfoldable pub elementFor : TextPair → Group → Element
-elementFor p g = record { certificate = base64 (g .certificate); issuers = map base64 (g .issuers); receipts = p .texts }
+elementFor p g = record { certificate = inBase64 (g .certificate); issuers = map inBase64 (g .issuers); receipts = p .texts }
 
 -- "one array element and one group a pair"
 unfoldable pub elementsFor : List TextPair → List Group → List Element

@@ -17,7 +17,7 @@ ghost use Rattle.exports.specs.Lexer.{content};
 ghost use Rattle.exports.specs.Shape.{string, strings};
 ghost use Rattle.exports.specs.Places.{from, LettersAt};
 ghost use Rattle.exports.specs.Reading.{canonical};
-ghost use Rattle.exports.specs.Passing.{QuadRead, quadGood, SizedRead, GroupRead, GroupsThere};
+ghost use Rattle.exports.specs.Passing.{QuadRead, SizedRead, GroupRead, GroupsThere};
 
 // ---- in strings
 
@@ -57,7 +57,7 @@ pub(crate) fn quad_at(text: &[u8], at: usize) -> Quad
 
 // Four letters are canonical BASE64 by themselves.
 pub(crate) fn quad_good(bytes: [u8; 4]) -> bool
-    ensures { λ r. ⌜ r ≡ quadGood bytes ⌝ }
+    ensures { λ r. ⌜ r ≡ canonical bytes ⌝ }
 {
     let mut three = [0u8; 3];
     match primitives::base64_decode(Alphabet::Standard, &bytes, &mut three, 0) {

@@ -6,13 +6,20 @@ ghost use Rattle.primitives.specs.Bytes.{same};
 ghost use lib.ListN.{length, drop};
 ghost use Rattle.exports.specs.Text.{blank, isMark, plain};
 ghost use Rattle.exports.specs.Lexer.{content};
-ghost use Rattle.exports.specs.Places.{Skipped, Stopped, EscapeAt, Closed, Next, bare};
+ghost use Rattle.exports.specs.Places.{Skipped, Stopped, EscapeAt, notClosed, Closed, atEnd, Next, bare};
 
 // A token: its kind is 0 at the end, 1 for a wrong byte, 34 for a string, or the mark itself.
-// The letters of a string begin at `start`; `next` is the place after the token.
+// The letters of a string begin at `start`, and `length` is how many bytes it spells; `next` is the place after the token.
 pub struct Found {
     pub kind: u8,
     pub start: usize,
+    pub length: usize,
+    pub next: usize,
+}
+
+// How many bytes a string spells, and the place after the quote that closes it; that place is 0 where the string is wrong or not closed.
+pub struct Close {
+    pub length: usize,
     pub next: usize,
 }
 
@@ -122,22 +129,47 @@ pub(crate) fn escape_at(text: &[u8], at: usize) -> bool
     text[at + 5] == 100
 }
 
-// The place after the quote that closes a string; 0 where the string is no good one.
-pub(crate) fn string_end(text: &[u8], start: usize) -> usize
+// Where a string is wrong or not closed.
+fn not_closed() -> Close
+    ensures { λ r. ⌜ r ≡ notClosed ⌝ }
+{
+    Close { length: 0, next: 0 }
+}
+
+// The end of a string whose letters begin at `start`.
+pub(crate) fn string_end(text: &[u8], start: usize) -> Close
     requires { ⌜ start ≤ length (now text) ⌝ }
     ensures { λ r. ⌜ Closed (now (text .entry)) start r ⌝ }
 {
     let mut i = plain_end(text, start);
+    let mut n = i - start;
     while i < text.len() {
         if text[i] == 34 {
-            return i + 1;
+            return Close {
+                length: n,
+                next: i + 1,
+            };
         }
         if !escape_at(text, i) {
-            return 0;
+            return not_closed();
         }
-        i = plain_end(text, i + 6);
+        let e = i + 6;
+        i = plain_end(text, e);
+        n = n + 1 + (i - e);
     }
-    0
+    not_closed()
+}
+
+// At the end of the tokens, or at a wrong byte: the place is the end of the text.
+fn at_end(kind: u8, n: usize) -> Found
+    ensures { λ r. ⌜ r ≡ atEnd kind n ⌝ }
+{
+    Found {
+        kind,
+        start: n,
+        length: 0,
+        next: n,
+    }
 }
 
 pub(crate) fn next(text: &[u8], at: usize) -> Found
@@ -147,40 +179,30 @@ pub(crate) fn next(text: &[u8], at: usize) -> Found
     let n = text.len();
     let p = skip_blanks(text, at);
     if p == n {
-        return Found {
-            kind: 0,
-            start: n,
-            next: n,
-        };
+        return at_end(0, n);
     }
     let b = text[p];
     if b == 34 {
         let e = string_end(text, p + 1);
-        if e == 0 {
-            return Found {
-                kind: 1,
-                start: n,
-                next: n,
-            };
+        if e.next == 0 {
+            return at_end(1, n);
         }
         return Found {
             kind: 34,
             start: p + 1,
-            next: e,
+            length: e.length,
+            next: e.next,
         };
     }
     if is_mark(b) {
         return Found {
             kind: b,
             start: p,
+            length: 0,
             next: p + 1,
         };
     }
-    Found {
-        kind: 1,
-        start: n,
-        next: n,
-    }
+    at_end(1, n)
 }
 
 // A string, whose letters begin at a place, spells a name.

@@ -5,18 +5,18 @@ use receipt::Name;
 use receipt::Settings;
 ghost use mathlib.Core.Path.{_≡_};
 ghost use mathlib.Core.Bool.{true};
+ghost use mathlib.Core.Option.{some};
 ghost use Prim.Native.Nat.{_≤_, _<_};
-ghost use lib.ListN.{length, take, drop, getD};
+ghost use lib.ListN.{length, getD};
 ghost use Rattle.primitives.specs.Bytes.{same};
 ghost use Rattle.primitives.specs.Base64.{accepted, bytes};
 ghost use Rattle.primitives.specs.declared.base64.Alphabet.the-variants.{UrlSafe};
-ghost use Rattle.receipt.specs.Texts.{separator, dot, beginning};
+ghost use Rattle.receipt.specs.Texts.{separator, dot};
 ghost use Rattle.receipt.specs.Form.{nextAt, part};
 ghost use Rattle.receipt.specs.Line.{countOf};
-ghost use Rattle.receipt.specs.Separated.{skip};
 ghost use Rattle.receipt.specs.Settings.{nameOf};
-ghost use Rattle.exports.specs.Naming.{fieldOf, notNamed, named};
-ghost use Rattle.exports.specs.Running.{PayloadPlace, namedIn};
+ghost use Rattle.exports.specs.Naming.{fieldOf, notNamed, namedBy, named};
+ghost use Rattle.exports.specs.Running.{PayloadPlace};
 
 pub struct Named {
     pub good: bool,
@@ -162,7 +162,7 @@ pub(crate) fn field_name(m: &[u8], k: usize) -> Name
 // The settings that a payload names; its first field is six bytes long and begins with "R1-", and there are twelve.
 pub(crate) fn named_by(m: &[u8]) -> Named
     requires { ⌜ accepted UrlSafe (now m) ≡ true ⌝ }
-    ensures { λ r. ⌜ r ≡ namedIn (bytes UrlSafe (now (m .entry))) ⌝ }
+    ensures { λ r. ⌜ r ≡ namedBy (some (bytes UrlSafe (now (m .entry)))) ⌝ }
 {
     let first = field_name(m, 1);
     let start = first.bytes;

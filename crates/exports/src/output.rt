@@ -1,10 +1,9 @@
-// Writing to an output in two runs: the first only measures, the second writes. A run is dry if it only measures.
+// Writing to an output, or measuring what would be written. A run is dry if it only measures.
 use primitives::Alphabet;
 use receipt::has_room;
 ghost use mathlib.Core.Path.{_≡_};
-ghost use mathlib.Core.List.{List};
+ghost use mathlib.Core.Bool.{false};
 ghost use Prim.Native.Nat.{ℕ, _≤_};
-ghost use lib.ListN.{length, drop, take};
 ghost use Rattle.primitives.specs.Number.{bytesOf};
 ghost use Rattle.primitives.specs.Base64.{encoding};
 ghost use Rattle.primitives.specs.declared.base64.Alphabet.the-variants.{Standard};
@@ -55,14 +54,11 @@ pub(crate) fn put_bytes(dry: bool, s: &[u8], out: &mut [u8], p: End) -> End
 }
 
 // Writes the n low bytes of a number, the highest first.
-pub(crate) fn put_count(dry: bool, n: usize, x: usize, out: &mut [u8], p: End) -> End
-    ensures { λ r. ⌜ Puts dry (now (out .entry)) (now (out .exit)) p r (bytesOf n x) ⌝ }
+pub(crate) fn put_count(n: usize, x: usize, out: &mut [u8], p: End) -> End
+    ensures { λ r. ⌜ Puts false (now (out .entry)) (now (out .exit)) p r (bytesOf n x) ⌝ }
 {
     let at = p.at;
     let q = moved(out.len(), p, n);
-    if dry {
-        return q;
-    }
     if q.fits {
         let _ = receipt::put_number(out, at, n, x as u64);
     }

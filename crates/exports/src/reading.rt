@@ -2,7 +2,8 @@
 use super::rebuilding::put_journal;
 use super::retaking::retake;
 use super::shape::has_shape;
-use super::survey::survey_number;
+use super::survey::owner_named;
+use super::survey::survey_text;
 use journal::State;
 use journal::unopened;
 ghost use mathlib.Core.Path.{_≡_};
@@ -36,24 +37,21 @@ pub fn read_export(text: &[u8], key: [u8; 32], n: usize, out: &mut [u8]) -> Rest
     if !has_shape(text) {
         return not_read(28, 0);
     }
-    let number = survey_number(text);
-    if number != 0 {
-        return not_read(number, 0);
+    let owner = owner_named(text);
+    let s = survey_text(text, owner, out.len());
+    if s.number != 0 {
+        return not_read(s.number, 0);
     }
-    let end = put_journal(true, text, out);
-    if !end.fits {
-        return not_read(23, 0);
-    }
-    let t = retake(text, key, n);
+    let t = retake(text, owner, key, n);
     if t.number != 0 {
         return not_read(t.number, t.index);
     }
+    let _ = put_journal(text, owner, out);
     let state = t.state;
-    let _ = put_journal(false, text, out);
     Restored {
         number: 0,
         index: 0,
-        length: end.at,
+        length: s.length,
         state: state,
     }
 }

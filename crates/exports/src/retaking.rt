@@ -1,154 +1,133 @@
 // The journal that an export spells, taken over where its receipts lie: it is not written for that.
 use super::naming::Named;
-use super::rebuilding::owner_named;
-use super::shape::Places;
-use super::shape::element;
+use super::shape::element_end;
+use super::shape::receipts_place;
 use super::strings::group_place;
 use super::strings::part_at;
 use super::survey::first_named;
 use super::walk::begin;
 use super::walk::follow;
+use journal::Checked;
 use journal::State;
+use journal::Step;
 use journal::TakenOver;
-use journal::unopened;
 ghost use mathlib.Core.Path.{_≡_};
-ghost use mathlib.Core.Bool.{Bool};
-ghost use mathlib.Core.List.{List, _++_};
-ghost use Prim.Native.Nat.{ℕ, _≤_};
+ghost use mathlib.Core.List.{List};
+ghost use Prim.Native.Nat.{_≤_};
 ghost use lib.ListN.{length};
-ghost use Rattle.exports.specs.Text.{Token};
-ghost use Rattle.exports.specs.Shape.{Element, Shape, strings};
-ghost use Rattle.exports.specs.Places.{from, Placed};
-ghost use Rattle.exports.specs.Reading.{pairOf};
-ghost use Rattle.exports.specs.Running.{PlacesInside, runTexts, runPair, runPairs, runJournal, runAnswer, elementsRun};
+ghost use Rattle.exports.specs.Shape.{Element, Shape};
+ghost use Rattle.exports.specs.Running.{TextsRan, PairStarted, elementsRun, ownerNamed, runJournal};
 
-// The number of a refused step and the state before it; or 0 and the state after the last step.
-pub(crate) struct Run {
+// The number of a refused step and the state before it; or 0, the state after the last step, and the place after the array. The place is 0 where not all of it was read.
+pub(crate) struct Ran {
     pub(crate) number: u32,
     pub(crate) state: State,
+    pub(crate) next: usize,
 }
 
 // The strings of an array, each as an entry, up to the first that is refused.
-pub(crate) fn run_texts(schedule: &[[u8; 4]; 60], start: State, text: &[u8], at: usize) -> Run
+pub(crate) fn run_texts(schedule: &[[u8; 4]; 60], start: State, text: &[u8], at: usize) -> Ran
     requires { ⌜ at ≤ length (now text) ⌝ }
-    ensures { λ r. ⌜ ((ws : List (List ℕ)) (rest : List Token) → from (now (text .entry)) at ≡ strings ws ++ rest → r ≡ runTexts (now (schedule .entry)) start ws) ⌝ }
+    ensures { λ r. ⌜ TextsRan (now (schedule .entry)) start (now (text .entry)) at r ⌝ }
 {
     let mut st = start;
     let mut c = begin(text, at);
     while c.more {
         let p = part_at(text, c.at);
         let next = p.next;
+        // no string stands here, which the shape rules out
         if next == 0 {
-            return Run {
+            return Ran {
                 number: 0,
                 state: st,
+                next: 0,
             };
         }
         let a = p.start;
         let e = a + p.length;
         let s = journal::check_entry(schedule, st, &text[a..e]);
         if s.number != 0 {
-            return Run {
+            return Ran {
                 number: s.number,
                 state: st,
+                next: 0,
             };
         }
         st = s.state;
         c = follow(text, next);
     }
-    Run {
+    Ran {
         number: 0,
         state: st,
+        next: c.at,
     }
 }
 
-// One element: its serial, except in the first one, whose serial is in the head; then its receipts.
-pub(crate) fn run_pair(
-    schedule: &[[u8; 4]; 60],
-    first: bool,
-    st: State,
-    text: &[u8],
-    e: Places,
-) -> Run
-    requires { ⌜ PlacesInside (now text) e ⌝ }
-    ensures { λ r. ⌜ ((x : Element) → Placed (now (text .entry)) e x → r ≡ runPair (now (schedule .entry)) first st (pairOf x)) ⌝ }
+// The serial that the first of the receipts at a place names, as the start of a pair.
+pub(crate) fn start_pair(st: State, text: &[u8], at: usize) -> Checked
+    requires { ⌜ at ≤ length (now text) ⌝ }
+    ensures { λ r. ⌜ PairStarted st (now (text .entry)) at r ⌝ }
 {
-    let at = e.receipts;
-    if first {
-        return run_texts(schedule, st, text, at);
-    }
     let n = first_named(text, at);
     let settings = n.settings;
     let serial = settings.serial;
-    let s = journal::check_serial(st, serial);
-    if s.number != 0 {
-        return Run {
-            number: s.number,
-            state: st,
-        };
-    }
-    let after = s.state;
-    run_texts(schedule, after, text, at)
+    journal::check_serial(st, serial)
 }
 
-// All elements, up to the first that is refused.
-pub(crate) fn run_pairs(schedule: &[[u8; 4]; 60], start: State, text: &[u8]) -> Run
+// All elements, up to the first step that is refused: the serial, except in the first element, whose serial is in the head; then the receipts.
+pub(crate) fn run_pairs(schedule: &[[u8; 4]; 60], start: State, text: &[u8]) -> Step
     ensures { λ r. ⌜ ((es : List Element) → Shape (now (text .entry)) es → r ≡ elementsRun (now (schedule .entry)) start es) ⌝ }
 {
     let mut st = start;
-    let mut first = true;
+    let mut later = false;
     let mut c = begin(text, group_place(text));
     while c.more {
-        let e = element(text, c.at);
-        let next = e.next;
-        if next == 0 {
-            return Run {
+        let at = receipts_place(text, c.at);
+        if later {
+            let s = start_pair(st, text, at);
+            if s.number != 0 {
+                return Step {
+                    number: s.number,
+                    state: st,
+                };
+            }
+            st = s.state;
+        }
+        let r = run_texts(schedule, st, text, at);
+        st = r.state;
+        if r.number != 0 {
+            return Step {
+                number: r.number,
+                state: st,
+            };
+        }
+        later = true;
+        let e = element_end(text, r.next);
+        // no element stood here, which the shape rules out
+        if e <= c.at {
+            return Step {
                 number: 0,
                 state: st,
             };
         }
-        let r = run_pair(schedule, first, st, text, e);
-        if r.number != 0 {
-            return r;
-        }
-        st = r.state;
-        first = false;
-        c = follow(text, next);
+        c = follow(text, e);
     }
-    Run {
+    Step {
         number: 0,
         state: st,
     }
 }
 
-fn run_answer(r: Run) -> TakenOver
-    ensures { λ t. ⌜ t ≡ runAnswer r ⌝ }
+// The state after the journal that a text spells, where `owner` is what its first receipt names; or the number of the first question answered no, the receipts before it
+// and the unopened state.
+pub(crate) fn retake(text: &[u8], owner: Named, key: [u8; 32], n: usize) -> TakenOver
+    ensures { λ r. ⌜ ((es : List Element) → Shape (now (text .entry)) es → owner ≡ ownerNamed es → r ≡ runJournal es key n) ⌝ }
 {
-    let st = r.state;
-    if r.number != 0 {
-        return TakenOver {
-            number: r.number,
-            index: st.issued,
-            state: unopened(),
-        };
-    }
-    TakenOver {
-        number: 0,
-        index: 0,
-        state: st,
-    }
-}
-
-// The state after the journal that a text spells; or the number of the first question answered no, the receipts before it and the unopened state.
-pub(crate) fn retake(text: &[u8], key: [u8; 32], n: usize) -> TakenOver
-    ensures { λ r. ⌜ ((es : List Element) → Shape (now (text .entry)) es → r ≡ runJournal es key n) ⌝ }
-{
-    let named = owner_named(text);
-    let settings = named.settings;
+    let settings = owner.settings;
     let first = journal::check_settings(settings, key, n);
     if first.number != 0 {
         return first;
     }
     let schedule = receipt::counter_key(key);
-    run_answer(run_pairs(&schedule, first.state, text))
+    journal::last_answer(run_pairs(&schedule, first.state, text))
 }

@@ -1,5 +1,6 @@
 // Members, elements and the whole text.
 use super::lexer::next;
+use super::walk::Key;
 use super::walk::begin;
 use super::walk::expect;
 use super::walk::follow;
@@ -9,10 +10,11 @@ use super::walk::strings;
 ghost use mathlib.Core.Path.{_≡_};
 ghost use mathlib.Core.Bool.{true};
 ghost use mathlib.Core.Logic.{_↔_};
-ghost use Prim.Native.Nat.{_≤_, _<_};
+ghost use Prim.Native.Nat.{_≤_};
 ghost use lib.ListN.{length};
+ghost use Rattle.exports.specs.Text.{isMark};
 ghost use Rattle.exports.specs.Shape.{array, written, Shaped};
-ghost use Rattle.exports.specs.Places.{Reads, ValueRead, MemberRead, noValue, placeOf, noPlaces, placesOf, ElementRead};
+ghost use Rattle.exports.specs.Places.{Reads, ValueRead, MemberKeyed, MemberRead, noValue, placeOf, noPlaces, placesOf, ElementRead, ReceiptsFound, ElementEnded};
 
 // A member: its name's number, the place of its value and the place after it, or 0.
 pub struct Value {
@@ -51,20 +53,29 @@ fn no_value() -> Value
     }
 }
 
-// A mark and a member.
-pub(crate) fn member(text: &[u8], at: usize, lead: u8) -> Value
-    requires { ⌜ (at ≤ length (now text)) × (34 < lead) ⌝ }
-    ensures { λ r. ⌜ MemberRead (now (text .entry)) at lead r ⌝ }
+// A mark and the name of a member: its number, and the place of its value. The number is 0 where there is none.
+pub(crate) fn member_key(text: &[u8], at: usize, lead: u8) -> Key
+    requires { ⌜ (at ≤ length (now text)) × (isMark lead ≡ true) ⌝ }
+    ensures { λ r. ⌜ MemberKeyed (now (text .entry)) at lead r ⌝ }
 {
     let p = expect(text, at, lead);
     if p == 0 {
-        return no_value();
+        return Key { number: 0, next: 0 };
     }
     let k = key_at(text, p);
-    if k.number == 0 {
-        return no_value();
+    if 3 < k.number {
+        return Key { number: 0, next: 0 };
     }
-    if k.number == 4 {
+    k
+}
+
+// A mark and a member.
+pub(crate) fn member(text: &[u8], at: usize, lead: u8) -> Value
+    requires { ⌜ (at ≤ length (now text)) × (isMark lead ≡ true) ⌝ }
+    ensures { λ r. ⌜ MemberRead (now (text .entry)) at lead r ⌝ }
+{
+    let k = member_key(text, at, lead);
+    if k.number == 0 {
         return no_value();
     }
     let e = value_end(text, k.number, k.next);
@@ -103,7 +114,7 @@ fn no_places() -> Places
     }
 }
 
-// The three places, where there are all; they were found before `next`.
+// The three places, if all were found; they stand before `next`.
 pub(crate) fn all_places(a: Value, b: Value, c: Value, next: usize) -> Places
     ensures { λ r. ⌜ r ≡ placesOf a b c next ⌝ }
 {
@@ -148,6 +159,39 @@ pub(crate) fn element(text: &[u8], at: usize) -> Places
         return no_places();
     }
     all_places(a, b, c, e)
+}
+
+// The place of the receipts of the element at a place. Only the members before them are read. The callers know that an element stands there.
+pub(crate) fn receipts_place(text: &[u8], at: usize) -> usize
+    requires { ⌜ at ≤ length (now text) ⌝ }
+    ensures { λ r. ⌜ ReceiptsFound (now (text .entry)) at r ⌝ }
+{
+    let mut k = member_key(text, at, 123);
+    while k.number != 3 {
+        if k.number == 0 {
+            return 0;
+        }
+        let e = value_end(text, k.number, k.next);
+        if e == 0 {
+            return 0;
+        }
+        k = member_key(text, e, 44);
+    }
+    k.next
+}
+
+// The place after the element whose receipts end at a place. Only the members after them are read. The callers know that it does.
+pub(crate) fn element_end(text: &[u8], at: usize) -> usize
+    requires { ⌜ at ≤ length (now text) ⌝ }
+    ensures { λ r. ⌜ ElementEnded (now (text .entry)) at r ⌝ }
+{
+    let mut p = at;
+    let mut m = member(text, p, 44);
+    while m.next != 0 {
+        p = m.next;
+        m = member(text, p, 44);
+    }
+    expect(text, p, 125)
 }
 
 // The place after an array of elements, or 0.

@@ -1,43 +1,12 @@
-// The strings of a text: their letters, with the escape read; how long they are; and where they lie.
+// The strings of a text: where they lie, and their letters, with the escape read.
 use super::lexer::next;
-use super::walk::begin;
 use super::walk::expect;
-use super::walk::follow;
 use super::walk::key_at;
-use super::walk::string;
 ghost use mathlib.Core.Path.{_≡_};
-ghost use mathlib.Core.List.{List, _++_};
-ghost use Prim.Native.Nat.{ℕ, _≤_};
-ghost use lib.ListN.{length, drop};
-ghost use Rattle.exports.specs.Text.{Token};
-ghost use Rattle.exports.specs.Lexer.{content};
-ghost use Rattle.exports.specs.Shape.{strings};
-ghost use Rattle.exports.specs.Places.{from, noPart, PartRead, LettersAt, LetterRead};
+ghost use Prim.Native.Nat.{_≤_};
+ghost use lib.ListN.{length};
+ghost use Rattle.exports.specs.Places.{noPart, PartRead, LettersAt, LetterRead};
 ghost use Rattle.exports.specs.Strings.{GroupPlace};
-
-// How many bytes a string spells whose letters begin at a place.
-pub(crate) fn content_length(text: &[u8], start: usize) -> usize
-    requires { ⌜ start ≤ length (now text) ⌝ }
-    ensures { λ r. ⌜ r ≡ length (content (drop start (now (text .entry))) 0) ⌝ }
-{
-    let mut i = start;
-    let mut n: usize = 0;
-    while i < text.len() {
-        let b = text[i];
-        if b == 34 {
-            return n;
-        }
-        n += 1;
-        if b == 92 {
-            if text.len() - i < 6 {
-                return n;
-            }
-            i += 5;
-        }
-        i += 1;
-    }
-    n
-}
 
 // A string where it lies: its letters begin at `start`, and `length` is how many bytes it spells. `next` is the place after its quote, or 0.
 pub struct Part {
@@ -65,10 +34,9 @@ pub(crate) fn part_at(text: &[u8], at: usize) -> Part
     if t.kind != 34 {
         return no_part();
     }
-    let n = content_length(text, t.start);
     Part {
         start: t.start,
-        length: n,
+        length: t.length,
         next: t.next,
     }
 }
@@ -104,24 +72,6 @@ pub(crate) fn letter_at(text: &[u8], at: usize) -> Letter
         byte: b,
         next: at + 1,
     }
-}
-
-// How many strings an array has.
-pub(crate) fn strings_count(text: &[u8], at: usize) -> usize
-    requires { ⌜ at ≤ length (now text) ⌝ }
-    ensures { λ r. ⌜ ((ws : List (List ℕ)) (rest : List Token) → from (now (text .entry)) at ≡ strings ws ++ rest → r ≡ length ws) ⌝ }
-{
-    let mut n: usize = 0;
-    let mut c = begin(text, at);
-    while c.more {
-        let p = string(text, c.at);
-        if p == 0 {
-            return 0;
-        }
-        n += 1;
-        c = follow(text, p);
-    }
-    n
 }
 
 // The place of the array of elements.

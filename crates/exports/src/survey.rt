@@ -1,11 +1,14 @@
-// The questions 28, 29 and 28 of an export, asked of all its elements in one pass.
+// The questions 28, 29, 28 and 23 of an export, asked of all its elements in one pass.
 use super::certificates::certificate_good;
 use super::certificates::issuers_good;
 use super::naming::Named;
 use super::naming::names_of;
 use super::naming::not_named;
+use super::output::End;
+use super::output::moved;
 use super::shape::Places;
 use super::shape::element;
+use super::shape::receipts_place;
 use super::strings::group_place;
 use super::strings::part_at;
 use super::walk::begin;
@@ -14,44 +17,63 @@ ghost use mathlib.Core.Path.{_≡_};
 ghost use mathlib.Core.Bool.{true, _&&_};
 ghost use mathlib.Core.List.{List, _++_};
 ghost use Prim.Native.Nat.{ℕ, _≤_};
-ghost use lib.Dec.{leb};
 ghost use lib.ListN.{length};
 ghost use Rattle.exports.specs.Text.{Token, every};
 ghost use Rattle.exports.specs.Shape.{Element, Shape, strings};
 ghost use Rattle.exports.specs.Places.{from, Placed};
-ghost use Rattle.exports.specs.Spelled.{short};
+ghost use Rattle.exports.specs.Spelled.{someOf};
 ghost use Rattle.exports.specs.Naming.{named};
-ghost use Rattle.exports.specs.Reading.{firstOf, elementGood, surveyNumber};
-ghost use Rattle.exports.specs.Passing.{asked, surveyed, unasked};
-ghost use Rattle.exports.specs.Running.{PlacesInside, SmallNames, someOf};
+ghost use Rattle.exports.specs.Reading.{canonical, firstOf};
+ghost use Rattle.exports.specs.Passing.{measured, asked, surveyed, unasked, surveyAnswer, SurveyedAs};
+ghost use Rattle.exports.specs.Running.{PlacesInside, SmallNames, ownerNamed};
 
-// Of all elements so far: each is good, each has a receipt, and the first receipt of each names the register.
+// Of all elements so far: each is good, each has a receipt, and the first receipt of each names the register; and the place after their pairs in an output.
 pub(crate) struct Survey {
     pub(crate) good: bool,
     pub(crate) some: bool,
     pub(crate) named: bool,
+    pub(crate) end: End,
 }
 
-// No string of an array is over 65,535 bytes long, and there are not more than a count of four bytes can say.
-pub(crate) fn receipts_fit(text: &[u8], at: usize) -> bool
+// Of the receipts of an element: none is over 65,535 bytes long, and their count fits four bytes; and the place after their entries in an output.
+pub(crate) struct Measured {
+    pub(crate) good: bool,
+    pub(crate) end: End,
+}
+
+// The number of the first question answered no; or 0 and the length of the journal.
+pub(crate) struct Surveyed {
+    pub(crate) number: u32,
+    pub(crate) length: usize,
+}
+
+// Asks the receipts of the array at a place for their lengths and their count, and adds up their entries from the place p on.
+pub(crate) fn measure_receipts(text: &[u8], at: usize, room: usize, p: End) -> Measured
     requires { ⌜ at ≤ length (now text) ⌝ }
-    ensures { λ r. ⌜ ((ws : List (List ℕ)) (rest : List Token) → from (now (text .entry)) at ≡ strings ws ++ rest → r ≡ (every short ws && leb (length ws) 4294967295)) ⌝ }
+    ensures { λ r. ⌜ ((ws : List (List ℕ)) (rest : List Token) → from (now (text .entry)) at ≡ strings ws ++ rest → r ≡ measured room p ws) ⌝ }
 {
+    let mut short = true;
     let mut count: usize = 0;
+    let mut end = moved(room, p, 0);
     let mut c = begin(text, at);
     while c.more {
-        let p = part_at(text, c.at);
-        let next = p.next;
+        let s = part_at(text, c.at);
+        let next = s.next;
         if next == 0 {
-            return false;
+            return Measured {
+                good: false,
+                end: end,
+            };
         }
-        if 65535 < p.length {
-            return false;
-        }
+        short = both(short, s.length <= 65535);
+        end = moved(room, moved(room, end, 2), s.length);
         count += 1;
         c = follow(text, next);
     }
-    count <= 4294967295
+    Measured {
+        good: both(short, count <= 4294967295),
+        end: end,
+    }
 }
 
 // What the first string of an array names, as a receipt.
@@ -81,18 +103,15 @@ pub(crate) fn some_string(text: &[u8], at: usize) -> bool
     c.more
 }
 
-// 28 of one element: certificates, sizes and count.
-pub(crate) fn element_good(text: &[u8], e: Places) -> bool
+// The certificates of an element are in canonical BASE64.
+pub(crate) fn certificates_good(text: &[u8], e: Places) -> bool
     requires { ⌜ PlacesInside (now text) e ⌝ }
-    ensures { λ r. ⌜ ((x : Element) → Placed (now (text .entry)) e x → r ≡ elementGood x) ⌝ }
+    ensures { λ r. ⌜ ((x : Element) → Placed (now (text .entry)) e x → r ≡ (canonical (x .certificate) && every canonical (x .issuers))) ⌝ }
 {
     if !certificate_good(text, e.certificate) {
         return false;
     }
-    if !issuers_good(text, e.issuers) {
-        return false;
-    }
-    receipts_fit(text, e.receipts)
+    issuers_good(text, e.issuers)
 }
 
 fn both(a: bool, b: bool) -> bool
@@ -104,61 +123,76 @@ fn both(a: bool, b: bool) -> bool
     false
 }
 
-pub(crate) fn survey_element(s: Survey, text: &[u8], e: Places) -> Survey
+// Asks one element more. Its pair takes eight bytes for the length of the serial and the count, the serial, and the entries.
+pub(crate) fn survey_element(s: Survey, text: &[u8], e: Places, room: usize) -> Survey
     requires { ⌜ PlacesInside (now text) e ⌝ }
-    ensures { λ r. ⌜ ((x : Element) → Placed (now (text .entry)) e x → r ≡ asked s x) ⌝ }
+    ensures { λ r. ⌜ ((x : Element) → Placed (now (text .entry)) e x → r ≡ asked room s x) ⌝ }
 {
-    let good = element_good(text, e);
+    let c = certificates_good(text, e);
     let some = some_string(text, e.receipts);
     let n = first_named(text, e.receipts);
+    let settings = n.settings;
+    let serial = settings.serial;
+    let before = s.end;
+    let p = moved(room, moved(room, before, 8), serial.len);
+    let m = measure_receipts(text, e.receipts, room, p);
+    let end = m.end;
     Survey {
-        good: both(s.good, good),
+        good: both(s.good, both(c, m.good)),
         some: both(s.some, some),
         named: both(s.named, n.good),
+        end: end,
     }
 }
 
-// The survey of all elements of a text.
-pub(crate) fn survey_elements(text: &[u8]) -> Survey
-    ensures { λ r. ⌜ ((es : List Element) → Shape (now (text .entry)) es → r ≡ surveyed unasked es) ⌝ }
+// The survey of all elements of a text, from a place of the output on.
+pub(crate) fn survey_elements(text: &[u8], room: usize, p: End) -> Survey
+    ensures { λ r. ⌜ ((es : List Element) → Shape (now (text .entry)) es → r ≡ surveyed room (unasked p) es) ⌝ }
 {
-    let g = group_place(text);
     let mut s = Survey {
         good: true,
         some: true,
         named: true,
+        end: p,
     };
-    let mut c = begin(text, g);
+    let mut c = begin(text, group_place(text));
     while c.more {
         let e = element(text, c.at);
-        let p = e.next;
-        if p == 0 {
+        let next = e.next;
+        if next == 0 {
             return s;
         }
-        s = survey_element(s, text, e);
-        c = follow(text, p);
+        s = survey_element(s, text, e, room);
+        c = follow(text, next);
     }
     s
+}
+
+// What the first receipt of the first element names. Nothing after it is read.
+pub(crate) fn owner_named(text: &[u8]) -> Named
+    ensures { λ r. ⌜ ((es : List Element) → Shape (now (text .entry)) es → r ≡ ownerNamed es) × SmallNames r ⌝ }
+{
+    let c = begin(text, group_place(text));
+    if !c.more {
+        return not_named();
+    }
+    let at = receipts_place(text, c.at);
+    first_named(text, at)
 }
 
 // A text has an element.
 pub(crate) fn some_element(text: &[u8]) -> bool
     ensures { λ r. ⌜ ((es : List Element) → Shape (now (text .entry)) es → r ≡ someOf es) ⌝ }
 {
-    let g = group_place(text);
-    let c = begin(text, g);
+    let c = begin(text, group_place(text));
     c.more
 }
 
-// Questions 28, 29 and 28.
-pub(crate) fn survey_number(text: &[u8]) -> u32
-    ensures { λ r. ⌜ ((es : List Element) → Shape (now (text .entry)) es → r ≡ surveyNumber es 0) ⌝ }
+// The answers of a survey in the order of the questions. 28 comes first where there is no element.
+pub(crate) fn survey_number(some: bool, s: Survey) -> u32
+    ensures { λ r. ⌜ r ≡ surveyAnswer some s ⌝ }
 {
-    let s = survey_elements(text);
-    if !some_element(text) {
-        return 28;
-    }
-    if !s.good {
+    if !both(some, s.good) {
         return 28;
     }
     if !s.some {
@@ -167,5 +201,25 @@ pub(crate) fn survey_number(text: &[u8]) -> u32
     if !s.named {
         return 28;
     }
+    let end = s.end;
+    if !end.fits {
+        return 23;
+    }
     0
+}
+
+// Questions 28, 29, 28 and 23, where `owner` is what the first receipt of the text names. The head takes eleven bytes for the CSP with its length and for the length of the ID, and then the ID.
+pub(crate) fn survey_text(text: &[u8], owner: Named, room: usize) -> Surveyed
+    ensures { λ r. ⌜ ((es : List Element) → Shape (now (text .entry)) es → owner ≡ ownerNamed es → SurveyedAs room es r) ⌝ }
+{
+    let settings = owner.settings;
+    let id = settings.id;
+    let p = moved(room, moved(room, End { fits: true, at: 0 }, 11), id.len);
+    let s = survey_elements(text, room, p);
+    let some = some_element(text);
+    let end = s.end;
+    Surveyed {
+        number: survey_number(some, s),
+        length: end.at,
+    }
 }

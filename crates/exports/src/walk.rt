@@ -1,9 +1,12 @@
 // Marks, names and arrays.
 use super::lexer::next;
+use super::lexer::skip_blanks;
 use super::lexer::spells;
 ghost use mathlib.Core.Path.{_≡_};
-ghost use Prim.Native.Nat.{_≤_, _<_};
+ghost use mathlib.Core.Bool.{true};
+ghost use Prim.Native.Nat.{_≤_};
 ghost use lib.ListN.{length, drop};
+ghost use Rattle.exports.specs.Text.{isMark};
 ghost use Rattle.exports.specs.Lexer.{content};
 ghost use Rattle.exports.specs.Shape.{string, strings};
 ghost use Rattle.exports.specs.Places.{Reads, one, nameNumber, Keyed, Begun, Followed};
@@ -20,14 +23,17 @@ pub struct Cursor {
     pub at: usize,
 }
 
-// The place after a mark, or 0. Every mark is above the quote.
+// The place after a mark, or 0.
 pub(crate) fn expect(text: &[u8], at: usize, b: u8) -> usize
-    requires { ⌜ (at ≤ length (now text)) × (34 < b) ⌝ }
+    requires { ⌜ (at ≤ length (now text)) × (isMark b ≡ true) ⌝ }
     ensures { λ r. ⌜ Reads (one b) (now (text .entry)) at r ⌝ }
 {
-    let t = next(text, at);
-    if t.kind == b {
-        return t.next;
+    let p = skip_blanks(text, at);
+    if p == text.len() {
+        return 0;
+    }
+    if text[p] == b {
+        return p + 1;
     }
     0
 }

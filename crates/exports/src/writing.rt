@@ -7,13 +7,10 @@ use super::output::put_base64;
 use super::output::put_bytes;
 use receipt::Number;
 ghost use mathlib.Core.Path.{_≡_};
-ghost use mathlib.Core.Bool.{true, false, cond};
-ghost use mathlib.Core.List.{List, [], _∷_, _++_, map};
-ghost use Prim.Native.Nat.{ℕ, _≤_};
-ghost use lib.ListN.{length, drop};
+ghost use mathlib.Core.List.{_++_};
 ghost use Rattle.exports.specs.Output.{Puts};
-ghost use Rattle.exports.specs.Writing.{quoted, base64, exported, exportBuffer};
-ghost use Rattle.exports.specs.Running.{FourRead, SectionRead, SigningPut, ReceiptsPut, IssuersPut, GroupPut, PairPut, ElementsPut, ExportPut};
+ghost use Rattle.exports.specs.Writing.{comma, quoted, spelling, exported, exportBuffer};
+ghost use Rattle.exports.specs.Running.{FourRead, SectionRead, StringsPut, SigningPut, GroupPut, PairPut, ElementsPut, ExportPut};
 
 // The length of the text; or the number of the first question answered no, with Take over's index, or 0 for 28 and 23.
 pub struct Exported {
@@ -30,7 +27,7 @@ pub(crate) struct Copied {
 
 // A ',' where other items went before.
 pub(crate) fn put_comma(dry: bool, more: bool, out: &mut [u8], p: End) -> End
-    ensures { λ r. ⌜ Puts dry (now (out .entry)) (now (out .exit)) p r (cond more (44 ∷ []) []) ⌝ }
+    ensures { λ r. ⌜ Puts dry (now (out .entry)) (now (out .exit)) p r (comma more) ⌝ }
 {
     if more {
         return put_bytes(dry, b",", out, p);
@@ -38,74 +35,55 @@ pub(crate) fn put_comma(dry: bool, more: bool, out: &mut [u8], p: End) -> End
     put_bytes(dry, b"", out, p)
 }
 
-// A receipt as a string, after a ',' where others went before.
-pub(crate) fn put_receipt(dry: bool, more: bool, s: &[u8], out: &mut [u8], p: End) -> End
-    ensures { λ r. ⌜ Puts dry (now (out .entry)) (now (out .exit)) p r (cond more (44 ∷ []) [] ++ quoted (now (s .entry))) ⌝ }
+// The text of a string, in BASE64 if it is coded.
+pub(crate) fn put_text(dry: bool, coded: bool, s: &[u8], out: &mut [u8], p: End) -> End
+    ensures { λ r. ⌜ Puts dry (now (out .entry)) (now (out .exit)) p r (spelling coded (now (s .entry))) ⌝ }
 {
-    let a = put_comma(dry, more, out, p);
-    let b = put_bytes(dry, b"\"", out, a);
-    let c = put_bytes(dry, s, out, b);
-    put_bytes(dry, b"\"", out, c)
-}
-
-// A certificate as a string in BASE64, after a ',' where others went before.
-pub(crate) fn put_certificate(dry: bool, more: bool, s: &[u8], out: &mut [u8], p: End) -> End
-    ensures { λ r. ⌜ Puts dry (now (out .entry)) (now (out .exit)) p r (cond more (44 ∷ []) [] ++ quoted (base64 (now (s .entry)))) ⌝ }
-{
-    let a = put_comma(dry, more, out, p);
-    let b = put_bytes(dry, b"\"", out, a);
-    let c = put_base64(dry, s, out, b);
-    put_bytes(dry, b"\"", out, c)
-}
-
-// So many entries from a place in the journal on.
-pub(crate) fn put_receipts(
-    dry: bool,
-    j: &[u8],
-    at: usize,
-    count: usize,
-    out: &mut [u8],
-    p: End,
-) -> Copied
-    ensures { λ r. ⌜ ReceiptsPut dry (now (j .entry)) at count (now (out .entry)) (now (out .exit)) p r ⌝ }
-{
-    let mut end = moved(out.len(), p, 0);
-    let mut a = at;
-    let mut i: usize = 0;
-    while i < count {
-        let e = sized_end(j, a);
-        if e == 0 {
-            return Copied { end: end, at: a };
-        }
-        let s = a + 2;
-        end = put_receipt(dry, 0 < i, &j[s..e], out, end);
-        a = e;
-        i += 1;
+    if coded {
+        return put_base64(dry, s, out, p);
     }
-    Copied { end: end, at: a }
+    put_bytes(dry, s, out, p)
 }
 
-// So many certificates from a place in the groups on, each as a string in BASE64.
-pub(crate) fn put_issuers(
+// A string, after a ',' where others went before.
+pub(crate) fn put_string(
     dry: bool,
-    groups: &[u8],
+    more: bool,
+    coded: bool,
+    s: &[u8],
+    out: &mut [u8],
+    p: End,
+) -> End
+    ensures { λ r. ⌜ Puts dry (now (out .entry)) (now (out .exit)) p r (comma more ++ quoted (spelling coded (now (s .entry)))) ⌝ }
+{
+    let a = put_comma(dry, more, out, p);
+    let b = put_bytes(dry, b"\"", out, a);
+    let c = put_text(dry, coded, s, out, b);
+    put_bytes(dry, b"\"", out, c)
+}
+
+// So many strings from a place on: the entries of a journal as they are, or certificates in BASE64.
+pub(crate) fn put_strings(
+    dry: bool,
+    coded: bool,
+    from: &[u8],
     at: usize,
     count: usize,
     out: &mut [u8],
     p: End,
 ) -> Copied
-    ensures { λ r. ⌜ IssuersPut dry (now (groups .entry)) at count (now (out .entry)) (now (out .exit)) p r ⌝ }
+    ensures { λ r. ⌜ StringsPut dry coded (now (from .entry)) at count (now (out .entry)) (now (out .exit)) p r ⌝ }
 {
     let mut end = moved(out.len(), p, 0);
     let mut a = at;
     let mut i: usize = 0;
     while i < count {
-        let e = sized_end(groups, a);
+        let e = sized_end(from, a);
         if e == 0 {
             return Copied { end: end, at: a };
         }
         let s = a + 2;
-        end = put_certificate(dry, 0 < i, &groups[s..e], out, end);
+        end = put_string(dry, 0 < i, coded, &from[s..e], out, end);
         a = e;
         i += 1;
     }
@@ -130,7 +108,8 @@ pub(crate) fn put_signing(
     let s = at + 2;
     let a = put_comma(dry, more, out, p);
     let b = put_bytes(dry, b"{\"Signaturzertifikat\":", out, a);
-    let c = put_certificate(dry, false, &groups[s..e], out, b);
+    // no ',' before it, and in BASE64
+    let c = put_string(dry, false, true, &groups[s..e], out, b);
     Copied { end: c, at: e }
 }
 
@@ -154,7 +133,7 @@ pub(crate) fn put_group(
     }
     let s = put_signing(dry, more, groups, at + 1, out, p);
     let b = put_bytes(dry, b",\"Zertifizierungsstellen\":[", out, s.end);
-    let t = put_issuers(dry, groups, s.at, count - 1, out, b);
+    let t = put_strings(dry, true, groups, s.at, count - 1, out, b);
     let d = put_bytes(dry, b"],\"Belege-kompakt\":[", out, t.end);
     Copied { end: d, at: t.at }
 }
@@ -193,7 +172,7 @@ pub(crate) fn put_pair(dry: bool, j: &[u8], at: usize, out: &mut [u8], p: End) -
         return Copied { end: p, at: at };
     }
     let count = four_at(j, b);
-    let r = put_receipts(dry, j, b + 4, count, out, p);
+    let r = put_strings(dry, false, j, b + 4, count, out, p);
     let c = put_bytes(dry, b"]}", out, r.end);
     Copied { end: c, at: r.at }
 }

@@ -201,9 +201,9 @@ fn take_step(schedule: &[[u8; 4]; 60], st: State, j: &[u8]) -> Checked
 // ---- all steps
 
 // The number of a refused step and the state before it; or 0 and the state after the last step.
-pub(crate) struct Step {
-    pub(crate) number: u32,
-    pub(crate) state: State,
+pub struct Step {
+    pub number: u32,
+    pub state: State,
 }
 
 // Takes n steps, up to the first that is refused. Once a step leaves the length as it was, so does every step after it.
@@ -271,7 +271,8 @@ pub(crate) fn accepted(st: State) -> TakenOver
     }
 }
 
-fn last_answer(s: Step) -> TakenOver
+// The answer of Take over after these steps.
+pub fn last_answer(s: Step) -> TakenOver
     ensures { λ r. ⌜ r ≡ lastAnswer s ⌝ }
 {
     let st = s.state;

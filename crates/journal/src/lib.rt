@@ -12,11 +12,13 @@ mod step;
 
 pub use changing::change;
 pub use checking::Checked;
+pub use checking::Step;
 pub use checking::check_entry;
 pub use checking::check_head;
 pub use checking::check_serial;
 pub use checking::check_settings;
 pub use checking::check_step;
+pub use checking::last_answer;
 pub use checking::take_over;
 pub use issuing::issue;
 pub use issuing::issue_failed;

@@ -1,10 +1,12 @@
 -- `shape::element` meets its contract.
 use borrow.Author.Needs.{needs}
+use Rattle.exports.specs.Text.{isMark}
 use Rattle.exports.proofs.Objects.{element-no-1, element-no-2, element-no-3, element-no-4, element-found}
 use Rattle.exports.proofs.shape.element.Statement.{statement}
 use Rattle.exports.proofs.shape.element.Tie as tie
 
 member-requires : tie.Need-member-requires
+unfolding isMark
 member-requires c κs = search needs
 
 no-places-requires : tie.Need-no-places-requires
@@ -14,6 +16,7 @@ returns : tie.Need-returns
 returns c = element-no-1 (c .before .before .before .member .ensures) (c .no-places .ensures) (c .before .if1 .taken)
 
 member-requires-2 : tie.Need-member-requires-2
+unfolding isMark
 member-requires-2 c κs = (c .before .before .member .ensures .reads .inside, search needs)
 
 no-places-requires-2 : tie.Need-no-places-requires-2
@@ -23,6 +26,7 @@ returns-2 : tie.Need-returns-2
 returns-2 c = element-no-2 (c .before .before .before .before .before .before .member .ensures) (c .before .before .before .member2 .ensures) (c .no-places2 .ensures) (c .before .if2 .taken)
 
 member-requires-3 : tie.Need-member-requires-3
+unfolding isMark
 member-requires-3 c κs = (c .before .before .member2 .ensures .reads .inside, search needs)
 
 no-places-requires-3 : tie.Need-no-places-requires-3
@@ -32,6 +36,7 @@ returns-3 : tie.Need-returns-3
 returns-3 c = element-no-3 (c .before .before .before .before .before .before .before .before .before .member .ensures) (c .before .before .before .before .before .before .member2 .ensures) (c .before .before .before .member3 .ensures) (c .no-places3 .ensures) (c .before .if3 .taken)
 
 expect-requires : tie.Need-expect-requires
+unfolding isMark
 expect-requires c κs = (c .before .before .member3 .ensures .reads .inside, search needs)
 
 no-places-requires-4 : tie.Need-no-places-requires-4

@@ -1,10 +1,12 @@
 -- `shape::has_shape` meets its contract.
 use borrow.Author.Needs.{needs}
+use Rattle.exports.specs.Text.{isMark}
 use Rattle.exports.proofs.Documents.{shape-no-1, shape-no-2, shape-no-3, shape-no-4, shape-last}
 use Rattle.exports.proofs.shape.has_shape.Statement.{statement}
 use Rattle.exports.proofs.shape.has_shape.Tie as tie
 
 expect-requires : tie.Need-expect-requires
+unfolding isMark
 expect-requires c κs = search needs
 
 returns : tie.Need-returns
@@ -23,6 +25,7 @@ returns-3 : tie.Need-returns-3
 returns-3 c = shape-no-3 (c .before .before .before .before .before .before .expect .ensures) (c .before .before .before .before .key-at .ensures) (c .before .elements .ensures) (c .if3 .taken)
 
 expect-requires-2 : tie.Need-expect-requires-2
+unfolding isMark
 expect-requires-2 c κs = (c .before .elements .ensures .inside, search needs)
 
 returns-4 : tie.Need-returns-4

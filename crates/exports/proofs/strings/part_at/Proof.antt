@@ -13,11 +13,8 @@ no-part-requires c κs = search needs
 returns : tie.Need-returns
 returns c = no-part (c .before .before .before .next .ensures) (c .no-part .ensures) (c .before .if1 .taken)
 
-content-length-requires : tie.Need-content-length-requires
-content-length-requires c κs = c .before .before .next .ensures .start
-
 returns-2 : tie.Need-returns-2
-returns-2 c = part-found (c .before .before .before .next .ensures) (c .before .if1 .left) (c .content-length .ensures)
+returns-2 c = part-found (c .before .before .next .ensures) (c .if1 .left)
 
 pub part-at-spec : {M : Type 1} → statement M
-part-at-spec = tie.close (tie.spec next-requires no-part-requires returns content-length-requires returns-2)
+part-at-spec = tie.close (tie.spec next-requires no-part-requires returns returns-2)

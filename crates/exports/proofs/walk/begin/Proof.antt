@@ -1,16 +1,19 @@
 -- `walk::begin` meets its contract.
 use borrow.Author.Needs.{needs}
+use Rattle.exports.specs.Text.{isMark}
 use Rattle.exports.proofs.Tokening.{begin-none, begin-more, begin-end}
 use Rattle.exports.proofs.walk.begin.Statement.{statement}
 use Rattle.exports.proofs.walk.begin.Tie as tie
 
 expect-requires : tie.Need-expect-requires
+unfolding isMark
 expect-requires c κs = search needs
 
 returns : tie.Need-returns
 returns c = begin-none (rw (c .if1 .taken) at (c .before .expect .ensures))
 
 expect-requires-2 : tie.Need-expect-requires-2
+unfolding isMark
 expect-requires-2 c κs = search needs
 
 returns-2 : tie.Need-returns-2

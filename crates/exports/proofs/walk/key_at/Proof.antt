@@ -1,5 +1,6 @@
 -- `walk::key_at` meets its contract.
 use borrow.Author.Needs.{needs}
+use Rattle.exports.specs.Text.{isMark}
 use Rattle.exports.proofs.Tokening.{key-no-word, key-no-colon, key-found}
 use Rattle.exports.proofs.walk.key_at.Statement.{statement}
 use Rattle.exports.proofs.walk.key_at.Tie as tie
@@ -11,6 +12,7 @@ returns : tie.Need-returns
 returns c = key-no-word (c .before .before .next .ensures) (c .if1 .taken)
 
 expect-requires : tie.Need-expect-requires
+unfolding isMark
 expect-requires c κs = search needs
 
 returns-2 : tie.Need-returns-2

@@ -1,6 +1,6 @@
 -- `writing::put_comma` meets its contract.
 use mathlib.Core.Path.{sym, ap}
-use Rattle.exports.specs.Running.{comma}
+use Rattle.exports.specs.Writing.{comma}
 use Rattle.exports.proofs.Exporting.{comma-put}
 use borrow.Author.Needs.{needs}
 use Rattle.exports.proofs.writing.put_comma.Statement.{statement}

@@ -30,11 +30,11 @@ slice-aggregate-put-bytes c = search needs
 put-bytes-requires : tie.Need-put-bytes-requires
 put-bytes-requires c κs = search needs
 
-sub-put-issuers : tie.Need-sub-put-issuers
-sub-put-issuers c = search needs
+sub-put-strings : tie.Need-sub-put-strings
+sub-put-strings c = search needs
 
-put-issuers-requires : tie.Need-put-issuers-requires
-put-issuers-requires c κs = search needs
+put-strings-requires : tie.Need-put-strings-requires
+put-strings-requires c κs = search needs
 
 slice-aggregate-put-bytes-2 : tie.Need-slice-aggregate-put-bytes-2
 slice-aggregate-put-bytes-2 c = search needs
@@ -47,7 +47,7 @@ same-length c = search needs
 
 returns-3 : tie.Need-returns-3
 unfolding beforeIssuers beforeReceipts
-returns-3 c = group-put _ _ _ _ _ _ (c .before .before .before .before .before .before .before .before .before .before .before .before .before .before .before .before .before .before .before .before .if1 .left) (c .before .before .before .before .before .before .before .before .before .before .before .before .before .before .before .before .put-signing .ensures) (c .before .before .before .before .before .before .before .before .before .before .before .put-bytes .ensures) (c .before .before .before .before .before .before .before .put-issuers .ensures) (c .before .before .put-bytes2 .ensures)
+returns-3 c = group-put _ _ _ _ _ _ (c .before .before .before .before .before .before .before .before .before .before .before .before .before .before .before .before .before .before .before .before .if1 .left) (c .before .before .before .before .before .before .before .before .before .before .before .before .before .before .before .before .put-signing .ensures) (c .before .before .before .before .before .before .before .before .before .before .before .put-bytes .ensures) (c .before .before .before .before .before .before .before .put-strings .ensures) (c .before .before .put-bytes2 .ensures)
 
 pub put-group-spec : {M : Type 1} → statement M
 put-group-spec =
@@ -61,8 +61,8 @@ put-group-spec =
     put-signing-requires
     slice-aggregate-put-bytes
     put-bytes-requires
-    sub-put-issuers
-    put-issuers-requires
+    sub-put-strings
+    put-strings-requires
     slice-aggregate-put-bytes-2
     put-bytes-requires-2
     same-length

@@ -18,11 +18,11 @@ returns c = pair-cut _ _ _ _ _ (c .before .before .section-end .ensures) (above 
 four-at-requires : tie.Need-four-at-requires
 four-at-requires c κs = search needs
 
-add-put-receipts : tie.Need-add-put-receipts
-add-put-receipts c = search needs
+add-put-strings : tie.Need-add-put-strings
+add-put-strings c = search needs
 
-put-receipts-requires : tie.Need-put-receipts-requires
-put-receipts-requires c κs = search needs
+put-strings-requires : tie.Need-put-strings-requires
+put-strings-requires c κs = search needs
 
 slice-aggregate-put-bytes : tie.Need-slice-aggregate-put-bytes
 slice-aggregate-put-bytes c = search needs
@@ -35,7 +35,7 @@ same-length c = search needs
 
 returns-2 : tie.Need-returns-2
 unfolding ending
-returns-2 c = pair-put _ _ _ _ _ (c .before .before .before .before .before .before .before .before .before .before .before .before .section-end .ensures) (c .before .before .before .before .before .before .before .before .before .four-at .ensures) (c .before .before .before .before .before .before .before .put-receipts .ensures) (c .before .before .put-bytes .ensures)
+returns-2 c = pair-put _ _ _ _ _ (c .before .before .before .before .before .before .before .before .before .before .before .before .section-end .ensures) (c .before .before .before .before .before .before .before .before .before .four-at .ensures) (c .before .before .before .before .before .before .before .put-strings .ensures) (c .before .before .put-bytes .ensures)
 
 pub put-pair-spec : {M : Type 1} → statement M
 put-pair-spec =
@@ -45,8 +45,8 @@ put-pair-spec =
     has-room-requires
     returns
     four-at-requires
-    add-put-receipts
-    put-receipts-requires
+    add-put-strings
+    put-strings-requires
     slice-aggregate-put-bytes
     put-bytes-requires
     same-length

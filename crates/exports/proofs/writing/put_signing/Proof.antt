@@ -24,24 +24,24 @@ slice-aggregate-put-bytes c = search needs
 put-bytes-requires : tie.Need-put-bytes-requires
 put-bytes-requires c κs = search needs
 
-sub-put-certificate : tie.Need-sub-put-certificate
-sub-put-certificate c = let o = c .before .before .before .before .before .before .before .before .before .before .sized-end .ensures in omega (arith, o .onward (omega arith))
+sub-put-string : tie.Need-sub-put-string
+sub-put-string c = let o = c .before .before .before .before .before .before .before .before .before .before .sized-end .ensures in omega (arith, o .onward (omega arith))
 
-part-put-certificate-start : tie.Need-part-put-certificate-start
-part-put-certificate-start c = let o = c .before .before .before .before .before .before .before .before .before .before .sized-end .ensures in omega (arith, o .onward (omega arith))
+part-put-string-start : tie.Need-part-put-string-start
+part-put-string-start c = let o = c .before .before .before .before .before .before .before .before .before .before .sized-end .ensures in omega (arith, o .onward (omega arith))
 
-part-put-certificate-end : tie.Need-part-put-certificate-end
-part-put-certificate-end c = c .before .before .before .before .before .before .before .before .before .before .sized-end .ensures .inside
+part-put-string-end : tie.Need-part-put-string-end
+part-put-string-end c = c .before .before .before .before .before .before .before .before .before .before .sized-end .ensures .inside
 
-put-certificate-requires : tie.Need-put-certificate-requires
-put-certificate-requires c κs = search needs
+put-string-requires : tie.Need-put-string-requires
+put-string-requires c κs = search needs
 
 same-length : tie.Need-same-length
 same-length c = search needs
 
 returns-2 : tie.Need-returns-2
 unfolding beforeCertificate
-returns-2 c = signing-put (c .before .before .before .before .before .before .before .before .before .before .before .before .before .before .before .before .before .before .args .more) _ _ (c .before .before .before .before .before .before .before .before .before .before .before .before .before .before .before .sized-end .ensures) (c .before .before .before .before .before .before .before .before .before .before .before .before .put-comma .ensures) (c .before .before .before .before .before .before .before .put-bytes .ensures) (c .before .before .put-certificate .ensures)
+returns-2 c = signing-put (c .before .before .before .before .before .before .before .before .before .before .before .before .before .before .before .before .before .before .args .more) _ _ (c .before .before .before .before .before .before .before .before .before .before .before .before .before .before .before .sized-end .ensures) (c .before .before .before .before .before .before .before .before .before .before .before .before .put-comma .ensures) (c .before .before .before .before .before .before .before .put-bytes .ensures) (c .before .before .put-string .ensures)
 
 pub put-signing-spec : {M : Type 1} → statement M
 put-signing-spec =
@@ -53,9 +53,9 @@ put-signing-spec =
     put-comma-requires
     slice-aggregate-put-bytes
     put-bytes-requires
-    sub-put-certificate
-    part-put-certificate-start
-    part-put-certificate-end
-    put-certificate-requires
+    sub-put-string
+    part-put-string-start
+    part-put-string-end
+    put-string-requires
     same-length
     returns-2)
