@@ -180,7 +180,7 @@ pub(crate) fn receipts_place(text: &[u8], at: usize) -> usize
     k.next
 }
 
-// The place after the element whose receipts end at a place. Only the members after them are read. The callers know that it does.
+// The place after the element whose receipts end at a place. Only the members after them are read. The callers know that receipts end there.
 pub(crate) fn element_end(text: &[u8], at: usize) -> usize
     requires { ⌜ at ≤ length (now text) ⌝ }
     ensures { λ r. ⌜ ElementEnded (now (text .entry)) at r ⌝ }

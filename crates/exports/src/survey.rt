@@ -41,13 +41,13 @@ pub(crate) struct Measured {
     pub(crate) end: End,
 }
 
-// The number of the first question answered no; or 0 and the length of the journal.
+// The number of the first question answered no; or 0 and the length of the journal. With another number the length means nothing.
 pub(crate) struct Surveyed {
     pub(crate) number: u32,
     pub(crate) length: usize,
 }
 
-// Asks the receipts of the array at a place for their lengths and their count, and adds up their entries from the place p on.
+// Checks the lengths and the count of the receipts in the array at a place, and adds up their entries from the place p on.
 pub(crate) fn measure_receipts(text: &[u8], at: usize, room: usize, p: End) -> Measured
     requires { ⌜ at ≤ length (now text) ⌝ }
     ensures { λ r. ⌜ ((ws : List (List ℕ)) (rest : List Token) → from (now (text .entry)) at ≡ strings ws ++ rest → r ≡ measured room p ws) ⌝ }
@@ -123,7 +123,7 @@ fn both(a: bool, b: bool) -> bool
     false
 }
 
-// Asks one element more. Its pair takes eight bytes for the length of the serial and the count, the serial, and the entries.
+// The survey with one element more. Its pair takes eight bytes for the length of the serial and the count, the serial, and the entries.
 pub(crate) fn survey_element(s: Survey, text: &[u8], e: Places, room: usize) -> Survey
     requires { ⌜ PlacesInside (now text) e ⌝ }
     ensures { λ r. ⌜ ((x : Element) → Placed (now (text .entry)) e x → r ≡ asked room s x) ⌝ }
