@@ -20,6 +20,7 @@ pub mod Digest
 pub mod Each
 pub mod Field
 pub mod Filling
+pub mod FirstNo
 pub mod Laws
 pub mod Numbers
 pub mod Over
