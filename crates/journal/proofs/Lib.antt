@@ -45,6 +45,7 @@ pub mod Serials
 pub mod SharedKey
 pub mod Starting
 pub mod Stepping
+pub mod Sums
 pub mod Touching
 pub mod TypedChecks
 pub mod TypedStates

@@ -15,10 +15,11 @@ use Rattle.receipt.specs.Compact.{compact}
 use Rattle.receipt.specs.declared.settings.Name.{Name}
 use Rattle.receipt.specs.declared.settings.Settings.{Settings}
 use Rattle.receipt.specs.declared.entry.Entry.{Entry}
-use Rattle.journal.specs.Receipts.{receiptOf, receiptsIn, sum}
+use Rattle.journal.specs.Receipts.{Receipt, receiptOf, receiptsIn, sum}
 use Rattle.journal.specs.State.{sameName, isIn, TypedName}
 use Rattle.journal.specs.Valid.{Owner, Pair, Placed, entriesOf, lastOf, chainOf, serialsOf, Right, RightAfter, UsedIn, NotIn, Begins}
 use Rattle.journal.proofs.Serials.{same-name-is, same-name-refl}
+use Rattle.journal.proofs.Sums.{sum-is-counted}
 
 -- ---- what runs on from entry to entry
 
@@ -63,19 +64,24 @@ run-append n c [] ys = refl
 run-append n c (x ∷ xs) ys = run-append n (stepCore n c x) xs ys
 
 after-more : (n : ℕ) (c : Core) (x : Placed) (xs : List Placed) → coreAfter n (stepCore n c x) xs ≡ coreAfter n c (x ∷ xs)
-unfolding coreAfter stepCore sum receiptsIn receiptOf entriesOf lastOf chainOf
+unfolding coreAfter stepCore receiptsIn receiptOf entriesOf lastOf chainOf
 after-more n c x xs =
     let k : c .issued + 1 + length xs ≡ c .issued + suc (length xs) = omega arith in
+    let rs : List Receipt = receiptsIn (entriesOf xs) in
+    let s = ap (λ (z : ℤ). c .counter +ℤ z) (sum-is-counted .more (receiptOf (x .entry)) rs) in
+    let t = +ℤ-assoc (c .counter) (counted (x .entry .fields .details)) (sum rs) ∙ sym s in
     λ j. record {
-      counter = +ℤ-assoc (c .counter) (counted (x .entry .fields .details)) (sum (receiptsIn (entriesOf xs))) j;
+      counter = t j;
       last = lastOf (x .entry .fields .details .number) (entriesOf xs);
       issued = k j;
       chain = chainOf n (c .chain) (x ∷ xs);
     }
 
 after-none : (n : ℕ) (c : Core) → c ≡ coreAfter n c []
-unfolding coreAfter sum receiptsIn entriesOf lastOf chainOf
-after-none n c = λ j. record { counter = sym (+ℤ-idr (c .counter)) j; last = c .last; issued = sym (add-zero (c .issued)) j; chain = c .chain }
+unfolding coreAfter receiptsIn entriesOf lastOf chainOf
+after-none n c =
+    let s = sym (+ℤ-idr (c .counter)) ∙ ap (λ (z : ℤ). c .counter +ℤ z) (sym (sum-is-counted .none)) in
+    λ j. record { counter = s j; last = c .last; issued = sym (add-zero (c .issued)) j; chain = c .chain }
 
 pub run-after : (n : ℕ) (c : Core) (xs : List Placed) → runCore n c xs ≡ coreAfter n c xs
 unfolding runCore
