@@ -7,6 +7,7 @@ pub mod Compact
 pub mod DateTime
 pub mod Decimal
 pub mod Details
+pub mod DetailsWords
 pub mod Exact
 pub mod Form
 pub mod FormReading
@@ -17,4 +18,5 @@ pub mod Payload
 pub mod PayloadReading
 pub mod Separated
 pub mod Settings
+pub mod SettingsWords
 pub mod Texts
