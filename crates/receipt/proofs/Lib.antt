@@ -1,3 +1,4 @@
+pub mod AnsweredCalls
 pub mod Cents
 pub mod Chains
 pub mod CodeCalls

@@ -1,4 +1,5 @@
 pub mod Amount
+pub mod CallAnswers
 pub mod Cases
 pub mod Chain
 pub mod Code
