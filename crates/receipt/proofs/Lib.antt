@@ -1,3 +1,4 @@
+pub mod AnsweredCalls
 pub mod Cents
 pub mod Chains
 pub mod CodeCalls
@@ -6,6 +7,7 @@ pub mod Codes
 pub mod CounterFields
 pub mod Counting
 pub mod Dates
+pub mod DetailsMeaning
 pub mod Digits
 pub mod Entries
 pub mod EntryCalls
@@ -31,6 +33,7 @@ pub mod PayloadBack
 pub mod PayloadBytes
 pub mod ReceiptFields
 pub mod ReceiptLines
+pub mod SettingsMeaning
 pub mod Signs
 pub mod Spellings
 pub mod Texts

@@ -1,4 +1,5 @@
 pub mod Amount
+pub mod CallAnswers
 pub mod Cases
 pub mod Chain
 pub mod Code
@@ -7,6 +8,7 @@ pub mod Compact
 pub mod DateTime
 pub mod Decimal
 pub mod Details
+pub mod DetailsWords
 pub mod Exact
 pub mod Form
 pub mod FormReading
@@ -17,4 +19,5 @@ pub mod Payload
 pub mod PayloadReading
 pub mod Separated
 pub mod Settings
+pub mod SettingsWords
 pub mod Texts
