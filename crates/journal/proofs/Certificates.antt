@@ -79,7 +79,7 @@ serials-good-exactly =
 
 -- ---- what Change asks
 
-in-one : (s : Name) (ns : List Name) → isIn s ns ≡ true → OneOf s ns
+pub in-one : (s : Name) (ns : List Name) → isIn s ns ≡ true → OneOf s ns
 unfolding isIn
 in-one s [] e = true-is-not-false e
 in-one s (n ∷ ns) e = go (sameName s n) refl e (in-one s ns)
@@ -88,7 +88,7 @@ in-one s (n ∷ ns) e = go (sameName s n) refl e (in-one s ns)
     go true q z rec = record { before = []; later = ns; is = ap (λ (x : Name). x ∷ ns) (sym (same-name-is s n q)) }
     go false q z rec = let r = rec z in record { before = n ∷ r .before; later = r .later; is = ap (λ (l : List Name). n ∷ l) (r .is) }
 
-one-in : (s : Name) (ns : List Name) → OneOf s ns → isIn s ns ≡ true
+pub one-in : (s : Name) (ns : List Name) → OneOf s ns → isIn s ns ≡ true
 unfolding isIn
 one-in s ns x = ap (isIn s) (x .is) ∙ go (x .before)
   where

@@ -4,6 +4,8 @@ pub mod Again
 pub mod Agreement
 pub mod Answers
 pub mod Appended
+pub mod Asking
+pub mod AskingSteps
 pub mod Certificates
 pub mod ChangeCalls
 pub mod Check

@@ -89,7 +89,7 @@ pub sound-here : (st : State) (j : List ℕ) → Sound st → st .length ≤ len
 unfolding sound
 sound-here st j s l = rw (sound-yes st s, le-leb (st .length) (length j) l)
 
-checked-is : (k : List (List ℕ)) (st : State) (j : List ℕ) → sound st (length j) ≡ true → stepChecked k st j ≡ oneStep k st j
+pub checked-is : (k : List (List ℕ)) (st : State) (j : List ℕ) → sound st (length j) ≡ true → stepChecked k st j ≡ oneStep k st j
 unfolding stepChecked
 checked-is k st j s = rw s
 

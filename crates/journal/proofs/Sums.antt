@@ -18,7 +18,7 @@ unfolding addedUp total
 added-total [] = refl
 added-total (x ∷ xs) = ap (λ (z : ℤ). x +ℤ z) (added-total xs)
 
-taken-counted : (d : Details) → addedUp (amountsTaken (d .kind) (d .amounts)) ≡ counted d
+pub taken-counted : (d : Details) → addedUp (amountsTaken (d .kind) (d .amounts)) ≡ counted d
 unfolding counted addedUp
 taken-counted d = go (d .kind) (d .amounts)
   where
