@@ -8,7 +8,7 @@ use Rattle.primitives.specs.Place.{overwrite}
 use Rattle.primitives.specs.Number.{bytesOf}
 use Rattle.receipt.specs.Chain.{hashInput}
 use Rattle.receipt.specs.Form.{secondDot}
-use Rattle.receipt.specs.Compact.{compact}
+use Rattle.receipt.specs.Compact.{compact, noEntry}
 use Rattle.receipt.specs.LineLaws.{LineOf}
 use Rattle.receipt.specs.declared.settings.Name.{Name}
 use Rattle.receipt.specs.declared.settings.Settings.{Settings}
@@ -87,6 +87,7 @@ AcceptedIsWritten =
 -- demand 3 as one theorem: what the writer writes is accepted with its receipts and their sum, and the writer can write again what is accepted
 pub record WritingAndCheckingAgree : Type 0 where
   pub accepted : AcceptedIsValid
+  pub state : StateOfJournal
   pub reading : OneReading
   pub forth : WrittenIsAccepted
   pub back : AcceptedIsWritten
@@ -140,7 +141,7 @@ FormIsAppended =
 
 -- ---- refused calls
 
--- a refused call leaves buffer and state unchanged; a refused Open, Take over or check of the head returns the unopened state
+-- a refused call leaves buffer and state unchanged; a refused Open, Take over or check of a head or of its settings returns the unopened state
 pub record RefusedChangesNothing : Type 0 where
   pub opens : (s : Settings) (key : List ℕ) (shared : Bool) (n : ℕ) (buf : List ℕ) → (opened s key shared n (length buf) .number ≡ 0 → ⊥)
       → (opened s key shared n (length buf) .state ≡ unopened) × (openBuffer s shared n buf ≡ buf)
@@ -156,6 +157,14 @@ pub record RefusedChangesNothing : Type 0 where
   pub takes : (j key : List ℕ) (n : ℕ) → (takeOver j key n .number ≡ 0 → ⊥) → takeOver j key n .state ≡ unopened
   pub heads : (j key : List ℕ) (n : ℕ) → (checkHead j key n .number ≡ 0 → ⊥) → checkHead j key n .state ≡ unopened
   pub checks : (st : State) (j : List ℕ) (n : ℕ) → (checkSteps st j n .number ≡ 0 → ⊥) → checkSteps st j n .state ≡ st
+  -- the steps for other readers: no entry is found, and the state is the one that was given
+  pub settings : (s : Settings) (key : List ℕ) (n : ℕ) → (settingsChecked s key n .number ≡ 0 → ⊥) → settingsChecked s key n .state ≡ unopened
+  pub entries : (schedule : List (List ℕ)) (st : State) (text : List ℕ) → (entryChecked schedule st text .number ≡ 0 → ⊥)
+      → (entryChecked schedule st text .state ≡ st) × (entryChecked schedule st text .found ≡ noEntry)
+  pub serials : (st : State) (serial : Name) → (serialChecked st serial .number ≡ 0 → ⊥)
+      → (serialChecked st serial .state ≡ st) × (serialChecked st serial .found ≡ noEntry)
+  pub steps : (schedule : List (List ℕ)) (st : State) (j : List ℕ) → (stepChecked schedule st j .number ≡ 0 → ⊥)
+      → (stepChecked schedule st j .state ≡ st) × (stepChecked schedule st j .found ≡ noEntry)
 
 -- ---- Prepare
 
