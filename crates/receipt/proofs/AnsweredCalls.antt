@@ -24,7 +24,7 @@ use Rattle.primitives.proofs.Answers.{written-room, written-full}
 use Rattle.receipt.specs.Form.{Parts, payloadGood, signatureGood, partsGood, failureText, signedForm, partsOfForm}
 use Rattle.receipt.specs.Texts.{beginning}
 use Rattle.receipt.specs.Code.{codeText, partsOfCode, codeAnswer, codeBuffer, uncodeAnswer, uncodeBuffer}
-use Rattle.receipt.specs.CodeLaws.{MadeOf, Exactly}
+use Rattle.receipt.specs.CodeLaws.{Exactly}
 use Rattle.receipt.specs.Line.{CodeFields, textIn, fieldsOf, refusalOf, lineAnswer, lineBuffer, unlineAnswer, unlineBuffer}
 use Rattle.receipt.specs.LineLaws.{SpelledAs, ImageOf, HasCode, HasLine}
 use Rattle.receipt.specs.CallAnswers.{GoodParts, PartsGoodMeans, FormIsThreeElements, CodeIsPayloadAndSignature, roomFor, Answered, MadeOfSome, Respelled, CodeAnswers, UncodeAnswers, LineFor, LineAnswers, UnlineAnswers}

@@ -3,7 +3,7 @@ use Prim.Native.Nat.{ℕ, zero, suc, _%_, _<_, _≤_}
 use mathlib.Core.Path.{_≡_, refl, sym, ap, _∙_}
 use mathlib.Core.Bool.{Bool, true, false, cond, _&&_}
 use mathlib.Core.List.{List, [], _∷_}
-use mathlib.Core.Logic.{_⊎_, inl, inr}
+use mathlib.Core.Logic.{inl, inr}
 use native.Mathlib.Omega.{arith}
 use borrow.Author.Tests.{le-leb, leb-true, eqb-true, eqb-false, eq-eqb, ne-eqb}
 use lib.Dec.{leb, eqb}
@@ -14,11 +14,9 @@ use Rattle.receipt.specs.Amount.{amountLimit, within}
 use Rattle.receipt.specs.DateTime.{leap, daysIn, dayGood, timeGood, dateGood}
 use Rattle.receipt.specs.Details.{amountsWithin, amountsGood, allZero, standard, startGood, total, countedOf, counted, counterAfter}
 use Rattle.receipt.specs.Payload.{counterContent, counterField}
-use Rattle.receipt.specs.SettingsWords.{Means}
-use Rattle.receipt.specs.DetailsWords.{LeapYear, GoodDate, DateGoodMeans, GoodAmounts, AmountsGoodMeans, GoodStart, StartGoodMeans, CountedAs, CountedIsTheAmounts, CounterAfterAdds, CounterFieldsAre}
+use Rattle.receipt.specs.DetailsWords.{LeapYear, GoodDate, DateGoodMeans, AmountsGoodMeans, GoodStart, StartGoodMeans, CountedIsTheAmounts, CounterAfterAdds, CounterFieldsAre}
 use Rattle.receipt.specs.declared.datetime.DateTime.{DateTime}
 use Rattle.receipt.specs.declared.details.Kind.{Kind}
-use Rattle.receipt.specs.declared.details.Kind.the-variants.{Standard, Cancellation, Training}
 use Rattle.receipt.specs.declared.details.Details.{Details}
 use Rattle.receipt.proofs.Counting.{start-both, after-beyond, after-no, after-yes}
 use Rattle.receipt.proofs.Dates.{days-few}

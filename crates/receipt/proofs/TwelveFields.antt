@@ -1,7 +1,6 @@
 -- The payload is "_" and twelve fields joined by "_".
-use mathlib.Core.Path.{_≡_, refl, ap, _∙_}
-use mathlib.Core.List.{List, [], _∷_, _++_, append-assoc}
-use Prim.Native.Nat.{ℕ}
+use mathlib.Core.Path.{ap, _∙_}
+use mathlib.Core.List.{List, _++_, append-assoc}
 use lib.IntN.{ℤ}
 use Rattle.primitives.specs.Text.{ascii}
 use Rattle.receipt.specs.Amount.{amountsText}
@@ -9,8 +8,6 @@ use Rattle.receipt.specs.Texts.{beginning}
 use Rattle.receipt.specs.Settings.{nameText}
 use Rattle.receipt.specs.Payload.{registerPart, moment, closing, body, payload}
 use Rattle.receipt.specs.PayloadWords.{joined, PayloadIsTwelveFields}
-use Rattle.receipt.specs.declared.settings.Settings.{Settings}
-use Rattle.receipt.specs.declared.payload.PayloadFields.{PayloadFields}
 
 pub payload-is-twelve-fields : PayloadIsTwelveFields
 unfolding payload body registerPart moment closing amountsText nameText beginning ascii joined

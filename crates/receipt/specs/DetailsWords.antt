@@ -17,7 +17,6 @@ use Rattle.receipt.specs.Details.{amountsWithin, startGood, counted, cou
 use Rattle.receipt.specs.Payload.{counterField}
 use Rattle.receipt.specs.SettingsWords.{Means}
 use Rattle.receipt.specs.declared.datetime.DateTime.{DateTime}
-use Rattle.receipt.specs.declared.details.Kind.{Kind}
 use Rattle.receipt.specs.declared.details.Kind.the-variants.{Standard, Cancellation, Training}
 use Rattle.receipt.specs.declared.details.Details.{Details}
 
