@@ -1,31 +1,84 @@
 -- What Code, Uncode, the optical line and the way back answer and write, said by the parts that a text is made of.
 use Prim.Native.Nat.{ℕ, suc, _+_, _≤_, _<_}
 use mathlib.Core.Path.{_≡_, refl, sym, ap, _∙_, subst}
-use mathlib.Core.Bool.{Bool, true, false}
-use mathlib.Core.List.{List, _++_}
+use mathlib.Core.Bool.{Bool, true, false, _&&_, _||_}
+use mathlib.Core.List.{List, [], _∷_, _++_}
+use mathlib.Core.Logic.{_⊎_, inl, inr}
 use mathlib.Core.Option.{Option, none, some, Option·map}
 use native.Mathlib.Omega.{arith}
-use borrow.Author.Tests.{le-leb, leb-true, leb-false}
-use lib.Dec.{leb}
-use lib.ListN.{length, drop}
-use Rattle.primitives.specs.Bytes.{AllBytes}
+use borrow.Author.Tests.{le-leb, leb-true, leb-false, eq-eqb, eqb-true}
+use lib.Dec.{leb, eqb}
+use lib.ListN.{length, take, drop}
+use Rattle.primitives.specs.Bytes.{AllBytes, same}
+use Rattle.primitives.specs.Text.{ascii}
+use Rattle.primitives.specs.Base64.{encoding}
+use Rattle.primitives.specs.declared.base64.Alphabet.the-variants.{UrlSafe}
 use Rattle.primitives.specs.Place.{overwrite}
 use Rattle.primitives.specs.Answers.{written, answerWith, bufferWith}
 use Rattle.primitives.specs.Questions.{ask, Row, asked-all, question, GivesFirstNo}
 use Rattle.primitives.proofs.FirstNo.{gives-none, gives-ask, gives-same}
-use Rattle.primitives.proofs.Rows.{ask-yes, ask-no, true-is-not-false}
+use Rattle.primitives.proofs.ByteLists.{same-refl, same-true}
+use Rattle.primitives.proofs.Rows.{both, ask-yes, ask-no, true-is-not-false}
 use Rattle.primitives.proofs.Over.{placed-room, placed-full}
 use Rattle.primitives.proofs.Answers.{written-room, written-full}
-use Rattle.receipt.specs.Form.{Parts, signedForm, partsOfForm}
+use Rattle.receipt.specs.Form.{Parts, payloadGood, signatureGood, partsGood, failureText, signedForm, partsOfForm}
+use Rattle.receipt.specs.Texts.{beginning}
 use Rattle.receipt.specs.Code.{codeText, partsOfCode, codeAnswer, codeBuffer, uncodeAnswer, uncodeBuffer}
-use Rattle.receipt.specs.CodeLaws.{MadeOf, Exactly}
+use Rattle.receipt.specs.CodeLaws.{Exactly}
 use Rattle.receipt.specs.Line.{CodeFields, textIn, fieldsOf, refusalOf, lineAnswer, lineBuffer, unlineAnswer, unlineBuffer}
 use Rattle.receipt.specs.LineLaws.{SpelledAs, ImageOf, HasCode, HasLine}
-use Rattle.receipt.specs.CallAnswers.{roomFor, Answered, MadeOfSome, Respelled, CodeAnswers, UncodeAnswers, LineFor, LineAnswers, UnlineAnswers}
+use Rattle.receipt.specs.CallAnswers.{GoodParts, PartsGoodMeans, FormIsThreeElements, CodeIsPayloadAndSignature, roomFor, Answered, MadeOfSome, Respelled, CodeAnswers, UncodeAnswers, LineFor, LineAnswers, UnlineAnswers}
 use Rattle.receipt.specs.declared.optical_line.Spelling.the-variants.{Base64, Base32}
+use Rattle.receipt.proofs.CodeTexts.{payload-most, payload-starts}
+use Rattle.receipt.proofs.PaperCases.{header-letters}
 use Rattle.receipt.proofs.Forms.{form-exact}
 use Rattle.receipt.proofs.Codes.{code-exact}
 use Rattle.receipt.proofs.Lines.{fields-exact, spelled-parts}
+
+-- ---- good parts, and the texts that are made of them
+
+parts-only : (p : Parts) → partsGood p ≡ true → GoodParts p
+unfolding payloadGood signatureGood beginning failureText
+parts-only p e =
+    let a = both (payloadGood (p .payload)) (signatureGood (p .signature)) e in
+    let b = both (leb 4 (length (p .payload))) (leb (length (p .payload)) 200 && same (take 4 (p .payload)) beginning) (a .0) in
+    record {
+      least = leb-true 4 (length (p .payload)) (b .0);
+      most = payload-most (p .payload) (a .0);
+      begins = payload-starts (p .payload) (a .0);
+      signature = go (eqb (length (p .signature)) 64) refl (a .1);
+    }
+  where
+    go : (t : Bool) → eqb (length (p .signature)) 64 ≡ t → t || same (p .signature) failureText ≡ true
+        → (length (p .signature) ≡ 64) ⊎ (p .signature ≡ ascii "Sicherheitseinrichtung ausgefallen")
+    go true q h = inl (eqb-true (length (p .signature)) 64 q)
+    go false q h = inr (same-true (p .signature) failureText h)
+
+signature-always : (s : List ℕ) → (length s ≡ 64) ⊎ (s ≡ ascii "Sicherheitseinrichtung ausgefallen") → signatureGood s ≡ true
+unfolding signatureGood failureText
+signature-always s (inl e) = rw (eq-eqb (length s) 64 e)
+signature-always s (inr e) = go (eqb (length s) 64)
+  where
+    go : (t : Bool) → t || same s failureText ≡ true
+    go true = refl
+    go false = ap (λ (x : List ℕ). same x failureText) e ∙ same-refl failureText
+
+parts-always : (p : Parts) → GoodParts p → partsGood p ≡ true
+unfolding payloadGood beginning
+parts-always p g =
+    let b : same (take 4 (p .payload)) beginning ≡ true = ap (λ (x : List ℕ). same x beginning) (g .begins) ∙ same-refl beginning in
+    rw (le-leb 4 (length (p .payload)) (g .least), le-leb (length (p .payload)) 200 (g .most), b) (signature-always (p .signature) (g .signature))
+
+pub parts-mean : PartsGoodMeans
+parts-mean p = record { only = parts-only p; always = parts-always p }
+
+pub form-is-three-elements : FormIsThreeElements
+unfolding signedForm ascii
+form-is-three-elements p = ap (λ (h : List ℕ). h ++ (46 ∷ []) ++ encoding UrlSafe (p .payload) ++ (46 ∷ []) ++ encoding UrlSafe (p .signature)) header-letters
+
+pub code-is-payload-and-signature : CodeIsPayloadAndSignature
+unfolding codeText ascii
+code-is-payload-and-signature p = refl
 
 -- ---- one question more in front
 

@@ -3,7 +3,7 @@ use Prim.Native.Nat.{ℕ, zero, suc, _%_, _<_, _≤_}
 use mathlib.Core.Path.{_≡_, refl, sym, ap, _∙_}
 use mathlib.Core.Bool.{Bool, true, false, cond, _&&_}
 use mathlib.Core.List.{List, [], _∷_}
-use mathlib.Core.Logic.{_⊎_, inl, inr}
+use mathlib.Core.Logic.{inl, inr}
 use native.Mathlib.Omega.{arith}
 use borrow.Author.Tests.{le-leb, leb-true, eqb-true, eqb-false, eq-eqb, ne-eqb}
 use lib.Dec.{leb, eqb}
@@ -12,15 +12,13 @@ use lib.ListN.{length, getD}
 use Rattle.primitives.proofs.Rows.{both, true-is-not-false}
 use Rattle.receipt.specs.Amount.{amountLimit, within}
 use Rattle.receipt.specs.DateTime.{leap, daysIn, dayGood, timeGood, dateGood}
-use Rattle.receipt.specs.Details.{amountsWithin, allZero, standard, startGood, total, countedOf, counted}
+use Rattle.receipt.specs.Details.{amountsWithin, amountsGood, allZero, standard, startGood, total, countedOf, counted, counterAfter}
 use Rattle.receipt.specs.Payload.{counterContent, counterField}
-use Rattle.receipt.specs.SettingsWords.{Means}
-use Rattle.receipt.specs.DetailsWords.{LeapYear, GoodDate, DateGoodMeans, GoodAmounts, AmountsGoodMeans, GoodStart, StartGoodMeans, CountedAs, CountedIsTheAmounts, CounterFieldsAre}
+use Rattle.receipt.specs.DetailsWords.{LeapYear, GoodDate, DateGoodMeans, AmountsGoodMeans, GoodStart, StartGoodMeans, CountedIsTheAmounts, CounterAfterAdds, CounterFieldsAre}
 use Rattle.receipt.specs.declared.datetime.DateTime.{DateTime}
 use Rattle.receipt.specs.declared.details.Kind.{Kind}
-use Rattle.receipt.specs.declared.details.Kind.the-variants.{Standard, Cancellation, Training}
 use Rattle.receipt.specs.declared.details.Details.{Details}
-use Rattle.receipt.proofs.Counting.{start-both}
+use Rattle.receipt.proofs.Counting.{start-both, after-beyond, after-no, after-yes}
 use Rattle.receipt.proofs.Dates.{days-few}
 use Rattle.receipt.proofs.PaperCases.{cancellation-letters, training-letters}
 
@@ -187,6 +185,19 @@ counted-is-the-amounts d =
       cancellation = λ k a b c e f q. (λ i. countedOf (k i) (q i)) ∙ five a b c e f;
       training = λ k. ap (λ (kind : Kind). countedOf kind (d .amounts)) k;
     }
+
+pub counter-after-adds : CounterAfterAdds
+counter-after-adds n z d =
+    record {
+      fits = λ g f. after-yes n z d (amounts-mean (d .amounts) .always g) f;
+      over = λ f. go (amountsGood (d .amounts)) refl (λ g. after-no n z d g f);
+      beyond = λ b. go (amountsGood (d .amounts)) refl (λ g. absurd (b (amounts-mean (d .amounts) .only g)));
+    }
+  where
+    go : (t : Bool) → amountsGood (d .amounts) ≡ t → (amountsGood (d .amounts) ≡ true → counterAfter n z d ≡ record { fits = false; counter = z })
+        → counterAfter n z d ≡ record { fits = false; counter = z }
+    go true e h = h e
+    go false e h = after-beyond n z d e
 
 -- ---- the counter field
 

@@ -37,5 +37,6 @@ pub mod SettingsMeaning
 pub mod Signs
 pub mod Spellings
 pub mod Texts
+pub mod TwelveFields
 pub mod Undoing
 pub mod Written

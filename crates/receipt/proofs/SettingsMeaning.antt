@@ -3,18 +3,18 @@ use Prim.Native.Nat.{ℕ, zero, suc, _+_, _-_, _<_, _≤_}
 use mathlib.Core.Path.{_≡_, refl, sym, ap, _∙_, subst}
 use mathlib.Core.Bool.{Bool, true, false, not, _&&_, _||_}
 use mathlib.Core.List.{List, [], _∷_}
-use mathlib.Core.Logic.{_⊎_, inl, inr}
+use mathlib.Core.Logic.{inl, inr}
 use native.Mathlib.Omega.{arith}
 use borrow.Author.Tests.{le-leb, leb-true, eqb-true, eqb-false, eq-eqb, ne-eqb, not-true}
 use lib.Dec.{leb, eqb}
 use lib.ListN.{length, getD, take, drop}
 use lib.Seq.{length-take-le, getD-take, getD-drop}
 use Rattle.primitives.specs.Counter.{widthGood}
-use Rattle.primitives.specs.Questions.{ask, Row, asked-all, question, GivesFirstNo}
+use Rattle.primitives.specs.Questions.{Row, asked-all, GivesFirstNo}
 use Rattle.primitives.proofs.FirstNo.{gives-none, gives-ask, gives-same}
 use Rattle.primitives.proofs.Rows.{both, true-is-not-false}
 use Rattle.receipt.specs.Settings.{between, idLetter, serialLetter, letterGood, every, nameText, nameGood, cspGood, idGood, serialGood, settingsGood, endsInDigit, idAllowed, settingsNumberFor, SettingsLengths}
-use Rattle.receipt.specs.SettingsWords.{Means, Capital, Digit, IdByte, LowHex, SerialByte, GoodCsp, GoodId, GoodSerial, GoodWidth, NoDigitIfShared, AllGood, CspGoodMeans, IdGoodMeans, SerialGoodMeans, WidthGoodMeans, IdAllowedMeans, SettingsGoodMeans, settingsRow, SettingsNumberIsFirstNo, oneToFour, OneToFourIsFirstNo}
+use Rattle.receipt.specs.SettingsWords.{Capital, Digit, IdByte, SerialByte, GoodCsp, GoodId, GoodSerial, GoodWidth, NoDigitIfShared, AllGood, CspGoodMeans, IdGoodMeans, SerialGoodMeans, WidthGoodMeans, IdAllowedMeans, SettingsGoodMeans, settingsRow, SettingsNumberIsFirstNo, oneToFour, OneToFourIsFirstNo}
 use Rattle.receipt.specs.declared.settings.Name.{Name}
 use Rattle.receipt.specs.declared.settings.Settings.{Settings}
 use Rattle.receipt.specs.declared.settings.Letters.{Letters}

@@ -3,15 +3,43 @@
 use Prim.Native.Nat.{ℕ, _≤_}
 use mathlib.Core.Path.{_≡_}
 use mathlib.Core.List.{List, _++_}
-use lib.ListN.{length, drop}
+use mathlib.Core.Logic.{_⊎_}
+use lib.ListN.{length, take, drop}
 use Rattle.primitives.specs.Bytes.{AllBytes}
+use Rattle.primitives.specs.Text.{ascii}
+use Rattle.primitives.specs.Base64.{encoding}
+use Rattle.primitives.specs.declared.base64.Alphabet.the-variants.{Standard, UrlSafe}
 use Rattle.primitives.specs.Questions.{Row, asked-all, question, GivesFirstNo}
 use Rattle.primitives.specs.declared.answer.Answer.{Answer}
-use Rattle.receipt.specs.Form.{Parts, signedForm}
+use Rattle.receipt.specs.Form.{Parts, partsGood, signedForm}
 use Rattle.receipt.specs.Code.{codeText, codeAnswer, codeBuffer, uncodeAnswer, uncodeBuffer}
 use Rattle.receipt.specs.CodeLaws.{MadeOf}
 use Rattle.receipt.specs.Line.{lineAnswer, lineBuffer, unlineAnswer, unlineBuffer}
 use Rattle.receipt.specs.LineLaws.{ImageOf, HasCode, HasLine}
+use Rattle.receipt.specs.SettingsWords.{Means}
+
+-- ---- good parts, and the texts that are made of them
+
+-- "payload of 4 to 200 bytes beginning '_R1-', signature 64 bytes or the failure text"
+pub record GoodParts (p : Parts) : Type 0 where
+  pub least : 4 ≤ length (p .payload)
+  pub most : length (p .payload) ≤ 200
+  pub begins : take 4 (p .payload) ≡ ascii "_R1-"
+  pub signature : (length (p .signature) ≡ 64) ⊎ (p .signature ≡ ascii "Sicherheitseinrichtung ausgefallen")
+
+abbrev pub PartsGoodMeans : Type 0
+PartsGoodMeans = (p : Parts) → Means (partsGood p) (GoodParts p)
+
+-- "BASE64-URL of {"alg":"ES256"}, '.', of the payload, '.', of the signature"; "the header element is eyJhbGciOiJFUzI1NiJ9"
+abbrev pub FormIsThreeElements : Type 0
+FormIsThreeElements =
+    (p : Parts) → signedForm p ≡ ascii "eyJhbGciOiJFUzI1NiJ9" ++ ascii "." ++ encoding UrlSafe (p .payload) ++ ascii "." ++ encoding UrlSafe (p .signature)
+
+-- "payload, '_', BASE64 of the signature"
+abbrev pub CodeIsPayloadAndSignature : Type 0
+CodeIsPayloadAndSignature = (p : Parts) → codeText p ≡ p .payload ++ ascii "_" ++ encoding Standard (p .signature)
+
+-- ---- the answers
 
 -- "Output long enough? 23": the text that the call has to write fits the output
 abbrev pub roomFor : (List ℕ → Type 0) → List ℕ → Row

@@ -1,21 +1,22 @@
 -- What good details are, what a receipt adds to the counter and what its counter field is, in the paper's words and apart from the definitions that
 -- code follows; the proofs are in proofs/DetailsMeaning.antt.
 use Prim.Native.Nat.{ℕ, _%_, _≤_, _<_}
+use mathlib.Core.Bool.{true, false}
 use mathlib.Core.List.{List, [], _∷_}
 use mathlib.Core.Logic.{_⊎_}
 use mathlib.Core.Path.{_≡_}
 use lib.IntN.{ℤ, pos, natAbs, _+ℤ_}
 use lib.ListN.{length, getD, take}
+use Rattle.primitives.specs.Counter.{counterFits}
 use Rattle.primitives.specs.Text.{ascii}
 use Rattle.primitives.specs.Base64.{encoding}
 use Rattle.primitives.specs.declared.base64.Alphabet.the-variants as alphabet
 use Rattle.receipt.specs.Amount.{amountLimit}
 use Rattle.receipt.specs.DateTime.{dateGood}
-use Rattle.receipt.specs.Details.{amountsWithin, startGood, counted}
+use Rattle.receipt.specs.Details.{amountsWithin, startGood, counted, counterAfter}
 use Rattle.receipt.specs.Payload.{counterField}
 use Rattle.receipt.specs.SettingsWords.{Means}
 use Rattle.receipt.specs.declared.datetime.DateTime.{DateTime}
-use Rattle.receipt.specs.declared.details.Kind.{Kind}
 use Rattle.receipt.specs.declared.details.Kind.the-variants.{Standard, Cancellation, Training}
 use Rattle.receipt.specs.declared.details.Details.{Details}
 
@@ -73,6 +74,15 @@ pub record CountedAs (d : Details) : Type 0 where
 
 abbrev pub CountedIsTheAmounts : Type 0
 CountedIsTheAmounts = (d : Details) → CountedAs d
+
+-- question 11: "New counter fits N bytes?"; the counter after the receipt is the sum, and a refused receipt leaves it as it was
+pub record CounterAfterOf (n : ℕ) (z : ℤ) (d : Details) : Type 0 where
+  pub fits : GoodAmounts (d .amounts) → counterFits n (z +ℤ counted d) ≡ true → counterAfter n z d ≡ record { fits = true; counter = z +ℤ counted d }
+  pub over : counterFits n (z +ℤ counted d) ≡ false → counterAfter n z d ≡ record { fits = false; counter = z }
+  pub beyond : (GoodAmounts (d .amounts) → ⊥) → counterAfter n z d ≡ record { fits = false; counter = z }
+
+abbrev pub CounterAfterAdds : Type 0
+CounterAfterAdds = (n : ℕ) (z : ℤ) (d : Details) → CounterAfterOf n z d
 
 -- ---- "Counter field: standard, BASE64 of the encrypted counter after this receipt; cancellation, BASE64 of 'STO'; training, BASE64 of 'TRA'";
 -- "TRA gives VFJB, STO gives U1RP"

@@ -17,6 +17,7 @@ pub mod LineLaws
 pub mod LineReading
 pub mod Payload
 pub mod PayloadReading
+pub mod PayloadWords
 pub mod Separated
 pub mod Settings
 pub mod SettingsWords
