@@ -45,3 +45,5 @@ pub mod Ordering
 pub mod ReadNumbers
 pub mod RunStops
 pub mod IndexCounts
+pub mod Lettering
+pub mod Escaping
