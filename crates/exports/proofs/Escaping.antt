@@ -46,6 +46,9 @@ no-list : (x : ℕ) (a u : List ℕ) → [] ≡ a ++ (x ∷ u) → ⊥
 no-list x [] u e = let z : _≡_ {A = ℕ} 0 1 = cc in omega arith
 no-list x (y ∷ a) u e = let z : _≡_ {A = ℕ} 0 1 = cc in omega arith
 
+at-start : {x : ℕ} {u t c rest : List ℕ} → Inside t c rest → t ≡ x ∷ u → Within x u [] c rest
+at-start {x} {u} {t} {c} {rest} p e = record { content = c; here = subst (λ (l : List ℕ). Inside l c rest) e p; back = λ v q. q }
+
 module _ (x : ℕ) (u : List ℕ) (i : Inner x) where
   find-inside : {t c rest : List ℕ} → Inside t c rest → (a : List ℕ) → t ≡ a ++ (x ∷ u) → Within x u a c rest ⊎ After x u a c rest
   find-inside (close {rest}) [] e = let z : x ≡ 34 = cc in absurd (i .quote z)
@@ -53,8 +56,7 @@ module _ (x : ℕ) (u : List ℕ) (i : Inner x) where
       let z : y ≡ 34 = cc in
       let r : rest ≡ a ++ (x ∷ u) = cc in
       inr (record { next = a; is = r; back = λ v. subst (λ (b : ℕ). Inside (b ∷ (a ++ v)) [] (a ++ v)) (sym z) close })
-  find-inside (letter {b} {text} {content} {rest} h p) [] e =
-      inl (record { content = b ∷ content; here = subst (λ (l : List ℕ). Inside l (b ∷ content) rest) e (letter h p); back = λ v q. q })
+  find-inside (letter h p) [] e = inl (at-start (letter h p) e)
   find-inside (letter {b} {text} {content} {rest} h p) (y ∷ a) e =
       let z : b ≡ y = cc in
       let r : text ≡ a ++ (x ∷ u) = cc in
@@ -65,8 +67,7 @@ module _ (x : ℕ) (u : List ℕ) (i : Inner x) where
           inl (record { content = w .content; here = w .here; back = λ v q. subst (λ (k : ℕ). Inside (k ∷ (a ++ v)) (b ∷ content) rest) z (letter h (w .back v q)) })
       more z (inr w) =
           inr (record { next = w .next; is = w .is; back = λ v. subst (λ (k : ℕ). Inside (k ∷ (a ++ v)) (b ∷ content) (w .next ++ v)) z (letter h (w .back v)) })
-  find-inside (escape {text} {content} {rest} p) [] e =
-      inl (record { content = 61 ∷ content; here = subst (λ (l : List ℕ). Inside l (61 ∷ content) rest) e (escape p); back = λ v q. q })
+  find-inside (escape p) [] e = inl (at-start (escape p) e)
   find-inside (escape p) (y₁ ∷ []) e = let z : x ≡ 117 = cc in absurd (i .u z)
   find-inside (escape p) (y₁ ∷ y₂ ∷ []) e = let z : x ≡ 48 = cc in absurd (i .zero z)
   find-inside (escape p) (y₁ ∷ y₂ ∷ y₃ ∷ []) e = let z : x ≡ 48 = cc in absurd (i .zero z)
@@ -75,14 +76,16 @@ module _ (x : ℕ) (u : List ℕ) (i : Inner x) where
   find-inside (escape {text} {content} {rest} p) (y₁ ∷ y₂ ∷ y₃ ∷ y₄ ∷ y₅ ∷ y₆ ∷ a) e =
       let r : text ≡ a ++ (x ∷ u) = cc in
       let s : (v : List ℕ) → 92 ∷ 117 ∷ 48 ∷ 48 ∷ 51 ∷ 100 ∷ (a ++ v) ≡ y₁ ∷ y₂ ∷ y₃ ∷ y₄ ∷ y₅ ∷ y₆ ∷ (a ++ v) = λ v. cc in
-      more s (find-inside p a r)
+      more _ s (λ r′ t q. escape q) (find-inside p a r)
     where
-      more : ((v : List ℕ) → 92 ∷ 117 ∷ 48 ∷ 48 ∷ 51 ∷ 100 ∷ (a ++ v) ≡ y₁ ∷ y₂ ∷ y₃ ∷ y₄ ∷ y₅ ∷ y₆ ∷ (a ++ v)) → Within x u a content rest ⊎ After x u a content rest
-          → Within x u (y₁ ∷ y₂ ∷ y₃ ∷ y₄ ∷ y₅ ∷ y₆ ∷ a) (61 ∷ content) rest ⊎ After x u (y₁ ∷ y₂ ∷ y₃ ∷ y₄ ∷ y₅ ∷ y₆ ∷ a) (61 ∷ content) rest
-      more s (inl w) =
-          inl (record { content = w .content; here = w .here; back = λ v q. subst (λ (l : List ℕ). Inside l (61 ∷ content) rest) (s v) (escape (w .back v q)) })
-      more s (inr w) =
-          inr (record { next = w .next; is = w .is; back = λ v. subst (λ (l : List ℕ). Inside l (61 ∷ content) (w .next ++ v)) (s v) (escape (w .back v)) })
+      more : (c : List ℕ) → ((v : List ℕ) → 92 ∷ 117 ∷ 48 ∷ 48 ∷ 51 ∷ 100 ∷ (a ++ v) ≡ y₁ ∷ y₂ ∷ y₃ ∷ y₄ ∷ y₅ ∷ y₆ ∷ (a ++ v))
+          → ((r t : List ℕ) → Inside t content r → Inside (92 ∷ 117 ∷ 48 ∷ 48 ∷ 51 ∷ 100 ∷ t) c r)
+          → Within x u a content rest ⊎ After x u a content rest
+          → Within x u (y₁ ∷ y₂ ∷ y₃ ∷ y₄ ∷ y₅ ∷ y₆ ∷ a) c rest ⊎ After x u (y₁ ∷ y₂ ∷ y₃ ∷ y₄ ∷ y₅ ∷ y₆ ∷ a) c rest
+      more c s step (inl w) =
+          inl (record { content = w .content; here = w .here; back = λ v q. subst (λ (l : List ℕ). Inside l c rest) (s v) (step rest (a ++ v) (w .back v q)) })
+      more c s step (inr w) =
+          inr (record { next = w .next; is = w .is; back = λ v. subst (λ (l : List ℕ). Inside l c (w .next ++ v)) (s v) (step (w .next ++ v) (a ++ v) (w .back v)) })
 
   find : {t : List ℕ} {ts : List Token} → Tokens t ts → (a : List ℕ) → t ≡ a ++ (x ∷ u) → Spot x u a ts
   find end a e = absurd (no-list x a u e)
@@ -161,30 +164,30 @@ equals-letter : plain 61 ≡ true
 unfolding plain
 equals-letter = refl
 
--- a "=" in a string, written as the escape
-to-escape : {t c rest : List ℕ} → Inside t c rest → (b : List ℕ) → t ≡ 61 ∷ b → Inside (92 ∷ 117 ∷ 48 ∷ 48 ∷ 51 ∷ 100 ∷ b) c rest
-to-escape close b e = let z : _≡_ {A = ℕ} 34 61 = cc in absurd (omega (arith, z))
-to-escape (letter {b = y} {text} {content} {rest} h p) b e =
-    let z : 61 ≡ y = cc in
-    let r : text ≡ b = cc in
-    subst (λ (k : ℕ). Inside (92 ∷ 117 ∷ 48 ∷ 48 ∷ 51 ∷ 100 ∷ b) (k ∷ content) rest) z (escape (subst (λ (l : List ℕ). Inside l content rest) r p))
-to-escape (escape p) b e = let z : _≡_ {A = ℕ} 92 61 = cc in absurd (omega (arith, z))
-
--- after a backslash stand the other five, and the six spell "="
-of-backslash : {t c rest : List ℕ} → Inside t c rest → (b : List ℕ) → t ≡ 92 ∷ b
-    → (more : List ℕ) × (b ≡ 117 ∷ 48 ∷ 48 ∷ 51 ∷ 100 ∷ more) × Inside (61 ∷ more) c rest
-of-backslash close b e = let z : _≡_ {A = ℕ} 34 92 = cc in absurd (omega (arith, z))
-of-backslash (letter {b = y} h p) b e =
-    let z : y ≡ 92 = cc in
-    true-is-not-false (sym backslash-no-letter ∙ subst (λ (k : ℕ). plain k ≡ true) z h)
-of-backslash (escape {text} {content} {rest} p) b e =
-    let r : b ≡ 117 ∷ 48 ∷ 48 ∷ 51 ∷ 100 ∷ text = cc in
-    (text, r, letter equals-letter p)
-
 pub escape-exactly : EscapeExactly
 unfolding ascii
 escape-exactly = record { same = λ a b es. (to a b es, from a b es); only = only }
   where
+    -- a "=" in a string, written as the escape
+    to-escape : {t c rest : List ℕ} → Inside t c rest → (b : List ℕ) → t ≡ 61 ∷ b → Inside (92 ∷ 117 ∷ 48 ∷ 48 ∷ 51 ∷ 100 ∷ b) c rest
+    to-escape close b e = let z : _≡_ {A = ℕ} 34 61 = cc in absurd (omega (arith, z))
+    to-escape (letter {b = y} {text} {content} {rest} h p) b e =
+        let z : 61 ≡ y = cc in
+        let r : text ≡ b = cc in
+        subst (λ (k : ℕ). Inside (92 ∷ 117 ∷ 48 ∷ 48 ∷ 51 ∷ 100 ∷ b) (k ∷ content) rest) z (escape (subst (λ (l : List ℕ). Inside l content rest) r p))
+    to-escape (escape p) b e = let z : _≡_ {A = ℕ} 92 61 = cc in absurd (omega (arith, z))
+
+    -- after a backslash stand the other five, and the six spell "="
+    of-backslash : {t c rest : List ℕ} → Inside t c rest → (b : List ℕ) → t ≡ 92 ∷ b
+        → (more : List ℕ) × (b ≡ 117 ∷ 48 ∷ 48 ∷ 51 ∷ 100 ∷ more) × Inside (61 ∷ more) c rest
+    of-backslash close b e = let z : _≡_ {A = ℕ} 34 92 = cc in absurd (omega (arith, z))
+    of-backslash (letter {b = y} h p) b e =
+        let z : y ≡ 92 = cc in
+        true-is-not-false (sym backslash-no-letter ∙ subst (λ (k : ℕ). plain k ≡ true) z h)
+    of-backslash (escape {text} {content} {rest} p) b e =
+        let r : b ≡ 117 ∷ 48 ∷ 48 ∷ 51 ∷ 100 ∷ text = cc in
+        (text, r, letter equals-letter p)
+
     to : (a b : List ℕ) (es : List Element) → Shape (a ++ (ascii "=" ++ b)) es → Shape (a ++ (ascii "\\u003d" ++ b)) es
     to a b es s =
         let p = find 61 b equals-inner (s .spelled) a refl in

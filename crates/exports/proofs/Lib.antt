@@ -47,3 +47,5 @@ pub mod RunStops
 pub mod IndexCounts
 pub mod Lettering
 pub mod Escaping
+pub mod Plainly
+pub mod InOrder
