@@ -49,3 +49,4 @@ pub mod Lettering
 pub mod Escaping
 pub mod Plainly
 pub mod InOrder
+pub mod Roomy
