@@ -1,6 +1,6 @@
 -- The journal of elements taken over where its receipts lie: the answer is that of Take over on the journal that the elements spell.
 use Prim.Native.Nat.{ℕ, _<_}
-use mathlib.Core.Path.{_≡_, refl, ap, _∙_}
+use mathlib.Core.Path.{_≡_, refl, sym, ap, _∙_}
 use mathlib.Core.Bool.{Bool, true, false, cond, not, _&&_}
 use mathlib.Core.List.{List, [], _∷_, map}
 use mathlib.Core.Option.{Option, none, some}
@@ -59,7 +59,7 @@ payload-good p e =
       serial = f .1;
     }
 
-named-good : (w : List ℕ) → named w .good ≡ true → GoodNames (named w .settings)
+pub named-good : (w : List ℕ) → named w .good ≡ true → GoodNames (named w .settings)
 unfolding named
 named-good w e = go (eqb (countOf dot w) 2) (decoding UrlSafe (middle w)) e
   where
@@ -72,6 +72,21 @@ named-good w e = go (eqb (countOf dot w) 2) (decoding UrlSafe (middle w)) e
     go false d h = true-is-not-false h
     go true none h = true-is-not-false h
     go true (some p) h = by p (payloadNames p) refl h
+
+-- what names nothing
+pub named-none : (w : List ℕ) → named w .good ≡ false → named w ≡ notNamed
+unfolding named
+named-none w e = go (eqb (countOf dot w) 2) (decoding UrlSafe (middle w)) e
+  where
+    by : (p : List ℕ) (t : Bool) → cond t (record { good = true; settings = settingsIn p }) notNamed .good ≡ false
+        → cond t (record { good = true; settings = settingsIn p }) notNamed ≡ notNamed
+    by p true h = true-is-not-false (sym h)
+    by p false h = refl
+
+    go : (t : Bool) (d : Option (List ℕ)) → cond t (namedBy d) notNamed .good ≡ false → cond t (namedBy d) notNamed ≡ notNamed
+    go false d h = refl
+    go true none h = refl
+    go true (some p) h = by p (payloadNames p) h
 
 -- ---- elements that were asked about
 

@@ -45,3 +45,8 @@ pub mod Ordering
 pub mod ReadNumbers
 pub mod RunStops
 pub mod IndexCounts
+pub mod Lettering
+pub mod Escaping
+pub mod Plainly
+pub mod InOrder
+pub mod Roomy

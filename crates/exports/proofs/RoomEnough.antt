@@ -1,6 +1,6 @@
 -- The journal that a text spells is not longer than the text.
 use Prim.Native.Nat.{ℕ, suc, _+_, _*_, _≤_, _<_}
-use mathlib.Core.Path.{_≡_, refl, ap, _∙_}
+use mathlib.Core.Path.{_≡_, refl, sym, ap, _∙_, subst}
 use mathlib.Core.Bool.{Bool, true, false, cond, not, _&&_}
 use mathlib.Core.List.{List, [], _∷_, _++_, map}
 use mathlib.Core.Option.{Option, none, some}
@@ -22,13 +22,15 @@ use Rattle.journal.proofs.Sections.{length-section}
 use Rattle.exports.specs.Text.{Token, mark, word, every, Inside, close, letter, escape, Tokens, end, space, sign, quoted}
 use Rattle.exports.specs.Shape.{groupName, certificateName, issuersName, receiptsName, array, following, string, Member, certificate, issuers, receipts, member, nameOf, valueOf, certificatesOf, issuersOf, receiptsOf, Element, Written, object, written, document, elements, Shape}
 use Rattle.exports.specs.Spelled.{isEmpty, sizedTexts, pairSpelled, pairsSpelled, journalSpelled}
-use Rattle.exports.specs.Reading.{elementGood, hasReceipt, namesRegister, settingsOf, pairOf, ownerOf, journalOfElements, surveyNumber, elementsNumber, restoredFrom, restoredBy, restored, notRead}
+use Rattle.exports.specs.Naming.{named, notNamed}
+use Rattle.exports.specs.declared.naming.Named.{Named}
+use Rattle.receipt.specs.declared.settings.Settings.{Settings}
+use Rattle.exports.specs.Reading.{elementGood, hasReceipt, firstOf, namesRegister, settingsOf, pairOf, ownerOf, journalOfElements, surveyNumber, elementsNumber, restoredFrom, restoredBy, restored, notRead}
 use Rattle.exports.specs.Parsed.{elementsOf}
 use Rattle.exports.specs.Promises.{TextIsRoomEnough}
 use Rattle.exports.proofs.Unique.{exact}
 use Rattle.exports.proofs.Lexical.{mark-not}
-use Rattle.exports.proofs.Sized.{every-head, every-tail}
-use Rattle.exports.proofs.ElementsTaken.{element-names}
+use Rattle.exports.proofs.ElementsTaken.{named-good, named-none}
 
 -- ---- how long tokens are at least
 
@@ -172,10 +174,30 @@ shape-long text es s = omega (arith, document-long (s .order), tokens-long (s .s
 
 -- ---- the journal
 
-pair-short : (e : Element) → namesRegister e ≡ true → length (pairSpelled (pairOf e)) ≤ 40 + length (sizedTexts (e .receipts))
+-- whatever the first receipt of an element names, and if it names nothing
+record Sizes (s : Settings) : Type 0 where
+  pub three : length (s .csp) ≡ 3
+  pub id-long : length (s .id .bytes) ≡ 32
+  pub serial-long : length (s .serial .bytes) ≡ 32
+
+none-sizes : Sizes (notNamed .settings)
+none-sizes = record { three = refl; id-long = refl; serial-long = refl }
+
+named-sizes : (w : List ℕ) → Sizes (named w .settings)
+named-sizes w = go (named w .good) refl
+  where
+    go : (t : Bool) → named w .good ≡ t → Sizes (named w .settings)
+    go true q = let g = named-good w q in record { three = g .three; id-long = g .id-long; serial-long = g .serial-long }
+    go false q = subst (λ (n : Named). Sizes (n .settings)) (sym (named-none w q)) none-sizes
+
+element-sizes : (e : Element) → Sizes (settingsOf e)
+unfolding settingsOf
+element-sizes e = named-sizes (firstOf (e .receipts))
+
+pair-short : (e : Element) → length (pairSpelled (pairOf e)) ≤ 40 + length (sizedTexts (e .receipts))
 unfolding pairSpelled pairStart pairOf
-pair-short e h =
-    let g = element-names e h in
+pair-short e =
+    let g = element-sizes e in
     omega (
       arith,
       text-short (settingsOf e .serial) (g .serial-long),
@@ -185,16 +207,15 @@ pair-short e h =
       length-bytesOf 4 (length (e .receipts)),
     )
 
-pairs-short : (es : List Element) → every namesRegister es ≡ true → length (pairsSpelled (map pairOf es)) + 29 * length es ≤ spelledSize es
+pairs-short : (es : List Element) → length (pairsSpelled (map pairOf es)) + 29 * length es ≤ spelledSize es
 unfolding pairsSpelled spelledSize
-pairs-short [] h = omega arith
-pairs-short (e ∷ es) h =
-    omega (arith, length-append (pairSpelled (pairOf e)) (pairsSpelled (map pairOf es)), pair-short e (every-head namesRegister e es h), pairs-short es (every-tail namesRegister e es h))
+pairs-short [] = omega arith
+pairs-short (e ∷ es) = omega (arith, length-append (pairSpelled (pairOf e)) (pairsSpelled (map pairOf es)), pair-short e, pairs-short es)
 
-owner-short : (e : Element) (es : List Element) → namesRegister e ≡ true → length (ownerText (ownerOf (e ∷ es))) ≤ 43
+owner-short : (e : Element) (es : List Element) → length (ownerText (ownerOf (e ∷ es))) ≤ 43
 unfolding ownerText ownerOf
-owner-short e es h =
-    let g = element-names e h in
+owner-short e es =
+    let g = element-sizes e in
     omega (
       arith,
       g .three,
@@ -204,37 +225,37 @@ owner-short e es h =
       length-section (nameText (settingsOf e .id)),
     )
 
-pub journal-short : (text : List ℕ) (es : List Element) → Shape text es → not (isEmpty es) ≡ true → every namesRegister es ≡ true → length (journalOfElements es) ≤ length text
+pub journal-short : (text : List ℕ) (es : List Element) → Shape text es → not (isEmpty es) ≡ true → length (journalOfElements es) ≤ length text
 unfolding journalOfElements journalSpelled
-journal-short text [] s n h = true-is-not-false n
-journal-short text (e ∷ es) s n h =
+journal-short text [] s n = true-is-not-false n
+journal-short text (e ∷ es) s n =
     omega (
       arith,
       shape-long text (e ∷ es) s,
-      pairs-short (e ∷ es) h,
-      owner-short e es (every-head namesRegister e es h),
+      pairs-short (e ∷ es),
+      owner-short e es,
       length-append (ownerText (ownerOf (e ∷ es))) (pairsSpelled (map pairOf (e ∷ es))),
     )
 
 -- ---- the answer
 
 -- 23 comes only after the other questions
-module _ (es : List Element) (a b : ℕ) (same : not (isEmpty es) ≡ true → every namesRegister es ≡ true → a ≡ b) where
+module _ (es : List Element) (a b : ℕ) (same : not (isEmpty es) ≡ true → a ≡ b) where
   survey-same : surveyNumber es a ≡ surveyNumber es b
   unfolding surveyNumber ask
-  survey-same = go (not (isEmpty es)) (every elementGood es) (every hasReceipt es) (every namesRegister es) refl refl
+  survey-same = go (not (isEmpty es)) (every elementGood es) (every hasReceipt es) (every namesRegister es) refl
     where
-      go : (p q r t : Bool) → not (isEmpty es) ≡ p → every namesRegister es ≡ t → ask (p && q) 28 (ask r 29 (ask t 28 a)) ≡ ask (p && q) 28 (ask r 29 (ask t 28 b))
-      go true true true true x y = same x y
-      go true true true false x y = refl
-      go true true false t x y = refl
-      go true false r t x y = refl
-      go false q r t x y = refl
+      go : (p q r t : Bool) → not (isEmpty es) ≡ p → ask (p && q) 28 (ask r 29 (ask t 28 a)) ≡ ask (p && q) 28 (ask r 29 (ask t 28 b))
+      go true true true true x = same x
+      go true true true false x = refl
+      go true true false t x = refl
+      go true false r t x = refl
+      go false q r t x = refl
 
 number-same : (text : List ℕ) (es : List Element) (size : ℕ) → Shape text es → length text ≤ size → elementsNumber es size ≡ elementsNumber es (length text)
 unfolding elementsNumber ask
-number-same text es size s h = survey-same es _ _ (λ n e.
-    let l = journal-short text es s n e in
+number-same text es size s h = survey-same es _ _ (λ n.
+    let l = journal-short text es s n in
     let x : leb (length (journalOfElements es)) size ≡ true = le-leb (length (journalOfElements es)) size (omega (arith, l, h)) in
     let y : leb (length (journalOfElements es)) (length text) ≡ true = le-leb (length (journalOfElements es)) (length text) l in
     rw (x, y))
@@ -253,4 +274,4 @@ some-element [] h = absurd (h refl)
 some-element (x ∷ es) h = refl
 
 pub text-is-room-enough : TextIsRoomEnough
-text-is-room-enough = record { fits = λ text es s n h. journal-short text es s (some-element es n) h; same = answer-same }
+text-is-room-enough = record { fits = λ text es s n h. journal-short text es s (some-element es n); same = answer-same }

@@ -19,3 +19,6 @@ pub mod Promises
 pub mod Indices
 pub mod TakenOver
 pub mod Orders
+pub mod Letters
+pub mod InOrder
+pub mod Room

@@ -33,7 +33,7 @@ partsTaken o p ps key n =
     cond (widthGood n) (lastAnswer (runPairs (keySchedule key) true (fresh (settingsFor o (p .serial)) n key) (p ∷ ps))) (refused 4 0)
 
 -- Number, index and state are those of Take over on the journal that the parts spell, whether or not it is written; for every key and every width, good or
--- not, and whatever the texts are.
+-- not, and whatever the texts say: of them `GoodPairs` asks only that each has at most 65,535 bytes, and that a pair has fewer than 2^32.
 abbrev pub ReadIsTakenOver : Type 0
 ReadIsTakenOver =
     (o : Owner) (p : TextPair) (ps : List TextPair) (key : List ℕ) (n : ℕ) → GoodParts o (p ∷ ps)

@@ -193,13 +193,13 @@ pub(crate) fn survey_number(some: bool, s: Survey) -> u32
     ensures { λ r. ⌜ r ≡ surveyAnswer some s ⌝ }
 {
     if !both(some, s.good) {
-        return 28;
+        return 28; // of the text
     }
     if !s.some {
         return 29;
     }
     if !s.named {
-        return 28;
+        return 28; // of the first receipts
     }
     let end = s.end;
     if !end.fits {
