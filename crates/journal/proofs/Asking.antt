@@ -19,16 +19,15 @@ use Rattle.receipt.specs.SettingsWords.{GoodSerial}
 use Rattle.receipt.specs.DateTime.{dateGood}
 use Rattle.receipt.specs.Amount.{amountLimit}
 use Rattle.receipt.specs.Details.{amountsWithin, counted}
-use Rattle.receipt.specs.DetailsWords.{GoodDate, GoodAmounts, GoodStart}
+use Rattle.receipt.specs.DetailsWords.{GoodDate, GoodAmounts, GoodStart, amountsTaken, addedUp}
 use Rattle.receipt.proofs.SettingsMeaning.{csp-means, id-means, serial-means, width-means, settings-asked}
-use Rattle.receipt.proofs.DetailsMeaning.{date-means, amounts-mean, start-means}
+use Rattle.receipt.proofs.DetailsMeaning.{date-means, amounts-mean, start-means, counted-is-added-up}
 use Rattle.receipt.specs.declared.settings.Name.{Name}
 use Rattle.receipt.specs.declared.settings.Settings.{Settings}
 use Rattle.receipt.specs.declared.details.Details.{Details}
 use Rattle.journal.specs.Head.{headLength, entryText}
 use Rattle.journal.specs.State.{noName, used, inEight, isIn, serialsGood, headLengthNow, settingsFirst, TypedState}
 use Rattle.journal.specs.Step.{soundAlone, sound, numberAbove, firstGood, newCounter, detailsNumberWithin, detailsNumber, renewNumber}
-use Rattle.journal.specs.Receipts.{amountsTaken, addedUp}
 use Rattle.journal.specs.Opening.{openNumber}
 use Rattle.journal.specs.Issuing.{signatureSized, textOf, entryFits, issueNumberWithin}
 use Rattle.journal.specs.Preparing.{preparedText, prepareNumber}
@@ -38,7 +37,6 @@ use Rattle.journal.specs.Certificates.{OneOf, GoodSerials}
 use Rattle.journal.specs.Asked.{SoundState, SoundIn, OpenGivesFirstNo, detailsRow, IssueGivesFirstNo, PrepareGivesFirstNo, ChangeGivesFirstNo, SoundFor, CheckAsksSix}
 use Rattle.journal.specs.declared.state.State.{State}
 use Rattle.journal.proofs.Places.{length-entry}
-use Rattle.journal.proofs.Sums.{taken-counted}
 use Rattle.journal.proofs.Answers.{Sound, sound-true, sound-yes}
 use Rattle.journal.proofs.Check.{above-true, above-yes, first-true, first-yes, new-yes, new-fits}
 use Rattle.journal.proofs.Certificates.{serials-good-exactly, in-one, one-in}
@@ -133,7 +131,7 @@ module _ (st : State) (d : Details) where
   started h = first-yes st d (λ z. start-means d .always (h z))
 
   new-is-taken : counterFits (st .width) (st .counter +ℤ counted d) ≡ counterFits (st .width) (st .counter +ℤ addedUp (amountsTaken (d .kind) (d .amounts)))
-  new-is-taken = ap (λ (z : ℤ). counterFits (st .width) (st .counter +ℤ z)) (sym (taken-counted d))
+  new-is-taken = ap (λ (z : ℤ). counterFits (st .width) (st .counter +ℤ z)) (counted-is-added-up d)
 
   fits-of : newCounter st d .fits ≡ true → counterFits (st .width) (st .counter +ℤ addedUp (amountsTaken (d .kind) (d .amounts))) ≡ true
   fits-of e = sym new-is-taken ∙ new-fits st d e .fits

@@ -13,13 +13,12 @@ use Rattle.primitives.specs.Aes.{keySchedule}
 use Rattle.primitives.specs.Questions.{Row, asked-all, question, GivesFirstNo}
 use Rattle.receipt.specs.Settings.{SettingsLengths, TypedSettings}
 use Rattle.receipt.specs.SettingsWords.{GoodCsp, GoodId, GoodSerial, GoodWidth, AllGood, settingsRow}
-use Rattle.receipt.specs.DetailsWords.{GoodDate, GoodAmounts, GoodStart}
+use Rattle.receipt.specs.DetailsWords.{GoodDate, GoodAmounts, GoodStart, amountsTaken, addedUp}
 use Rattle.receipt.specs.declared.settings.Name.{Name}
 use Rattle.receipt.specs.declared.settings.Settings.{Settings}
 use Rattle.receipt.specs.declared.details.Details.{Details}
 use Rattle.receipt.specs.declared.entry.Entry.{Entry}
 use Rattle.journal.specs.State.{noName, used, settingsNow, TypedState}
-use Rattle.journal.specs.Receipts.{amountsTaken, addedUp}
 use Rattle.journal.specs.Opening.{openNumber}
 use Rattle.journal.specs.Issuing.{textOf, issueNumber}
 use Rattle.journal.specs.Preparing.{preparedText, prepareNumber}

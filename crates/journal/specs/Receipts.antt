@@ -3,8 +3,7 @@ use mathlib.Core.Path.{_≡_}
 use mathlib.Core.List.{List, [], _∷_, _++_}
 use lib.IntN.{ℤ, pos, _+ℤ_}
 use Rattle.receipt.specs.Details.{counted}
-use Rattle.receipt.specs.declared.details.Kind.{Kind}
-use Rattle.receipt.specs.declared.details.Kind.the-variants.{Standard, Cancellation, Training}
+use Rattle.receipt.specs.DetailsWords.{amountsTaken, addedUp}
 use Rattle.receipt.specs.declared.details.Details.{Details}
 use Rattle.receipt.specs.declared.entry.Signature.{Signature}
 use Rattle.receipt.specs.declared.entry.Entry.{Entry}
@@ -24,21 +23,10 @@ receiptsIn (e ∷ es) = receiptOf e ∷ receiptsIn es
 
 -- ---- demand 3's sum, in its own words: it does not use the function that a register adds by
 
--- the five amounts of a receipt other than training, and none of a training receipt
-abbrev pub amountsTaken : Kind → List ℤ → List ℤ
-amountsTaken Standard zs = zs
-amountsTaken Cancellation zs = zs
-amountsTaken Training zs = []
-
--- those of all receipts, one after the other
+-- the amounts of all receipts other than training, one after the other
 unfoldable pub allAmounts : List Receipt → List ℤ
 allAmounts [] = []
 allAmounts (r ∷ rs) = amountsTaken (r .details .kind) (r .details .amounts) ++ allAmounts rs
-
--- amounts added with their signs; 0 if there are none
-unfoldable pub addedUp : List ℤ → ℤ
-addedUp [] = pos 0
-addedUp (z ∷ zs) = z +ℤ addedUp zs
 
 -- "The sum takes the five amounts of each receipt other than training, with their signs, and is 0 where there is no such receipt."
 unfoldable pub sum : List Receipt → ℤ

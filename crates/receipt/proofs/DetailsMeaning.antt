@@ -14,9 +14,10 @@ use Rattle.receipt.specs.Amount.{amountLimit, within}
 use Rattle.receipt.specs.DateTime.{leap, daysIn, dayGood, timeGood, dateGood}
 use Rattle.receipt.specs.Details.{amountsWithin, amountsGood, allZero, standard, startGood, total, countedOf, counted, counterAfter}
 use Rattle.receipt.specs.Payload.{counterContent, counterField}
-use Rattle.receipt.specs.DetailsWords.{LeapYear, GoodDate, DateGoodMeans, AmountsGoodMeans, GoodStart, StartGoodMeans, CountedIsTheAmounts, CounterAfterAdds, CounterFieldsAre}
+use Rattle.receipt.specs.DetailsWords.{LeapYear, GoodDate, DateGoodMeans, AmountsGoodMeans, GoodStart, StartGoodMeans, CountedIsTheAmounts, amountsTaken, addedUp, CountedIsAddedUp, CounterAfterAdds, CounterFieldsAre}
 use Rattle.receipt.specs.declared.datetime.DateTime.{DateTime}
 use Rattle.receipt.specs.declared.details.Kind.{Kind}
+use Rattle.receipt.specs.declared.details.Kind.the-variants.{Standard, Cancellation, Training}
 use Rattle.receipt.specs.declared.details.Details.{Details}
 use Rattle.receipt.proofs.Counting.{start-both, after-beyond, after-no, after-yes}
 use Rattle.receipt.proofs.Dates.{days-few}
@@ -176,6 +177,20 @@ five : (a b c e f : ℤ) → a +ℤ (b +ℤ (c +ℤ (e +ℤ (f +ℤ pos 0)))) �
 five a b c e f =
     ap (λ (z : ℤ). a +ℤ (b +ℤ (c +ℤ (e +ℤ z)))) (+ℤ-idr f) ∙ sym (+ℤ-assoc a b (c +ℤ (e +ℤ f))) ∙ sym (+ℤ-assoc (a +ℤ b) c (e +ℤ f))
     ∙ sym (+ℤ-assoc (a +ℤ b +ℤ c) e f)
+
+added-total : (zs : List ℤ) → addedUp zs ≡ total zs
+unfolding addedUp total
+added-total [] = refl
+added-total (z ∷ zs) = ap (λ (x : ℤ). z +ℤ x) (added-total zs)
+
+pub counted-is-added-up : CountedIsAddedUp
+unfolding counted addedUp
+counted-is-added-up d = go (d .kind) (d .amounts)
+  where
+    go : (k : Kind) (zs : List ℤ) → countedOf k zs ≡ addedUp (amountsTaken k zs)
+    go Standard zs = sym (added-total zs)
+    go Cancellation zs = sym (added-total zs)
+    go Training zs = refl
 
 pub counted-is-the-amounts : CountedIsTheAmounts
 unfolding counted total

@@ -17,6 +17,7 @@ use Rattle.receipt.specs.Details.{amountsWithin, startGood, counted, cou
 use Rattle.receipt.specs.Payload.{counterField}
 use Rattle.receipt.specs.SettingsWords.{Means}
 use Rattle.receipt.specs.declared.datetime.DateTime.{DateTime}
+use Rattle.receipt.specs.declared.details.Kind.{Kind}
 use Rattle.receipt.specs.declared.details.Kind.the-variants.{Standard, Cancellation, Training}
 use Rattle.receipt.specs.declared.details.Details.{Details}
 
@@ -74,6 +75,20 @@ pub record CountedAs (d : Details) : Type 0 where
 
 abbrev pub CountedIsTheAmounts : Type 0
 CountedIsTheAmounts = (d : Details) → CountedAs d
+
+-- the same for a list of any length: the amounts of a receipt other than training, and none of a training receipt
+abbrev pub amountsTaken : Kind → List ℤ → List ℤ
+amountsTaken Standard zs = zs
+amountsTaken Cancellation zs = zs
+amountsTaken Training zs = []
+
+-- added with their signs; 0 if there are none
+unfoldable pub addedUp : List ℤ → ℤ
+addedUp [] = pos 0
+addedUp (z ∷ zs) = z +ℤ addedUp zs
+
+abbrev pub CountedIsAddedUp : Type 0
+CountedIsAddedUp = (d : Details) → counted d ≡ addedUp (amountsTaken (d .kind) (d .amounts))
 
 -- question 11: "New counter fits N bytes?"; the counter after the receipt is the sum, and a refused receipt leaves it as it was
 pub record CounterAfterOf (n : ℕ) (z : ℤ) (d : Details) : Type 0 where
