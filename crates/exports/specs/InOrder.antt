@@ -1,4 +1,5 @@
--- The questions of both calls in the order of the paper, said of the elements that a text spells and of the groups in a buffer. No test of the definitions is run.
+-- The questions of both calls in the order of the paper, said of the elements that a text spells and of the groups in a buffer. The tests of Reading.antt and of
+-- Groups.antt, and the rows of questions there, are not run.
 use Prim.Native.Nat.{ℕ, _≤_}
 use mathlib.Core.Path.{_≡_}
 use mathlib.Core.Bool.{true}
