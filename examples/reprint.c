@@ -1,17 +1,20 @@
-/* Prints the receipts of a journal again. It reads the journal from a file, walks its pairs and their entries as the header describes, and
- * reads each receipt back with the serial of its pair. Each line has the number, date and time, kind, the five amounts in cents, and
- * whether the device had signed.
+/* Prints the receipts of a journal again. It reads the journal, of any size, from a file, walks its pairs and their entries as the header
+ * describes, and reads each receipt back with the serial of its pair. Each line has the number, date and time, kind, the five amounts in
+ * cents, and whether the device had signed.
  *
  *     cc -Iinclude examples/reprint.c target/staticlib/libdevice.a -o reprint
  *     ./reprint JOURNAL WIDTH          WIDTH: bytes of the register's turnover counter, 5 to 8
  *
- * To find out whether the journal is good, take it over. This program only reads.
+ * To find out whether the journal is good, take it over. This program only reads. Exit status: 0, or 1 if it came to something that it
+ * could not read as a receipt ("refused", with a number of docs/QUESTIONS.md), or 2 if an argument is wrong or the file cannot be read.
  */
 #include "ditgrux.h"
 
+#include <errno.h>
 #include <inttypes.h>
 #include <stdio.h>
 #include <stdlib.h>
+#include <string.h>
 
 /* What is left of the file: every number and text is taken from its front. */
 struct reader {
@@ -116,19 +119,54 @@ static uint32_t reprint(struct reader *r, size_t width)
     return refused;
 }
 
+/* ---- the file */
+
+/* All bytes of a file, in memory that the caller frees. NULL if they cannot be read or do not fit in memory. */
+static uint8_t *contents(const char *path, size_t *length)
+{
+    FILE *file = fopen(path, "rb");
+    uint8_t *bytes = NULL, *larger;
+    size_t size = 0, got = 0;
+    int why;
+    if (file == NULL)
+        return NULL;
+    do {
+        size = size ? 2 * size : 1 << 16; /* at each turn the memory is full */
+        larger = (uint8_t *)realloc(bytes, size);
+        if (larger == NULL)
+            break;
+        bytes = larger;
+        got += fread(bytes + got, 1, size - got, file);
+    } while (got == size);
+    *length = got;
+    if (larger == NULL || ferror(file)) {
+        free(bytes);
+        bytes = NULL;
+    }
+    why = errno; /* of the first that failed */
+    fclose(file);
+    errno = why;
+    return bytes;
+}
+
 int main(int count, char **arguments)
 {
-    static uint8_t journal[1 << 20];
-    struct reader r = {journal, 0, 1};
-    FILE *file = count == 3 ? fopen(arguments[1], "rb") : NULL;
+    struct reader r = {NULL, 0, 1};
+    uint8_t *journal;
     uint32_t refused;
-    if (file == NULL) {
+    if (count != 3) {
         fprintf(stderr, "usage: reprint JOURNAL WIDTH\n");
         return 2;
     }
-    r.left = fread(journal, 1, sizeof journal, file);
-    fclose(file);
+    errno = 0;
+    journal = contents(arguments[1], &r.left);
+    if (journal == NULL) {
+        fprintf(stderr, "reprint: %s: %s\n", arguments[1], errno ? strerror(errno) : "cannot be read");
+        return 2;
+    }
+    r.bytes = journal;
     refused = reprint(&r, strtoul(arguments[2], NULL, 10));
+    free(journal);
     if (refused)
         fprintf(stderr, "refused %u\n", (unsigned)refused);
     return refused ? 1 : 0;

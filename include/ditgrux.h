@@ -300,8 +300,8 @@ uint32_t ditgrux_serials(const uint8_t *state, size_t state_length);
  *     which                       the number of the serial, from 0
  *     output, output_length       output
  *     length                      output: the length of the serial; 0 if there is no such serial, or if the state is not 447
- *                                 bytes long: then nothing is written, and DITGRUX_DONE is returned; at most 32, whatever a
- *                                 damaged state says
+ *                                 bytes long: then nothing is written, and DITGRUX_DONE is returned; 32 if a damaged state
+ *                                 says more, and then all 32 bytes of the serial's place are written
  *
  * Returns DITGRUX_DONE, or DITGRUX_OUTPUT_SHORT. Refused: `output` is unchanged and *length is 0. */
 uint32_t ditgrux_serial(const uint8_t *state, size_t state_length, uint32_t which, uint8_t *output, size_t output_length,
@@ -314,8 +314,11 @@ uint32_t ditgrux_serial(const uint8_t *state, size_t state_length, uint32_t whic
  *     which                       the number of the serial, from 0, as for ditgrux_serial
  *     settings, settings_length   output: exactly 123 bytes; they hold the key
  *
- * If the register has no such serial, the settings hold an empty one, and ditgrux_read refuses them with DITGRUX_BAD_SERIAL. With a
- * state that is not 447 bytes long the settings are all zero.
+ * What the state holds is copied, good or bad: CSP, ID, width, key, and all 40 bytes of a serial that the register has had (`which` is
+ * below ditgrux_serials), also if its length is over 32 or bytes after its end are not zero. If the register has had no such serial,
+ * the 40 bytes are zeros, whatever the state holds in that place: so also for a serial of length 0 with other bytes than zeros, and for
+ * one that comes after a serial of length 0. ditgrux_read refuses all these settings with DITGRUX_BAD_SERIAL, if CSP and ID are good.
+ * With a state that is not 447 bytes long the settings are all zero, and ditgrux_read refuses them with DITGRUX_BAD_CSP.
  *
  * Returns DITGRUX_DONE, or DITGRUX_OUTPUT_SHORT (settings_length is not 123, be it less or more). Refused: `settings` is unchanged. */
 uint32_t ditgrux_settings_in(const uint8_t *state, size_t state_length, uint32_t which, uint8_t *settings, size_t settings_length);
@@ -595,10 +598,10 @@ uint32_t ditgrux_fields(const uint8_t *code, size_t code_length, size_t *start, 
  *     length                      output: the length of the text
  *     index                       output: where the journal is refused, as in ditgrux_take_over
  *
- * Returns DITGRUX_DONE, or what ditgrux_take_over returns for this journal, key and width: DITGRUX_BAD_WIDTH, DITGRUX_BAD_HEAD,
- * DITGRUX_ENTRY_CUT, DITGRUX_ENTRY_MISSPELLED, DITGRUX_ENTRY_NUMBER, DITGRUX_ENTRY_NO_START, DITGRUX_ENTRY_CHAIN,
- * DITGRUX_ENTRY_COUNTER, DITGRUX_BYTES_LEFT, DITGRUX_SERIAL_USED or DITGRUX_SERIALS_FULL; then DITGRUX_BAD_EXPORT (the
- * certificates are not exactly one group for each pair), or DITGRUX_OUTPUT_SHORT.
+ * Returns DITGRUX_DONE, or what ditgrux_take_over returns for this journal, key and width: DITGRUX_BAD_WIDTH (the width, or the key
+ * is not 32 bytes long), DITGRUX_BAD_HEAD, DITGRUX_ENTRY_CUT, DITGRUX_ENTRY_MISSPELLED, DITGRUX_ENTRY_NUMBER, DITGRUX_ENTRY_NO_START,
+ * DITGRUX_ENTRY_CHAIN, DITGRUX_ENTRY_COUNTER, DITGRUX_BYTES_LEFT, DITGRUX_SERIAL_USED or DITGRUX_SERIALS_FULL; then
+ * DITGRUX_BAD_EXPORT (the certificates are not exactly one group for each pair), or DITGRUX_OUTPUT_SHORT.
  * *index is that of ditgrux_take_over with its numbers, and 0 with every other result.
  * Refused: `output` is unchanged and *length is 0. */
 uint32_t ditgrux_export(const uint8_t *journal, size_t journal_length, const uint8_t *key, size_t key_length, size_t width,
@@ -629,9 +632,10 @@ uint32_t ditgrux_export(const uint8_t *journal, size_t journal_length, const uin
  * receipt is over 65,535 bytes long, or an element has over 4,294,967,295 receipts), DITGRUX_NO_RECEIPTS (an element has none),
  * DITGRUX_BAD_EXPORT (the first receipt of an element is not three parts with '.' between them, the middle one canonical BASE64-URL
  * of "_" and twelve fields joined by '_', with a good CSP after "R1-" in the first, a good ID in the second and a good serial in the
- * eleventh), and DITGRUX_OUTPUT_SHORT; then what ditgrux_take_over returns for the journal that the text spells: DITGRUX_BAD_WIDTH,
- * DITGRUX_ENTRY_MISSPELLED, DITGRUX_ENTRY_NUMBER, DITGRUX_ENTRY_NO_START, DITGRUX_ENTRY_CHAIN, DITGRUX_ENTRY_COUNTER,
- * DITGRUX_SERIAL_USED or DITGRUX_SERIALS_FULL. (Its other numbers cannot come, since that journal is whole.)
+ * eleventh), and DITGRUX_OUTPUT_SHORT; last, what ditgrux_take_over returns for the journal that the text spells: DITGRUX_BAD_WIDTH
+ * (the width, or the key is not 32 bytes long), DITGRUX_ENTRY_MISSPELLED, DITGRUX_ENTRY_NUMBER, DITGRUX_ENTRY_NO_START,
+ * DITGRUX_ENTRY_CHAIN, DITGRUX_ENTRY_COUNTER, DITGRUX_SERIAL_USED or DITGRUX_SERIALS_FULL. (Its other numbers cannot come, since that
+ * journal is whole.) So a wrong width or key length does not hide what is wrong with the text.
  * *index is that of ditgrux_take_over with its numbers, and 0 with every other result.
  * Refused: `output` is unchanged and *length is 0. With DITGRUX_BAD_STATE `state` is unchanged, too; with any other number it is 447
  * zeros. */

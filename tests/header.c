@@ -1,6 +1,7 @@
 /* What include/ditgrux.h says besides the contracts: the wrappers pass every detail to its place and back, an empty signature may be
  * NULL, the walk of the entries ends at the length of the journal, what is left after a refusal, what to do when the buffer is full,
- * where power fails, what every byte of state and journal is after a change of the certificate, what becomes of a state of version 1,
+ * where power fails, what every byte of state and journal is after a change of the certificate, what a damaged state says of its serials,
+ * what becomes of a state of version 1,
  * which registers a shared key may have, what the optical line is of a code, what a list of receipts leaves, issued and refused, that
  * a journal that is checked in parts comes through the register's own states, up to where it is refused, and in which order an export
  * and its reader ask, what they leave, and how much room they need. Prints each line that fails; exit status 1 where one does. Compiles
@@ -701,6 +702,52 @@ static void serials(void)
     CHECK(ditgrux_settings_in(state, sizeof state, 0, under, sizeof under) == DITGRUX_DONE && is_all(0, under, sizeof under));
 }
 
+/* The settings in the state under this number: CSP, ID, width and key as the state has them, and this serial in 40 bytes. Read refuses
+ * them with this number, whatever form it is given. */
+static int holds(uint32_t which, const uint8_t *serial, uint32_t number)
+{
+    uint8_t under[DITGRUX_SETTINGS], bytes[DITGRUX_DETAILS], given[DITGRUX_SIGNATURE];
+    size_t length = 1;
+    return ditgrux_settings_in(state, sizeof state, which, under, sizeof under) == DITGRUX_DONE &&
+           memcmp(under, state, SERIALS_AT) == 0 && memcmp(under + SERIALS_AT, serial, SLOT) == 0 &&
+           memcmp(under + 83, state + 363, 40) == 0 &&
+           ditgrux_read(under, sizeof under, journal, 1, bytes, sizeof bytes, given, sizeof given, &length) == number && length == 0;
+}
+
+/* What a damaged state says of its serials. */
+static void damaged_serials(void)
+{
+    static const uint8_t zeros[SLOT] = {0}, lengths[] = {33, 34, 255};
+    uint8_t *const first = state + SERIALS_AT, *const second = first + SLOT, *const third = second + SLOT;
+    char letters[DITGRUX_LONGEST_NAME + 1];
+    size_t i;
+    fresh();
+    CHECK(holds(0, first, DITGRUX_ENTRY_MISSPELLED) && holds(1, zeros, DITGRUX_BAD_SERIAL));
+    memset(second, '7', DITGRUX_LONGEST_NAME); /* length 0, and bytes: no serial */
+    memcpy(third, first, SLOT);                /* a good one after it: no serial either */
+    CHECK(ditgrux_serials(state, sizeof state) == 1 && names(1, "") && names(2, ""));
+    CHECK(holds(1, zeros, DITGRUX_BAD_SERIAL) && holds(2, zeros, DITGRUX_BAD_SERIAL) && holds(8, zeros, DITGRUX_BAD_SERIAL));
+    second[SLOT - 1] = 32; /* now both are */
+    CHECK(ditgrux_serials(state, sizeof state) == 3 && names(2, "1a2b") && holds(1, second, DITGRUX_ENTRY_MISSPELLED));
+    CHECK(holds(2, first, DITGRUX_ENTRY_MISSPELLED) && holds(3, zeros, DITGRUX_BAD_SERIAL));
+    memset(letters, '7', sizeof letters - 1);
+    letters[sizeof letters - 1] = 0;
+    for (i = 0; i < sizeof lengths; i++) { /* too long: as it is */
+        second[SLOT - 1] = lengths[i];
+        CHECK(ditgrux_serials(state, sizeof state) == 3 && names(1, letters) && holds(1, second, DITGRUX_BAD_SERIAL));
+    }
+    second[SLOT - 8] = 0x80; /* far too long, too */
+    CHECK(ditgrux_serials(state, sizeof state) == 3 && names(1, letters) && holds(1, second, DITGRUX_BAD_SERIAL));
+    first[31] = '0'; /* a byte after its end: as it is */
+    CHECK(names(0, "1a2b") && holds(0, first, DITGRUX_BAD_SERIAL));
+    memset(first + 32, 0, 8); /* the first is empty: the register has none */
+    CHECK(ditgrux_serials(state, sizeof state) == 0 && names(0, "") && holds(0, zeros, DITGRUX_BAD_SERIAL) && holds(1, zeros, DITGRUX_BAD_SERIAL));
+    state[3] = '_'; /* ID and CSP come before the serial */
+    CHECK(holds(0, zeros, DITGRUX_BAD_ID));
+    state[0] = 'a';
+    CHECK(holds(0, zeros, DITGRUX_BAD_CSP));
+}
+
 /* A list of so many bytes, the first receipt of this kind, with this state: it issues none. The caller looks at state and journal. */
 static uint32_t none_issued(uint8_t *bytes, size_t length, uint32_t kind, size_t list_length, size_t room)
 {
@@ -741,7 +788,7 @@ static void not_checked(uint8_t *bytes, size_t length, size_t room)
 static void of_length(uint8_t *bytes, size_t length)
 {
     const struct ditgrux_details sale = details_of(3, DITGRUX_STANDARD, 1);
-    uint8_t before[DITGRUX_STATE + 1], out[DITGRUX_LONGEST_INPUT];
+    uint8_t before[DITGRUX_STATE + 1], out[DITGRUX_LONGEST_INPUT], details[DITGRUX_DETAILS], given[DITGRUX_SIGNATURE];
     size_t wrote = 1;
     uint32_t index = 1;
     memcpy(before, bytes, length);
@@ -763,6 +810,7 @@ static void of_length(uint8_t *bytes, size_t length)
     memset(out, 0xA5, sizeof out);
     CHECK(ditgrux_settings_in(bytes, length, 0, out, DITGRUX_SETTINGS - 1) == DITGRUX_OUTPUT_SHORT && is_all(0xA5, out, sizeof out));
     CHECK(ditgrux_settings_in(bytes, length, 0, out, DITGRUX_SETTINGS) == DITGRUX_DONE && is_all(0, out, DITGRUX_SETTINGS));
+    CHECK(ditgrux_read(out, DITGRUX_SETTINGS, journal, 1, details, sizeof details, given, sizeof given, &wrote) == DITGRUX_BAD_CSP);
     CHECK(is_all(0xA5, out + DITGRUX_SETTINGS, sizeof out - DITGRUX_SETTINGS));
     CHECK(memcmp(before, bytes, length) == 0 && kept());
 }
@@ -2475,6 +2523,8 @@ static void order_of_export(void)
     twin[0] = 1;
     CHECK(exported(twin, 0, sizeof key, 9, 0, 0, &index) == DITGRUX_BAD_WIDTH && index == 0);
     CHECK(exported(twin, 0, sizeof key - 1, 8, 0, 0, &index) == DITGRUX_BAD_WIDTH && index == 0);
+    CHECK(exported(twin, 0, 0, 8, 0, 0, &index) == DITGRUX_BAD_WIDTH && index == 0);
+    CHECK(exported(journal, journal_length(), sizeof key - 1, 8, groups_length, sizeof spelled, &index) == DITGRUX_BAD_WIDTH && index == 0);
     CHECK(exported(twin, journal_length(), sizeof key, 8, 0, 0, &index) == DITGRUX_BAD_HEAD && index == 0);
     for (i = 0; i < journal_length(); i++) { /* cut there, and a bit of the byte there changed */
         expected = taken_over(journal, i, &place);
@@ -2536,6 +2586,21 @@ static uint32_t before_room(const char *letters)
     return number;
 }
 
+/* The register's key with a byte after it: 4 from both calls, and nothing is written but the zeros. */
+static int longer_key(const char *letters)
+{
+    uint8_t longer[DITGRUX_KEY + 1] = {0}, bytes[DITGRUX_STATE];
+    size_t wrote = 1, read = 1;
+    uint32_t index = 1, place = 1;
+    memcpy(longer, key, sizeof key);
+    memset(restored, 0xA5, sizeof restored);
+    return ditgrux_export(journal, journal_length(), longer, sizeof longer, 8, groups, groups_length, restored, sizeof restored, &wrote,
+                          &index) == DITGRUX_BAD_WIDTH && wrote == 0 && index == 0 &&
+           ditgrux_read_export(text_of(letters), strlen(letters), longer, sizeof longer, 8, restored, sizeof restored, bytes, sizeof bytes,
+                               &read, &place) == DITGRUX_BAD_WIDTH && read == 0 && place == 0 &&
+           is_all(0xA5, restored, sizeof restored) && is_all(0, bytes, sizeof bytes);
+}
+
 /* Reading asks 6, then 28 of all elements, 29 of all, 28 of the first receipts of all, 23, and at last what Take over asks, 4 at first. */
 static void order_of_reading(void)
 {
@@ -2567,6 +2632,7 @@ static void order_of_reading(void)
     CHECK(read_text(good, sizeof key, 9, journal_length(), &index) == DITGRUX_BAD_WIDTH && index == 0);
     CHECK(read_text(good, sizeof key - 1, 8, journal_length() - 1, &index) == DITGRUX_OUTPUT_SHORT && index == 0);
     CHECK(read_text(good, sizeof key - 1, 8, journal_length(), &index) == DITGRUX_BAD_WIDTH && index == 0);
+    CHECK(longer_key(good));
     respell(good, "[\"eyJ", 1, "[\"eyK"); /* another first part is left to Take over: 16 */
     CHECK(read_text(respelled, sizeof key, 8, journal_length() - 1, &index) == DITGRUX_OUTPUT_SHORT && index == 0);
     CHECK(read_text(respelled, sizeof key, 4, journal_length(), &index) == DITGRUX_BAD_WIDTH && index == 0);
@@ -2726,6 +2792,7 @@ int main(void)
     refused_changes();
     prepared_before();
     serials();
+    damaged_serials();
     version_1();
     unsound_states();
     pairs();

@@ -1,6 +1,7 @@
 //! One call by the library and by the peer on the same bytes, and everything compared: the answer, and every buffer with
 //! a canary before and after it.
 
+use std::collections::BTreeSet;
 use std::fmt::Debug;
 
 use crate::calls::{Calls, Exported, Listed, Part, Peer, TakenOver, Written};
@@ -101,16 +102,24 @@ fn written_to(output: &mut [u8], after: &[u8], length: usize, given: &[u8]) -> C
 /// Both sides, and how often each call returned each number.
 pub struct Compare {
     pub comparisons: u64,
+    /// Where it is there, a call that differs is noted in it, with the library's number, and the run goes on with the
+    /// library's answer.
+    pub differing: Option<BTreeSet<(&'static str, u32)>>,
     tally: [[u64; NUMBERS]; CALLS.len()],
 }
 
 impl Default for Compare {
     fn default() -> Self {
-        Compare { comparisons: 0, tally: [[0; NUMBERS]; CALLS.len()] }
+        Compare { comparisons: 0, differing: None, tally: [[0; NUMBERS]; CALLS.len()] }
     }
 }
 
 impl Compare {
+    /// One that notes the calls that differ, and goes on.
+    pub fn going_on() -> Self {
+        Compare { differing: Some(BTreeSet::new()), ..Compare::default() }
+    }
+
     /// Does one call on both sides. `free` are the buffers that a refusal may change.
     fn run<const BUFFERS: usize, Answer: Copy + PartialEq + Debug>(
         &mut self,
@@ -142,6 +151,10 @@ impl Compare {
             }
             "a number that this call does not have"
         };
+        if let Some(differing) = &mut self.differing {
+            differing.insert((call, number(library_answer)));
+            return Ok((library_answer, library));
+        }
 
         let mut text = format!("{what}\ncall {call}\n");
         if !format!("{values:?}").is_empty() {

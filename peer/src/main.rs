@@ -3,17 +3,22 @@
 //!     cargo run --release -- [--minutes N] [--seed S]    compare for so long, default one minute, and a seed by the clock
 //!     cargo run --release -- --rounds N [--seed S]       compare so many rounds: the same seed gives the same run
 //!     cargo run --release -- --round R --seed S          repeat one round
+//!     cargo run --release -- --hits N SEED               every call and number at which the sides differ in so many rounds
+//!     cargo run --release -- --numbers                   every call with the numbers that it can return
 //!     cargo run --release -- --bench                     times of both sides
 //!     cargo run --release -- --work CALL WHO N [REPEATS] N receipts of one call by one side, to count instructions
 
+use std::panic::{AssertUnwindSafe, catch_unwind};
 use std::process::ExitCode;
 use std::time::{Duration, Instant, SystemTime, UNIX_EPOCH};
 
 use peer::bench;
-use peer::compare::Compare;
+use peer::compare::{CALLS, Compare};
 use peer::rounds::round;
 
 const USAGE: &str = "usage: peer [--minutes N | --rounds N | --round R] [--seed S]
+       peer --hits N SEED
+       peer --numbers
        peer --bench
        peer --work CALL library|peer|json RECEIPTS [REPEATS]
 CALL: issue|issue-failed|issue-list|prepare|take-over|check-1|check-10|check-100|check-1000|export|read-export|code|line|unline|read
@@ -34,6 +39,16 @@ fn main() -> ExitCode {
             bench::run();
             ExitCode::SUCCESS
         }
+        ["--numbers"] => {
+            for (call, numbers) in CALLS {
+                numbers.iter().for_each(|number| println!("{call} {number}"));
+            }
+            ExitCode::SUCCESS
+        }
+        ["--hits", rounds, seed] => match (rounds.parse(), seed.parse()) {
+            (Ok(rounds), Ok(seed)) => hits(rounds, seed),
+            _ => usage(),
+        },
         ["--work", call, who, receipts, ref repeats @ ..] => {
             let repeats = match repeats {
                 [] => Some(1),
@@ -79,6 +94,22 @@ fn differential_arguments(arguments: &[&str]) -> Option<(Length, u64)> {
     let clock =
         || SystemTime::now().duration_since(UNIX_EPOCH).map_or(1, |time| time.as_nanos() as u64 % 1_000_000_000);
     Some((length, seed.unwrap_or_else(clock)))
+}
+
+/// Goes on after each difference. Prints each call that differs, with the library's number, once; and "demand" where what
+/// a round knows of both sides does not hold. Status 1 where there is any.
+fn hits(rounds: u64, seed: u64) -> ExitCode {
+    let mut compare = Compare::going_on();
+    // a round that panics, as one may with a fault in the peer, ends there like one whose demand does not hold
+    let mut holds =
+        |number| catch_unwind(AssertUnwindSafe(|| round(&mut compare, seed, number))).is_ok_and(|done| done.is_ok());
+    let demands = (0..rounds).filter(|&number| !holds(number)).count();
+    let differing = compare.differing.unwrap_or_default();
+    differing.iter().for_each(|(call, number)| println!("{call} {number}"));
+    if demands > 0 {
+        println!("demand");
+    }
+    ExitCode::from((demands > 0 || !differing.is_empty()) as u8)
 }
 
 fn differential(length: Length, seed: u64) -> ExitCode {

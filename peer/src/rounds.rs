@@ -116,7 +116,7 @@ pub fn round(compare: &mut Compare, seed: u64, number: u64) -> Compared<()> {
     if round.random.once_in(16) {
         round.texts_with_every_change()?;
     }
-    Ok(())
+    round.ends_of_the_months()
 }
 
 /// A journal that a list of calls wrote, under what, and the receipts in it.

@@ -331,7 +331,7 @@ fn open() -> Vec<String> {
     let digits = (b'0'..=b'9').flat_map(|digit| id_rows(&format!("ends-in-{}", digit as char), &[b'K', digit]));
     let others = LAST_BYTES.map(|(name, last)| id_row(&format!("ends-in-{name}"), &[b'K', last], true));
     let ids = IDS.iter().flat_map(|(name, id)| id_rows(name, id));
-    digits.chain(others).chain(ids).chain(room_rows()).chain(question_rows()).collect()
+    digits.chain(others).chain(ids).chain(room_rows()).chain(question_rows()).chain(letter_rows()).collect()
 }
 
 /// Last bytes that are no digits: those next to the digits, and others that could be taken for one.
@@ -415,6 +415,27 @@ fn question_rows() -> Vec<String> {
         }
     }
     rows.extend(wrong_rows("all-wrong", &QUESTIONS));
+    rows
+}
+
+/// The letters at the edges of what a CSP, an ID and a serial may have, and those next to them, each in Open.
+fn letter_rows() -> Vec<String> {
+    let mut rows = Vec::new();
+    let mut row =
+        |name: String, settings: Settings| rows.push(open_row(&name, &settings, settings.head_length(), false));
+    for (place, letters) in [&b"@AZ[az"[..], b"@AZ[az", b"/09:"].into_iter().enumerate() {
+        for &letter in letters {
+            let mut settings = settings(b"K-A", b"2a", 5);
+            settings.csp[place] = letter;
+            row(format!("csp-{place}-{letter}"), settings);
+        }
+    }
+    for letter in [0, 32, 33, 34, b'^', b'_', b'`', 125, 126, 127, 128, 255] {
+        row(format!("id-{letter}"), settings(&[b'K', letter, b'A'], b"2a", 5));
+    }
+    for letter in *b"/09:@AFG`aefg" {
+        row(format!("serial-{letter}"), settings(b"K-A", &[b'2', letter, b'a'], 5));
+    }
     rows
 }
 

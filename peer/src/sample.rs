@@ -358,7 +358,7 @@ pub fn spoil_serials(random: &Random, state: &mut State) {
 
 // ---- details
 
-fn days(year: u32, month: u32) -> u32 {
+pub fn days(year: u32, month: u32) -> u32 {
     match month {
         2 if year % 4 == 0 => 29,
         2 => 28,

@@ -6,7 +6,7 @@ use crate::compare::{Compared, demand};
 use crate::layout::{DETAILS, SIGNATURE, STATE, details_bytes, settings_bytes, state_bytes, state_of};
 use crate::line::LONGEST_LINE;
 use crate::model::{Given, Journal, Printed};
-use crate::receipt::{AMOUNT_LIMIT, Details, HEADER, LONGEST_COMPACT, LONGEST_INPUT, LONGEST_PAYLOAD};
+use crate::receipt::{AMOUNT_LIMIT, Date, Details, HEADER, LONGEST_COMPACT, LONGEST_INPUT, LONGEST_PAYLOAD};
 use crate::register::State;
 use crate::sample::{self, ENDS, FIVE_LARGEST, FORMER_AMOUNTS, LAST_AMOUNTS, NEW_AMOUNTS, NEXT_AMOUNTS};
 use crate::settings::{Name, Settings};
@@ -103,6 +103,26 @@ impl Round<'_> {
         demand(issued == number, "a receipt is issued within the limits", &given)?;
         let counter = expected.unwrap_or(state.counter);
         demand(state_of(&bytes).counter == counter, "the counter is that after the receipt", &given)
+    }
+
+    // ---- dates
+
+    /// The last day of every month and the day after it, in years of both kinds and at both ends.
+    pub(super) fn ends_of_the_months(&mut self) -> Compared<()> {
+        let state = self.started_state(5, 0);
+        let bytes = state_bytes(&state);
+        for (year, month) in
+            [2000, 2015, 2016, 2099].into_iter().flat_map(|year| (1..=12).map(move |month| (year, month)))
+        {
+            let last = sample::days(year, month);
+            for (day, number) in [(last, 0), (last + 1, 8)] {
+                let date = Date { year, month, day, hour: 23, minute: 59, second: 59 };
+                let details = Details { number: state.last_number + 1, date, amounts: [0; 5], kind: 0 };
+                let prepared = self.compare.prepare(&bytes, &details, &mut [0x5a; LONGEST_INPUT])?;
+                demand(prepared.number == number, "a month ends on its last day", &details_bytes(&details))?;
+            }
+        }
+        Ok(())
     }
 
     // ---- payloads

@@ -433,7 +433,7 @@ pub fn version(side: &dyn Calls) {
 
 /// Both ways to open a register, with the bytes of its settings, good or bad.
 pub fn open(side: &dyn Calls) {
-    for row in rows("tests/data/open.tsv", 118) {
+    for row in rows("tests/data/open.tsv", 159) {
         let (id, serial, key) = (unhex(&row[2]), row[3].as_bytes(), [9; 32]);
         let (width, room): (usize, usize) = (row[4].parse().expect("a width"), row[5].parse().expect("a size"));
         let settings = Settings {

@@ -1,0 +1,2 @@
+# src/settings.rs: "_" let through in an ID
+s/ && byte != b'_'//

@@ -1,0 +1,2 @@
+# src/calls.rs: another version
+s/^        VERSION$/        VERSION + 1/
