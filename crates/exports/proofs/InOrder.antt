@@ -13,7 +13,7 @@ use Rattle.primitives.specs.Bytes.{AllBytes}
 use Rattle.primitives.specs.Place.{overwrite, room}
 use Rattle.primitives.specs.Base64.{encoding, accepted, bytes, unpadded, decoding}
 use Rattle.primitives.specs.Answers.{written, answerWith, bufferWith}
-use Rattle.primitives.specs.Questions.{ask, ifZero, Row, asked-all, question, AllYes, FirstNo, GivesFirstNo}
+use Rattle.primitives.specs.Questions.{ask, ifZero, Row, asked-all, question, AllYes, FirstNoIs, GivesFirstNo}
 use Rattle.primitives.specs.declared.base64.Alphabet.the-variants.{Standard}
 use Rattle.primitives.specs.declared.answer.Answer.{Answer}
 use Rattle.primitives.proofs.Rows.{both, true-is-not-false, ifZero-yes, ifZero-no}
@@ -230,25 +230,25 @@ all-part : (row tail : Row) → AllYes (then row tail) → AllYes row × AllYes 
 all-part asked-all tail y = (tt, y)
 all-part (question q k row) tail y = let r = all-part row tail (y .1) in ((y .0, r .0), r .1)
 
-first-left : (row tail : Row) (m : ℕ) → FirstNo row m → FirstNo (then row tail) m
+first-left : (row tail : Row) (m : ℕ) → FirstNoIs row m → FirstNoIs (then row tail) m
 first-left asked-all tail m f = absurd f
 first-left (question q k row) tail m (inl f) = inl f
 first-left (question q k row) tail m (inr f) = inr (f .0, first-left row tail m (f .1))
 
-first-right : (row tail : Row) (m : ℕ) → AllYes row → FirstNo tail m → FirstNo (then row tail) m
+first-right : (row tail : Row) (m : ℕ) → AllYes row → FirstNoIs tail m → FirstNoIs (then row tail) m
 first-right asked-all tail m y f = f
 first-right (question q k row) tail m y f = inr (y .0, first-right row tail m (y .1) f)
 
-first-part : (row tail : Row) (m : ℕ) → FirstNo (then row tail) m → FirstNo row m ⊎ (AllYes row × FirstNo tail m)
+first-part : (row tail : Row) (m : ℕ) → FirstNoIs (then row tail) m → FirstNoIs row m ⊎ (AllYes row × FirstNoIs tail m)
 first-part asked-all tail m f = inr (tt, f)
 first-part (question q k row) tail m (inl f) = inl (inl f)
 first-part (question q k row) tail m (inr f) = go (first-part row tail m (f .1))
   where
-    go : FirstNo row m ⊎ (AllYes row × FirstNo tail m) → FirstNo (question q k row) m ⊎ (AllYes (question q k row) × FirstNo tail m)
+    go : FirstNoIs row m ⊎ (AllYes row × FirstNoIs tail m) → FirstNoIs (question q k row) m ⊎ (AllYes (question q k row) × FirstNoIs tail m)
     go (inl g) = inl (inr (f .0, g))
     go (inr g) = inr ((f .0, g .0), g .1)
 
-all-not-first : (row : Row) (m : ℕ) → AllYes row → FirstNo row m → ⊥
+all-not-first : (row : Row) (m : ℕ) → AllYes row → FirstNoIs row m → ⊥
 all-not-first asked-all m y f = f
 all-not-first (question q k row) m y (inl f) = f .0 (y .0)
 all-not-first (question q k row) m y (inr f) = all-not-first row m (y .1) (f .1)
@@ -265,7 +265,7 @@ gives-then zero m row tail g h =
       first = λ k f. go k (first-part row tail k f);
     }
   where
-    go : (k : ℕ) → FirstNo row k ⊎ (AllYes row × FirstNo tail k) → m ≡ k
+    go : (k : ℕ) → FirstNoIs row k ⊎ (AllYes row × FirstNoIs tail k) → m ≡ k
     go k (inl f) = absurd (all-not-first row k (g .none refl) f)
     go k (inr f) = h (f .0) .first k (f .1)
 gives-then (suc x) m row tail g h =
@@ -276,7 +276,7 @@ gives-then (suc x) m row tail g h =
       first = λ k f. go k (first-part row tail k f);
     }
   where
-    go : (k : ℕ) → FirstNo row k ⊎ (AllYes row × FirstNo tail k) → suc x ≡ k
+    go : (k : ℕ) → FirstNoIs row k ⊎ (AllYes row × FirstNoIs tail k) → suc x ≡ k
     go k (inl f) = g .first k f
     go k (inr f) = let z = g .all (f .0) in absurd (omega (arith, z))
 
@@ -290,7 +290,7 @@ gives-number m =
       first = first;
     }
   where
-    first : (k : ℕ) → FirstNo (question (m ≡ 0) m asked-all) k → m ≡ k
+    first : (k : ℕ) → FirstNoIs (question (m ≡ 0) m asked-all) k → m ≡ k
     first k (inl f) = sym (f .1)
     first k (inr f) = absurd (f .1)
 
@@ -377,7 +377,7 @@ none-gives text size h =
       first = first;
     }
   where
-    first : (k : ℕ) → FirstNo (questionsBefore text size asked-all) k → 28 ≡ k
+    first : (k : ℕ) → FirstNoIs (questionsBefore text size asked-all) k → 28 ≡ k
     first k (inl f) = sym (f .1)
     first k (inr f) = absurd (h (f .0 .elements) (f .0 .shape))
 
@@ -438,7 +438,7 @@ reading-answers = record { number = number; before = before; after = after; read
             (question (t .number ≡ 0) (t .number) asked-all) (before-gives text es s size)
             (λ y. gives-same _ (ap (λ (x : TakenOver). x .number) (sym (h es (journalOfElements es) s (journal-yes text es s size y)))) (gives-number (t .number))))
 
-    before : (text key : List ℕ) (n size k : ℕ) → FirstNo (questionsBefore text size asked-all) k → restored text key n size ≡ notRead k 0
+    before : (text key : List ℕ) (n size k : ℕ) → FirstNoIs (questionsBefore text size asked-all) k → restored text key n size ≡ notRead k 0
     before text key n size k f = go (elementsOf text) refl
       where
         go : (o : Option (List Element)) → elementsOf text ≡ o → restored text key n size ≡ notRead k 0

@@ -9,7 +9,7 @@ use lib.ListN.{length}
 use Rattle.primitives.specs.Bytes.{AllBytes}
 use Rattle.primitives.specs.Place.{overwrite}
 use Rattle.primitives.specs.Base64.{encoding}
-use Rattle.primitives.specs.Questions.{Row, asked-all, question, AllYes, FirstNo, GivesFirstNo}
+use Rattle.primitives.specs.Questions.{Row, asked-all, question, AllYes, FirstNoIs, GivesFirstNo}
 use Rattle.primitives.specs.declared.base64.Alphabet.the-variants.{Standard}
 use Rattle.receipt.specs.declared.settings.Settings.{Settings}
 use Rattle.journal.specs.Checking.{takeOver}
@@ -117,7 +117,7 @@ TakenAs text key n t = (es : List Element) (j : List ℕ) → Shape text es → 
 pub record ReadingAnswers : Type 0 where
   pub number : (text key : List ℕ) (n room : ℕ) (t : TakenOver) → TakenAs text key n t
       → GivesFirstNo (restored text key n room .number) (questionsOfReading text room t)
-  pub before : (text key : List ℕ) (n room k : ℕ) → FirstNo (questionsBefore text room asked-all) k → restored text key n room ≡ notRead k 0
+  pub before : (text key : List ℕ) (n room k : ℕ) → FirstNoIs (questionsBefore text room asked-all) k → restored text key n room ≡ notRead k 0
   pub after : (text key : List ℕ) (n room : ℕ) (t : TakenOver) → TakenAs text key n t → AllYes (questionsBefore text room asked-all) → (t .number ≡ 0 → ⊥)
       → restored text key n room ≡ notRead (t .number) (t .index)
   pub read : (text key : List ℕ) (n : ℕ) (out : List ℕ) (es : List Element) (j : List ℕ) → Shape text es → SpellJournal es j

@@ -4,7 +4,7 @@ use mathlib.Core.Path.{_≡_, refl, sym, _∙_}
 use mathlib.Core.Bool.{Bool, true, false}
 use mathlib.Core.Logic.{_⊎_, inl, inr}
 use native.Mathlib.Omega.{arith}
-use Rattle.primitives.specs.Questions.{ask, Row, asked-all, question, AllYes, FirstNo, GivesFirstNo}
+use Rattle.primitives.specs.Questions.{ask, Row, asked-all, question, AllYes, FirstNoIs, GivesFirstNo}
 use Rattle.primitives.proofs.Rows.{true-is-not-false}
 
 pub gives-none : GivesFirstNo 0 asked-all
@@ -22,7 +22,7 @@ gives-ask true k rest q row only always more =
       first = first;
     }
   where
-    first : (m : ℕ) → FirstNo (question q (suc k) row) m → rest ≡ m
+    first : (m : ℕ) → FirstNoIs (question q (suc k) row) m → rest ≡ m
     first m (inl n) = absurd (n .0 (only refl))
     first m (inr n) = more (only refl) .first m (n .1)
 gives-ask false k rest q row only always more =
@@ -33,7 +33,7 @@ gives-ask false k rest q row only always more =
       first = first;
     }
   where
-    first : (m : ℕ) → FirstNo (question q (suc k) row) m → suc k ≡ m
+    first : (m : ℕ) → FirstNoIs (question q (suc k) row) m → suc k ≡ m
     first m (inl n) = sym (n .1)
     first m (inr n) = true-is-not-false (always (n .0))
 

@@ -27,13 +27,13 @@ AllYes asked-all = Unit {0}
 AllYes (question q k row) = q × AllYes row
 
 -- the first no is that of a question with this number: every answer before it is yes
-abbrev pub FirstNo : Row → ℕ → Type 0
-FirstNo asked-all number = ⊥
-FirstNo (question q k row) number = ((q → ⊥) × (number ≡ k)) ⊎ (q × FirstNo row number)
+abbrev pub FirstNoIs : Row → ℕ → Type 0
+FirstNoIs asked-all number = ⊥
+FirstNoIs (question q k row) number = ((q → ⊥) × (number ≡ k)) ⊎ (q × FirstNoIs row number)
 
 -- A call gives the number of the first no, both ways: 0 exactly where every answer is yes, and a number exactly where the first no has it
 pub record GivesFirstNo (number : ℕ) (row : Row) : Type 0 where
   pub none : number ≡ 0 → AllYes row
   pub all : AllYes row → number ≡ 0
-  pub some : (number ≡ 0 → ⊥) → FirstNo row number
-  pub first : (k : ℕ) → FirstNo row k → number ≡ k
+  pub some : (number ≡ 0 → ⊥) → FirstNoIs row number
+  pub first : (k : ℕ) → FirstNoIs row k → number ≡ k
