@@ -3,6 +3,7 @@ pub mod Below
 pub mod CallAnswers
 pub mod CallsFromC
 pub mod DetailLaws
+pub mod LaidOut
 pub mod ListCalls
 pub mod Lists
 pub mod Opens

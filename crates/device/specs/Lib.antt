@@ -3,6 +3,7 @@ pub mod Demand
 pub mod Details
 pub mod Laws
 pub mod Layout
+pub mod LayoutWords
 pub mod ListLaws
 pub mod PartLaws
 pub mod ReadBack
