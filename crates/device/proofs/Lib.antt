@@ -1,4 +1,5 @@
 pub mod AgreementInC
+pub mod AskingInC
 pub mod Below
 pub mod CallAnswers
 pub mod CallsFromC
@@ -13,6 +14,7 @@ pub mod Pieces
 pub mod ReadBackCalls
 pub mod ReadBackLaws
 pub mod Reading
+pub mod RowsAlike
 pub mod Sizes
 pub mod Slots
 pub mod Spelling

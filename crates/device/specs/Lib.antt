@@ -1,3 +1,4 @@
+pub mod AskedInC
 pub mod Calls
 pub mod Demand
 pub mod Details
