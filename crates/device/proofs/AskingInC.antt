@@ -3,6 +3,8 @@ use Prim.Native.Nat.{ℕ, zero, suc, _+_, _-_, _≤_, _<_}
 use mathlib.Core.Path.{_≡_, refl, sym, ap, _∙_, subst}
 use mathlib.Core.Bool.{Bool, true, false, cond}
 use mathlib.Core.List.{List, [], _∷_, _++_}
+use mathlib.Core.Logic.{_⊎_, inl, inr}
+use mathlib.Core.Option.{Option, none, some}
 use native.Mathlib.Omega.{arith}
 use borrow.Author.Tests.{eq-eqb, ne-eqb, eqb-true, eqb-false}
 use lib.Dec.{eqb}
@@ -13,6 +15,7 @@ use Rattle.primitives.specs.Bytes.{AllBytes}
 use Rattle.primitives.specs.Counter.{widthGood, counterFits}
 use Rattle.primitives.specs.Questions.{ask, ifZero, Row, asked-all, question, GivesFirstNo}
 use Rattle.primitives.proofs.FirstNo.{gives-none, gives-ask, gives-same}
+use Rattle.primitives.proofs.Rows.{ifZero-yes, ifZero-no}
 use Rattle.receipt.specs.Settings.{nameOf, SettingsLengths}
 use Rattle.receipt.specs.SettingsWords.{IdByte, SerialByte, GoodCsp, GoodId, GoodSerial, GoodWidth, NoDigitIfShared, oneToFour, settingsRow}
 use Rattle.receipt.specs.DetailsWords.{GoodDate, GoodAmounts, GoodStart}
@@ -48,7 +51,15 @@ use Rattle.device.specs.Layout.{arrayOf, settingsAt, noSettings, setting
 use Rattle.device.specs.Details.{noDetails, dateOf, detailsWith, ofKind, detailsOf, kindNumber}
 use Rattle.device.specs.Calls.{settingsFrom, widthWith, settingsAnswer, settingsReturned, Slices, openAnswer, openedNumber, IssueCall, orderIn, detailsGiven, preparedFromC, issueAnswer, issuedNumber, changeAnswer, changedNumber, takeOverAnswer, headAnswer, stepsAnswer}
 use Rattle.device.specs.ReadBack.{foundIn, readNumber, answered, readBack}
-use Rattle.device.specs.AskedInC.{CspBytes, IdBytes, SerialBytes, WidthWithKey, settingsRowInC, SettingsGiveFirstNoInC, openRowInC, OpenGivesFirstNoInC, dateGiven, amountsGiven, NumberAndKind, StandardWithZeros, CounterFitsAfter, detailsRowInC, SoundBytes, issueRowInC, IssueGivesFirstNoInC, SoundBytesAlone, prepareRowInC, PrepareGivesFirstNoInC, changeRowInC, ChangeGivesFirstNoInC, TakeOverAsksTheKey, HeadAsksTheKey, SoundBytesFor, StepsAskSixInC, readRow, ReadGivesFirstNoInC}
+use Rattle.device.specs.AskedInC.{CspBytes, IdBytes, SerialBytes, WidthWithKey, settingsRowInC, SettingsGiveFirstNoInC, openRowInC, OpenGivesFirstNoInC, dateGiven, amountsGiven, NumberAndKind, StandardWithZeros, CounterFitsAfter, detailsRowInC, SoundBytes, issueRowInC, IssueGivesFirstNoInC, SoundBytesAlone, prepareRowInC, PrepareGivesFirstNoInC, changeRowInC, ChangeGivesFirstNoInC, TakeOverAsksTheKey, HeadAsksTheKey, SoundBytesFor, StepsAskSixInC, readRow, ReadGivesFirstNoInC, ExportAsksTheKey, ReadExportAsksTheKey}
+use Rattle.device.specs.Inspection.{exportAnswer, exportOutput, readAnswer, readOutput}
+use Rattle.exports.specs.Shape.{Element}
+use Rattle.exports.specs.Writing.{exported, exportBuffer}
+use Rattle.exports.specs.Parsed.{elementsOf}
+use Rattle.exports.specs.Reading.{journalOfElements, elementsNumber, notRead, restoredFrom, restoredBy, restored, restoredBuffer}
+use Rattle.exports.specs.declared.reading.Restored.{Restored}
+use Rattle.exports.proofs.Promising.{refused-by-take-over}
+use Rattle.device.proofs.ExportCalls.{answer-six, answer-read, output-read}
 use Rattle.device.proofs.RowsAlike.{gives-yes, gives-no, Like, like-same, like-question, gives-like}
 use Rattle.device.proofs.Below.{opened-number, changed-number}
 use Rattle.device.proofs.Sizes.{array-none, array-whole, width-whole, key-long, from-typed, state-none, open-six, open-answer, take-six, take-answer}
@@ -419,3 +430,74 @@ pub read-gives-first-no-in-c : ReadGivesFirstNoInC
 read-gives-first-no-in-c settings form details signature a b =
     gives-like _ (readRow settings form details signature) (like-question 1 _ _ _ _ (λ c. (long-of settings c, c)) (λ p. p .1) (λ c. like-same _))
     (read-asked settings form details signature a b)
+
+-- ---- ditgrux_export
+
+pub export-asks-the-key : ExportAsksTheKey
+unfolding exportAnswer exportOutput refused
+export-asks-the-key j key n certificates out =
+    record {
+      width = λ h.
+          let t = take-four j (arrayOf 32 key) (widthWith key n) (bool-no (widthGood (widthWith key n)) (width-bad n key h)) in
+          let r = refused-by-take-over j (arrayOf 32 key) (widthWith key n) certificates out (λ z. omega (arith, z, ap (λ (x : TakenOver). x .number) t)) in
+          (r .0 ∙ ap (λ (x : TakenOver). x .number) t, r .1 ∙ ap (λ (x : TakenOver). x .index) t);
+      same = λ e. λ i. exported j (array-whole 32 key e i) (width-whole key n e i) certificates out;
+      output = λ e. λ i. exportBuffer j (array-whole 32 key e i) (width-whole key n e i) certificates out;
+    }
+
+-- ---- ditgrux_read_export
+
+-- a width that is not 5 to 8 is asked after the text
+module _ (text : List ℕ) (room : ℕ) (key : List ℕ) (n : ℕ) (w : widthGood n ≡ false) where
+  four-from : (j : List ℕ) (m : ℕ) → restoredFrom (takeOver j key n) m ≡ notRead 4 0
+  unfolding refused ifZero
+  four-from j m = rw (take-four j key n w)
+
+  by-elements : (o : Option (List Element)) → (restoredBy o key n room ≡ notRead 4 0) ⊎ ((k : List ℕ) (m : ℕ) → restoredBy o key n room ≡ restoredBy o k m room)
+  by-elements none = inr (λ k m. refl)
+  by-elements (some es) = go (elementsNumber es room) refl
+    where
+      go : (m : ℕ) → elementsNumber es room ≡ m
+          → (restoredBy (some es) key n room ≡ notRead 4 0) ⊎ ((k : List ℕ) (i : ℕ) → restoredBy (some es) key n room ≡ restoredBy (some es) k i room)
+      go zero e = inl (ifZero-yes _ _ e ∙ four-from (journalOfElements es) (length (journalOfElements es)))
+      go (suc m) e =
+          let h : elementsNumber es room ≡ 0 → ⊥ = λ z. omega (arith, e, z) in
+          inr (λ k i. ifZero-no (elementsNumber es room) _ _ h ∙ sym (ifZero-no (elementsNumber es room) _ _ h))
+
+  text-first : (restored text key n room ≡ notRead 4 0) ⊎ ((k : List ℕ) (m : ℕ) → restored text key n room ≡ restored text k m room)
+  unfolding restored
+  text-first = by-elements (elementsOf text)
+
+  never-elements : (o : Option (List Element)) → restoredBy o key n room .number ≡ 0 → ⊥
+  unfolding notRead
+  never-elements none z = omega (arith, z)
+  never-elements (some es) z = go (elementsNumber es room) refl
+    where
+      go : (m : ℕ) → elementsNumber es room ≡ m → ⊥
+      go zero e =
+          let q : restoredBy (some es) key n room .number ≡ 4 =
+          ap (λ (x : Restored). x .number) (ifZero-yes _ _ e ∙ four-from (journalOfElements es) (length (journalOfElements es))) in
+          omega (arith, z, q)
+      go (suc m) e =
+          let h : elementsNumber es room ≡ 0 → ⊥ = λ y. omega (arith, e, y) in
+          let q : restoredBy (some es) key n room .number ≡ elementsNumber es room =
+          ap (λ (x : Restored). x .number) (ifZero-no (elementsNumber es room) _ _ h) in
+          omega (arith, z, q, e)
+
+  never-read : restored text key n room .number ≡ 0 → ⊥
+  unfolding restored
+  never-read z = never-elements (elementsOf text) z
+
+pub read-export-asks-the-key : ReadExportAsksTheKey
+read-export-asks-the-key text key n out state =
+    record {
+      six = answer-six text key n out state;
+      width = λ l h.
+          subst (λ (x : Restored). (x ≡ notRead 4 0) ⊎ ((k : List ℕ) (m : ℕ) → x ≡ restored text k m (length out))) (sym (answer-read text key n out state l))
+          (text-first text (length out) (arrayOf 32 key) (widthWith key n) (bool-no (widthGood (widthWith key n)) (width-bad n key h)));
+      never = λ l h z.
+          never-read text (length out) (arrayOf 32 key) (widthWith key n) (bool-no (widthGood (widthWith key n)) (width-bad n key h))
+          (sym (ap (λ (x : Restored). x .number) (answer-read text key n out state l)) ∙ z);
+      same = λ l e. answer-read text key n out state l ∙ (λ i. restored text (array-whole 32 key e i) (width-whole key n e i) (length out));
+      output = λ l e. output-read text key n out state l ∙ (λ i. restoredBuffer text (array-whole 32 key e i) (width-whole key n e i) out);
+    }

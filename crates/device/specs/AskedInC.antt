@@ -26,6 +26,9 @@ use Rattle.journal.specs.declared.state.State.{State}
 use Rattle.device.specs.Layout.{settingsOf, widthOf, stateOf}
 use Rattle.device.specs.Calls.{settingsReturned, Slices, openedNumber, IssueCall, detailsGiven, preparedFromC, issuedNumber, changedNumber, takeOverAnswer, headAnswer, stepsAnswer}
 use Rattle.device.specs.ReadBack.{readBack}
+use Rattle.device.specs.Inspection.{exportAnswer, exportOutput, readAnswer, readOutput}
+use Rattle.exports.specs.Writing.{exported, exportBuffer}
+use Rattle.exports.specs.Reading.{notRead, restored, restoredBuffer}
 
 -- ---- ditgrux_settings
 
@@ -206,3 +209,26 @@ abbrev pub ReadGivesFirstNoInC : Type 0
 ReadGivesFirstNoInC =
     (settings form details signature : List ℕ) → AllBytes settings → AllBytes form
     → GivesFirstNo (readBack settings form details signature .number) (readRow settings form details signature)
+
+-- ---- ditgrux_export and ditgrux_read_export
+
+-- 4: "the width, or the key is not 32 bytes long", with index 0, "what ditgrux_take_over returns"; with good ones it is the answer under that key and width
+pub record ExportAsksInC (j key : List ℕ) (n : ℕ) (certificates out : List ℕ) : Type 0 where
+  pub width : (WidthWithKey n key → ⊥) → (exportAnswer j key n certificates out .number ≡ 4) × (exportAnswer j key n certificates out .index ≡ 0)
+  pub same : length key ≡ 32 → exportAnswer j key n certificates out ≡ exported j key n certificates out
+  pub output : length key ≡ 32 → exportOutput j key n certificates out ≡ exportBuffer j key n certificates out
+
+abbrev pub ExportAsksTheKey : Type 0
+ExportAsksTheKey = (j key : List ℕ) (n : ℕ) (certificates out : List ℕ) → ExportAsksInC j key n certificates out
+
+-- 6 first; then what is asked of the text, and 4 after it: a bad key or width gets the number that the text gets under every key and width, or else 4, and so never 0
+pub record ReadExportAsksInC (text key : List ℕ) (n : ℕ) (out state : List ℕ) : Type 0 where
+  pub six : (length state ≡ 447 → ⊥) → readAnswer text key n out state ≡ notRead 6 0
+  pub width : length state ≡ 447 → (WidthWithKey n key → ⊥)
+      → (readAnswer text key n out state ≡ notRead 4 0) ⊎ ((k : List ℕ) (m : ℕ) → readAnswer text key n out state ≡ restored text k m (length out))
+  pub never : length state ≡ 447 → (WidthWithKey n key → ⊥) → readAnswer text key n out state .number ≡ 0 → ⊥
+  pub same : length state ≡ 447 → length key ≡ 32 → readAnswer text key n out state ≡ restored text key n (length out)
+  pub output : length state ≡ 447 → length key ≡ 32 → readOutput text key n out state ≡ restoredBuffer text key n out
+
+abbrev pub ReadExportAsksTheKey : Type 0
+ReadExportAsksTheKey = (text key : List ℕ) (n : ℕ) (out state : List ℕ) → ReadExportAsksInC text key n out state
