@@ -4,6 +4,7 @@ pub mod Below
 pub mod CallAnswers
 pub mod CallsFromC
 pub mod DetailLaws
+pub mod GrownInC
 pub mod LaidOut
 pub mod ListCalls
 pub mod Lists
@@ -20,6 +21,7 @@ pub mod Slots
 pub mod Spelling
 pub mod StateCalls
 pub mod TextAnswers
+pub mod TextsInC
 pub mod Writers
 pub mod Zeros
 pub mod ExportCalls

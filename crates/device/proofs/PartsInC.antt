@@ -52,12 +52,12 @@ module _ (c : LeftByCheck) (j : List ℕ) where
 accepted-whole : {t : TakenOver} (st : State) → t ≡ accepted st → t ≡ accepted (t .state)
 accepted-whole st e = e ∙ ap accepted (sym (ap (λ (x : TakenOver). x .state) e ∙ accepted-state st))
 
-record Same (c : LeftByCheck) (t : TakenOver) : Type 0 where
-  number : c .number ≡ t .number
-  index : c .index ≡ t .index
-  bytes : c .state ≡ stateBytes (t .state)
-  whole : t .number ≡ 0 → t ≡ accepted (t .state)
-  typed : t .number ≡ 0 → TypedState (t .state)
+pub record Same (c : LeftByCheck) (t : TakenOver) : Type 0 where
+  pub number : c .number ≡ t .number
+  pub index : c .index ≡ t .index
+  pub bytes : c .state ≡ stateBytes (t .state)
+  pub whole : t .number ≡ 0 → t ≡ accepted (t .state)
+  pub typed : t .number ≡ 0 → TypedState (t .state)
 
 -- the next call reads that state
 is-read : {c : LeftByCheck} {t : TakenOver} → Same c t → t .number ≡ 0 → stateOf (c .state) ≡ t .state
@@ -77,7 +77,7 @@ module _ (j : List ℕ) (b : AllBytes j) (small : length j < 1844674407370955161
         typed = λ q. checked-typed (t .state) j b small (s .typed z) n q;
       }
 
-  same-checks : (ns : List ℕ) (c : LeftByCheck) (t : TakenOver) → Same c t → Same (checksFromC c j ns) (checksAfter t j ns)
+  pub same-checks : (ns : List ℕ) (c : LeftByCheck) (t : TakenOver) → Same c t → Same (checksFromC c j ns) (checksAfter t j ns)
   same-checks [] c t s = subst (λ (x : LeftByCheck). Same x (checksAfter t j [])) (sym (none-left c j)) (subst (Same c) (sym (checks-none t j)) s)
   same-checks (n ∷ ns) c t s = go (t .number) refl (λ z. same-checks ns (stepsFromC (c .state) j n) (checkSteps (t .state) j n) (same-steps c t n z s))
     where
@@ -225,23 +225,23 @@ end-is-seen-in-c j key width state ns x m b a small z q y l = go (eqb (length st
 -- ---- a journal that has grown
 
 -- from a state with the code's types on
-module _ (j : List ℕ) (b : AllBytes j) (small : length j < 18446744073709551616) (key : List ℕ) (n : ℕ) (lk : length key ≡ 32) (st : State) (t : TypedState st) where
-  same-start : Same (record { number = 0; index = 0; state = stateBytes st }) (accepted st)
-  same-start =
-      record {
-        number = sym (accepted-number st);
-        index = sym (ap (λ (x : TakenOver). x .index) (accepted-is st));
-        bytes = ap stateBytes (sym (accepted-state st));
-        whole = λ z. ap accepted (sym (accepted-state st));
-        typed = λ z. subst TypedState (sym (accepted-state st)) t;
-      }
+pub same-start : (st : State) → TypedState st → Same (record { number = 0; index = 0; state = stateBytes st }) (accepted st)
+same-start st t =
+    record {
+      number = sym (accepted-number st);
+      index = sym (ap (λ (x : TakenOver). x .index) (accepted-is st));
+      bytes = ap stateBytes (sym (accepted-state st));
+      whole = λ z. ap accepted (sym (accepted-state st));
+      typed = λ z. subst TypedState (sym (accepted-state st)) t;
+    }
 
+module _ (j : List ℕ) (b : AllBytes j) (small : length j < 18446744073709551616) (key : List ℕ) (n : ℕ) (lk : length key ≡ 32) (st : State) (t : TypedState st) where
   taken-is : takeOverAnswer j key n 447 ≡ takeOver j key n
   taken-is = take-answer j key n 447 refl ∙ (λ i. takeOver j (array-whole 32 key lk i) (width-whole key n lk i))
 
   goes-on-from : (counts : List ℕ) → SameAnswer (checksAfter (accepted st) j counts) (takeOver j key n) → GoesOnInC (stateBytes st) j key n counts
   goes-on-from counts p =
-      let s = same-checks j b small counts (record { number = 0; index = 0; state = stateBytes st }) (accepted st) same-start in
+      let s = same-checks j b small counts (record { number = 0; index = 0; state = stateBytes st }) (accepted st) (same-start st t) in
       let e = taken-is in
       record {
         number = s .number ∙ (p .number ∙ sym (ap (λ (x : TakenOver). x .number) e));

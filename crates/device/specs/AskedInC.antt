@@ -8,7 +8,13 @@ use mathlib.Core.Logic.{_⊎_}
 use lib.IntN.{ℤ, pos, _+ℤ_}
 use lib.ListN.{length, getD, replicate}
 use Rattle.primitives.specs.Bytes.{AllBytes}
+use Rattle.primitives.specs.Place.{overwrite}
 use Rattle.primitives.specs.Counter.{counterFits}
+use Rattle.primitives.specs.Sha256.{sha256}
+use Rattle.primitives.specs.Base32.{encoding32}
+use Rattle.primitives.specs.Base64.{encoding}
+use Rattle.primitives.specs.declared.base64.Alphabet.the-variants.{Standard, UrlSafe}
+use Rattle.primitives.specs.declared.answer.Answer.{Answer}
 use Rattle.primitives.specs.Questions.{Row, asked-all, question, GivesFirstNo}
 use Rattle.receipt.specs.Settings.{nameOf}
 use Rattle.receipt.specs.SettingsWords.{IdByte, SerialByte, GoodCsp, GoodId, GoodSerial, GoodWidth, NoDigitIfShared}
@@ -26,6 +32,7 @@ use Rattle.journal.specs.declared.state.State.{State}
 use Rattle.device.specs.Layout.{settingsOf, widthOf, stateOf}
 use Rattle.device.specs.Calls.{settingsReturned, Slices, openedNumber, IssueCall, detailsGiven, preparedFromC, issuedNumber, changedNumber, takeOverAnswer, headAnswer, stepsAnswer}
 use Rattle.device.specs.ReadBack.{readBack}
+use Rattle.device.specs.Texts.{hashNumber, hashBuffer, encodeAnswer, encodeBuffer, decodeAnswer, decodeBuffer, encodeAnswer32, encodeBuffer32, decodeAnswer32, decodeBuffer32}
 use Rattle.device.specs.Inspection.{exportAnswer, exportOutput, readAnswer, readOutput}
 use Rattle.exports.specs.Writing.{exported, exportBuffer}
 use Rattle.exports.specs.Reading.{notRead, restored, restoredBuffer}
@@ -232,3 +239,34 @@ pub record ReadExportAsksInC (text key : List ℕ) (n : ℕ) (out state : List �
 
 abbrev pub ReadExportAsksTheKey : Type 0
 ReadExportAsksTheKey = (text key : List ℕ) (n : ℕ) (out state : List ℕ) → ReadExportAsksInC text key n out state
+
+-- ---- ditgrux_base64, ditgrux_base32 and the way back
+
+-- a call that writes a text: DITGRUX_OUTPUT_SHORT where it does not fit; "Refused: `output` is unchanged and *length is 0."
+pub record WritesInC (text out : List ℕ) (answer : Answer) (left : List ℕ) : Type 0 where
+  pub short : length out < length text → (answer .number ≡ 23) × (answer .length ≡ 0) × (left ≡ out)
+  pub done : length text ≤ length out → (answer .number ≡ 0) × (answer .length ≡ length text) × (left ≡ overwrite out 0 text)
+
+-- a call that reads a text which some bytes have: "DITGRUX_BAD_FORM (wrong padding, foreign letters, or unused bits that are not zero)" where none have it
+pub record ReadsInC (spell : List ℕ → List ℕ) (text out : List ℕ) (answer : Answer) (left : List ℕ) : Type 0 where
+  pub bad : ((xs : List ℕ) → AllBytes xs → text ≡ spell xs → ⊥) → (answer .number ≡ 22) × (answer .length ≡ 0) × (left ≡ out)
+  pub good : (xs : List ℕ) → AllBytes xs → text ≡ spell xs → WritesInC xs out answer left
+
+-- "BASE64 with padding (url is 0) or .. BASE64-URL without padding (any other url)"
+pub record BasesAnswerInC : Type 0 where
+  pub padded : (xs out : List ℕ) → WritesInC (encoding Standard xs) out (encodeAnswer 0 xs out) (encodeBuffer 0 xs out)
+  pub plain : (url : ℕ) (xs out : List ℕ) → (url ≡ 0 → ⊥) → WritesInC (encoding UrlSafe xs) out (encodeAnswer url xs out) (encodeBuffer url xs out)
+  pub unpadded : (text out : List ℕ) → AllBytes text → ReadsInC (encoding Standard) text out (decodeAnswer 0 text out) (decodeBuffer 0 text out)
+  pub unplain : (url : ℕ) (text out : List ℕ) → AllBytes text → (url ≡ 0 → ⊥) → ReadsInC (encoding UrlSafe) text out (decodeAnswer url text out) (decodeBuffer url text out)
+  pub thirtytwo : (xs out : List ℕ) → WritesInC (encoding32 xs) out (encodeAnswer32 xs out) (encodeBuffer32 xs out)
+  pub unthirtytwo : (text out : List ℕ) → AllBytes text → ReadsInC encoding32 text out (decodeAnswer32 text out) (decodeBuffer32 text out)
+
+-- ---- ditgrux_sha256
+
+-- "DITGRUX_OUTPUT_SHORT (output_length is below 32)"; else the value "to the first 32 bytes of the output"
+pub record HashAnswersInC (m out : List ℕ) : Type 0 where
+  pub short : length out < 32 → (hashNumber out ≡ 23) × (hashBuffer m out ≡ out)
+  pub done : 32 ≤ length out → (hashNumber out ≡ 0) × (hashBuffer m out ≡ overwrite out 0 (sha256 m))
+
+abbrev pub HashIsWrittenInC : Type 0
+HashIsWrittenInC = (m out : List ℕ) → HashAnswersInC m out

@@ -2,6 +2,7 @@
 -- gives for the same journal. Proved in proofs/PartsInC.antt.
 use Prim.Native.Nat.{ℕ, suc, _≤_, _<_}
 use mathlib.Core.Path.{_≡_}
+use mathlib.Core.Bool.{Bool}
 use mathlib.Core.List.{List, [], _∷_, _++_}
 use lib.ListN.{length}
 use Rattle.primitives.specs.Bytes.{AllBytes}
@@ -12,7 +13,8 @@ use Rattle.journal.specs.Valid.{Owner, Pair, stateAfter}
 use Rattle.journal.specs.FirstNo.{SoFar}
 use Rattle.journal.specs.declared.state.State.{State}
 use Rattle.device.specs.Layout.{stateBytes, stateOf, kept}
-use Rattle.device.specs.Calls.{takeOverAnswer, headAnswer, stepsAnswer}
+use Rattle.device.specs.Calls.{Slices, openedNumber, openedSlices, takeOverAnswer, headAnswer, stepsAnswer}
+use Rattle.device.specs.Demand.{CallFromC, TypedCallsFromC, slicesAfterAll, journalIn}
 
 -- ---- what a C program has after a call
 
@@ -110,6 +112,16 @@ GrownJournalGoesOnInC =
     (grown key : List ℕ) (n : ℕ) (o : Owner) (ps : List Pair) (p : Pair) (k : ℕ) (rest : List ℕ) → AllBytes grown → length grown < 18446744073709551616
     → AllBytes key → length key ≡ 32 → SoFar grown key n o ps p k rest → (counts : List ℕ) → length grown ≤ total counts
     → GoesOnInC (stateBytes (stateAfter o key n (ps ++ (p ∷ [])))) grown key n counts
+
+-- the same of a register: what its slice holds after some calls are bytes to go on from in the journal that further calls leave, and the end is what its slice
+-- holds then
+abbrev pub RegisterGoesOnInC : Type 0
+RegisterGoesOnInC =
+    (settings : List ℕ) (shared : Bool) (g : Slices) → AllBytes settings → length (g .journal) < 18446744073709551616 → openedNumber settings shared g ≡ 0
+    → (cs ds : List CallFromC) → TypedCallsFromC cs → TypedCallsFromC ds → (counts : List ℕ)
+    → length (journalIn (slicesAfterAll (openedSlices settings shared g) (cs ++ ds))) ≤ total counts
+    → checksFromBytes (slicesAfterAll (openedSlices settings shared g) cs .state) (journalIn (slicesAfterAll (openedSlices settings shared g) (cs ++ ds))) counts
+    ≡ record { number = 0; index = 0; state = slicesAfterAll (openedSlices settings shared g) (cs ++ ds) .state }
 
 -- ---- a refused call
 
