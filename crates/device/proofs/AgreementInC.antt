@@ -24,7 +24,7 @@ use Rattle.journal.specs.State.{TypedName, TypedRegister, TypedState}
 use Rattle.journal.specs.Opening.{openNumber}
 use Rattle.journal.specs.Checking.{accepted, takeOver}
 use Rattle.journal.specs.Receipts.{Receipt, receiptsIn}
-use Rattle.journal.specs.Valid.{Owner, Pair, settingsFor, Placed, placedUnder, allPlaced, entriesIn, Valid, headOf}
+use Rattle.journal.specs.Valid.{Owner, Pair, settingsFor, Placed, placedUnder, allPlaced, entriesIn, stateAfter, Valid, headOf}
 use Rattle.journal.specs.Calls.{Call, issue, change, Register, journalOf, opening, calls, numbersOf, receiptsOf, Period, periodsFrom, periodsIn, orderOf, issuesOf, laterCalls, callsOf}
 use Rattle.journal.specs.Demands.{Written, Again}
 use Rattle.journal.specs.declared.state.State.{State}
@@ -34,13 +34,14 @@ use Rattle.journal.proofs.Placing.{Core, stepCore, RightFor, AllRight, right-sp
 use Rattle.journal.proofs.Placing as placing
 use Rattle.journal.proofs.Passing.{typed-for, good-for}
 use Rattle.journal.proofs.Accepting.{Work, valid-work}
+use Rattle.journal.proofs.JournalStates.{state-of-journal}
 use Rattle.journal.proofs.AcceptedIsWritten.{order-typed, accepted-is-written}
 use Rattle.journal.proofs.WrittenIsAccepted.{accepted-is-valid, written-is-accepted}
 use Rattle.device.specs.Layout.{settingsBytes, stateBytes, arrayOf, settingsOf, widthOf, keyOf, stateOf}
 use Rattle.device.specs.Details.{dateOf, detailsWith, ofKind, detailsOf, kindNumber}
 use Rattle.device.specs.Calls.{settingsFrom, widthWith, settingsAnswer, settingsBuffer, Slices, openedNumber, openedSlices, orderIn, takeOverAnswer}
 use Rattle.device.specs.Demand as demand
-use Rattle.device.specs.Demand.{CallFromC, changing, TypedCallFromC, TypedCallsFromC, callIn, slicesAfterAll, numbersFromC, receiptsFromC, periodsFromC, journalIn, AcceptedIsValidInC, registerIn, WrittenInC, WrittenIsAcceptedInC, settingsAgain, issueCallOf, laterFromC, callsFromC, AgainInC, AcceptedIsWrittenInC, WritingAndCheckingAgreeInC}
+use Rattle.device.specs.Demand.{CallFromC, changing, TypedCallFromC, TypedCallsFromC, callIn, slicesAfterAll, numbersFromC, receiptsFromC, periodsFromC, journalIn, AcceptedIsValidInC, StateOfJournalInC, registerIn, WrittenInC, WrittenIsAcceptedInC, settingsAgain, issueCallOf, laterFromC, callsFromC, AgainInC, AcceptedIsWrittenInC, WritingAndCheckingAgreeInC}
 use Rattle.device.proofs.Below.{date-words, opened-number, journal-is, accepted-is, order-details, issues-none, issues-more, later-none, later-more, pairs-none, pairs-more, placed-more, all-more, head-is}
 use Rattle.device.proofs.Sizes.{array-whole, width-whole, key-long, good-register, open-answer, kept-all, take-six, take-answer}
 use Rattle.device.proofs.Spelling.{settings-are-read, state-is-read}
@@ -73,6 +74,13 @@ accepted-is-valid-in-c j key n size b = (yes, no)
     no h l v =
         ap (λ (k : ℕ). takeOverAnswer j key n k .number) h ∙ ap (λ (x : TakenOver). x .number) (take-over-same j key n l)
         ∙ accepted-is-valid j key n b .1 v
+
+pub state-of-journal-in-c : StateOfJournalInC
+state-of-journal-in-c j key n l v out lo =
+    let st = stateAfter (v .owner) key n (v .pairs) in
+    let e : takeOverAnswer j key n (length out) ≡ record { number = 0; index = 0; state = st } =
+    ap (takeOverAnswer j key n) lo ∙ take-over-same j key n l ∙ state-of-journal j key n v ∙ accepted-is st in
+    (e, kept-all out (takeOverAnswer j key n (length out) .state) lo ∙ ap (λ (x : TakenOver). stateBytes (x .state)) e)
 
 -- ---- what is written is accepted
 
@@ -327,4 +335,4 @@ accepted-is-written-in-c j key n lj kb lk v out lo g lg ls =
 
 pub writing-and-checking-agree-in-c : WritingAndCheckingAgreeInC
 writing-and-checking-agree-in-c =
-    record { accepted = accepted-is-valid-in-c; forth = written-is-accepted-in-c; back = accepted-is-written-in-c }
+    record { accepted = accepted-is-valid-in-c; state = state-of-journal-in-c; forth = written-is-accepted-in-c; back = accepted-is-written-in-c }

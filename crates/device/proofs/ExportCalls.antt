@@ -41,7 +41,7 @@ unfolding kept
 kept-other state st h = rw (ne-eqb (length state) 447 h)
 
 module _ (text key : List ℕ) (n : ℕ) (out state : List ℕ) where
-  answer-six : (length state ≡ 447 → ⊥) → readAnswer text key n out state ≡ notRead 6 0
+  pub answer-six : (length state ≡ 447 → ⊥) → readAnswer text key n out state ≡ notRead 6 0
   unfolding readAnswer
   answer-six h = rw (ne-eqb (length state) 447 h)
 
@@ -49,11 +49,11 @@ module _ (text key : List ℕ) (n : ℕ) (out state : List ℕ) where
   unfolding readOutput
   output-six h = rw (ne-eqb (length state) 447 h)
 
-  answer-read : length state ≡ 447 → readAnswer text key n out state ≡ restored text (arrayOf 32 key) (widthWith key n) (length out)
+  pub answer-read : length state ≡ 447 → readAnswer text key n out state ≡ restored text (arrayOf 32 key) (widthWith key n) (length out)
   unfolding readAnswer
   answer-read h = rw (eq-eqb (length state) 447 h)
 
-  output-read : length state ≡ 447 → readOutput text key n out state ≡ restoredBuffer text (arrayOf 32 key) (widthWith key n) out
+  pub output-read : length state ≡ 447 → readOutput text key n out state ≡ restoredBuffer text (arrayOf 32 key) (widthWith key n) out
   unfolding readOutput
   output-read h = rw (eq-eqb (length state) 447 h)
 

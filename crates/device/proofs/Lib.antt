@@ -1,8 +1,11 @@
 pub mod AgreementInC
+pub mod AskingInC
 pub mod Below
 pub mod CallAnswers
 pub mod CallsFromC
 pub mod DetailLaws
+pub mod GrownInC
+pub mod LaidOut
 pub mod ListCalls
 pub mod Lists
 pub mod Opens
@@ -12,11 +15,13 @@ pub mod Pieces
 pub mod ReadBackCalls
 pub mod ReadBackLaws
 pub mod Reading
+pub mod RowsAlike
 pub mod Sizes
 pub mod Slots
 pub mod Spelling
 pub mod StateCalls
 pub mod TextAnswers
+pub mod TextsInC
 pub mod Writers
 pub mod Zeros
 pub mod ExportCalls

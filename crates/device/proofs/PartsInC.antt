@@ -1,30 +1,31 @@
 -- A check in parts from C: its calls return and write what those of the journal give, and so what ditgrux_take_over returns and writes.
-use Prim.Native.Nat.{ℕ, zero, suc, _<_}
+use Prim.Native.Nat.{ℕ, zero, suc, _+_, _<_}
 use mathlib.Core.Path.{_≡_, refl, sym, ap, _∙_, subst}
 use mathlib.Core.Bool.{Bool, true, false}
-use mathlib.Core.List.{List, [], _∷_}
+use mathlib.Core.List.{List, [], _∷_, _++_}
 use native.Mathlib.Omega.{arith}
 use borrow.Author.Tests.{eqb-true, eqb-false}
 use lib.Dec.{eqb}
-use lib.ListN.{length}
+use lib.ListN.{length, replicate}
 use Rattle.primitives.specs.Bytes.{AllBytes}
 use Rattle.primitives.proofs.Rows.{ifZero-yes, ifZero-no}
 use Rattle.journal.specs.State.{unopened, TypedState}
 use Rattle.journal.specs.Checking.{accepted, checkHead, takeOver}
-use Rattle.journal.specs.Parts.{checkSteps, checksAfter, checkInParts}
+use Rattle.journal.specs.Parts.{checkSteps, checksAfter, checkInParts, total}
 use Rattle.journal.specs.PartLaws.{SameAnswer}
+use Rattle.journal.specs.Valid.{Owner, Pair, entriesIn, stateAfter}
 use Rattle.journal.specs.declared.state.State.{State}
 use Rattle.journal.specs.declared.state.TakenOver.{TakenOver}
 use Rattle.journal.proofs.Refusals.{refused-changes-nothing}
 use Rattle.journal.proofs.CheckCalls.{head-passed}
-use Rattle.journal.proofs.PartSteps.{accepted-number, accepted-state, went, checks-none, checks-on, checks-stuck, steps-are-take-over, end-is-seen}
-use Rattle.journal.proofs.PartPlaces.{refusal-is-take-overs}
+use Rattle.journal.proofs.PartSteps.{accepted-number, accepted-state, went, checks-none, checks-on, checks-stuck, total-more, total-none, steps-are-take-over, end-is-seen}
+use Rattle.journal.proofs.PartPlaces.{state-after-steps, grown-journal-goes-on, refusal-is-take-overs}
 use Rattle.journal.proofs.TypedChecks.{checked-typed, head-typed}
 use Rattle.device.specs.Layout.{stateBytes, arrayOf, stateOf, kept}
 use Rattle.device.specs.Calls.{widthWith, takeOverAnswer, headAnswer, stepsAnswer}
-use Rattle.device.specs.PartLaws.{LeftByCheck, headFromC, stepsFromC, checksFromC, inPartsFromC, SameAsTakeOverInC, ChecksAreTakeOverInC, RefusalIsTakeOversInC, EndIsSeenInC, StoredStateIsChecked, RefusedCheckKeepsState, RefusedHeadIsUnopened}
-use Rattle.device.proofs.Below.{head-index, in-parts-is}
-use Rattle.device.proofs.Sizes.{array-long, array-bytes, kept-all, take-six, take-answer}
+use Rattle.device.specs.PartLaws.{LeftByCheck, headFromC, stepsFromC, checksFromC, inPartsFromC, SameAsTakeOverInC, ChecksAreTakeOverInC, RefusalIsTakeOversInC, EndIsSeenInC, StoredStateIsChecked, GoesOnInC, GrownJournalGoesOnInC, RefusedCheckKeepsState, RefusedHeadIsUnopened}
+use Rattle.device.proofs.Below.{accepted-is, head-index, in-parts-is}
+use Rattle.device.proofs.Sizes.{array-whole, array-long, array-bytes, width-whole, kept-all, take-six, take-answer}
 use Rattle.device.proofs.Slots.{typed-lengths}
 use Rattle.device.proofs.Writers.{length-state}
 use Rattle.device.proofs.Spelling.{state-is-read, kept-as-it-was}
@@ -51,12 +52,12 @@ module _ (c : LeftByCheck) (j : List ℕ) where
 accepted-whole : {t : TakenOver} (st : State) → t ≡ accepted st → t ≡ accepted (t .state)
 accepted-whole st e = e ∙ ap accepted (sym (ap (λ (x : TakenOver). x .state) e ∙ accepted-state st))
 
-record Same (c : LeftByCheck) (t : TakenOver) : Type 0 where
-  number : c .number ≡ t .number
-  index : c .index ≡ t .index
-  bytes : c .state ≡ stateBytes (t .state)
-  whole : t .number ≡ 0 → t ≡ accepted (t .state)
-  typed : t .number ≡ 0 → TypedState (t .state)
+pub record Same (c : LeftByCheck) (t : TakenOver) : Type 0 where
+  pub number : c .number ≡ t .number
+  pub index : c .index ≡ t .index
+  pub bytes : c .state ≡ stateBytes (t .state)
+  pub whole : t .number ≡ 0 → t ≡ accepted (t .state)
+  pub typed : t .number ≡ 0 → TypedState (t .state)
 
 -- the next call reads that state
 is-read : {c : LeftByCheck} {t : TakenOver} → Same c t → t .number ≡ 0 → stateOf (c .state) ≡ t .state
@@ -76,7 +77,7 @@ module _ (j : List ℕ) (b : AllBytes j) (small : length j < 1844674407370955161
         typed = λ q. checked-typed (t .state) j b small (s .typed z) n q;
       }
 
-  same-checks : (ns : List ℕ) (c : LeftByCheck) (t : TakenOver) → Same c t → Same (checksFromC c j ns) (checksAfter t j ns)
+  pub same-checks : (ns : List ℕ) (c : LeftByCheck) (t : TakenOver) → Same c t → Same (checksFromC c j ns) (checksAfter t j ns)
   same-checks [] c t s = subst (λ (x : LeftByCheck). Same x (checksAfter t j [])) (sym (none-left c j)) (subst (Same c) (sym (checks-none t j)) s)
   same-checks (n ∷ ns) c t s = go (t .number) refl (λ z. same-checks ns (stepsFromC (c .state) j n) (checkSteps (t .state) j n) (same-steps c t n z s))
     where
@@ -220,6 +221,52 @@ end-is-seen-in-c j key width state ns x m b a small z q y l = go (eqb (length st
         (subst (λ (c : List ℕ). stepsFromC c j (suc m) .number ≡ 0) (sym q) y)
         (subst (λ (c : List ℕ). stateOf (stepsFromC c j (suc m) .state) .length ≡ stateOf c .length) (sym q) l))
     go false e = absurd (omega (arith, z, parts-six j key width state (eqb-false (length state) 447 e) ns))
+
+-- ---- a journal that has grown
+
+-- from a state with the code's types on
+pub same-start : (st : State) → TypedState st → Same (record { number = 0; index = 0; state = stateBytes st }) (accepted st)
+same-start st t =
+    record {
+      number = sym (accepted-number st);
+      index = sym (ap (λ (x : TakenOver). x .index) (accepted-is st));
+      bytes = ap stateBytes (sym (accepted-state st));
+      whole = λ z. ap accepted (sym (accepted-state st));
+      typed = λ z. subst TypedState (sym (accepted-state st)) t;
+    }
+
+module _ (j : List ℕ) (b : AllBytes j) (small : length j < 18446744073709551616) (key : List ℕ) (n : ℕ) (lk : length key ≡ 32) (st : State) (t : TypedState st) where
+  taken-is : takeOverAnswer j key n 447 ≡ takeOver j key n
+  taken-is = take-answer j key n 447 refl ∙ (λ i. takeOver j (array-whole 32 key lk i) (width-whole key n lk i))
+
+  goes-on-from : (counts : List ℕ) → SameAnswer (checksAfter (accepted st) j counts) (takeOver j key n) → GoesOnInC (stateBytes st) j key n counts
+  goes-on-from counts p =
+      let s = same-checks j b small counts (record { number = 0; index = 0; state = stateBytes st }) (accepted st) (same-start st t) in
+      let e = taken-is in
+      record {
+        number = s .number ∙ (p .number ∙ sym (ap (λ (x : TakenOver). x .number) e));
+        index = s .index ∙ (p .index ∙ sym (ap (λ (x : TakenOver). x .index) e));
+        written = λ z out l.
+            s .bytes
+            ∙ (ap stateBytes (p .state (sym (ap (λ (x : TakenOver). x .number) e) ∙ z) ∙ sym (ap (λ (x : TakenOver). x .state) e))
+            ∙ sym (kept-all out (takeOverAnswer j key n 447 .state) l));
+      }
+
+-- the state that steps lead to has the code's types
+reached-typed : (j key : List ℕ) (n : ℕ) → AllBytes j → length j < 18446744073709551616 → AllBytes key → length key ≡ 32 → (counts : List ℕ) (st : State)
+    → checkInParts j key n counts ≡ accepted st → TypedState st
+reached-typed j key n b small a lk counts st e =
+    let f : checkInParts j (arrayOf 32 key) (widthWith key n) counts ≡ accepted st = (λ i. checkInParts j (array-whole 32 key lk i) (width-whole key n lk i) counts) ∙ e in
+    let s = same-parts j b small key n (replicate 447 0) a refl counts in
+    subst TypedState (ap (λ (x : TakenOver). x .state) f ∙ accepted-state st) (s .typed (ap (λ (x : TakenOver). x .number) f ∙ accepted-number st))
+
+pub grown-journal-goes-on-in-c : GrownJournalGoesOnInC
+grown-journal-goes-on-in-c grown key n o ps p k rest b small a lk s counts l =
+    let m = length (entriesIn (ps ++ (p ∷ []))) + length ps in
+    let e : total (m ∷ []) ≡ m = omega (arith, total-more m [], total-none) in
+    let st = stateAfter o key n (ps ++ (p ∷ [])) in
+    let t = reached-typed grown key n b small a lk (m ∷ []) st (state-after-steps grown key n o ps p k rest b s (m ∷ []) e) in
+    goes-on-from grown b small key n lk st t counts (grown-journal-goes-on grown key n o ps p k rest b s counts l)
 
 -- ---- a refused call
 

@@ -59,7 +59,7 @@ none-typed =
       bytes = record { csp = bytes-replicate 3 (omega arith); id = bytes-replicate 32 (omega arith); serial = bytes-replicate 32 (omega arith) };
     }
 
-any-typed : (b : List ℕ) → AllBytes b → TypedSettings (settingsOf b)
+pub any-typed : (b : List ℕ) → AllBytes b → TypedSettings (settingsOf b)
 unfolding settingsOf
 any-typed b a = go (eqb (length b) 123) refl
   where

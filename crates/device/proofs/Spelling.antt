@@ -201,7 +201,7 @@ state-is-read st t = rw (eq-eqb (length (stateBytes st)) 447 (length-state st (t
 -- ---- what was read is written
 
 -- one more part
-next-part : (b : List ℕ) (at n : ℕ) {y x : List ℕ} → y ≡ take at b → x ≡ take n (drop at b) → y ++ x ≡ take (at + n) b
+pub next-part : (b : List ℕ) (at n : ℕ) {y x : List ℕ} → y ≡ take at b → x ≡ take n (drop at b) → y ++ x ≡ take (at + n) b
 next-part b at n p q = (λ i. p i ++ q i) ∙ sym (take-add at n b)
 
 module _ (b : List ℕ) (a : AllBytes b) where

@@ -6,12 +6,14 @@ use lib.Dec.{leb, eqb}
 use lib.IntN.{ℤ}
 use lib.ListN.{length, getD}
 use Rattle.primitives.specs.Questions.{ask, ifZero}
-use Rattle.receipt.specs.Settings.{nameOf, settingsNumber}
+use Rattle.receipt.specs.Settings.{nameText, nameOf, settingsNumber}
 use Rattle.primitives.specs.declared.answer.Answer.{Answer}
 use Rattle.receipt.specs.declared.settings.Name.{Name}
 use Rattle.receipt.specs.declared.settings.Settings.{Settings}
+use Rattle.receipt.specs.declared.details.Details.{Details}
 use Rattle.journal.specs.State.{noName, used, unopened}
 use Rattle.journal.specs.Opening.{opened, openBuffer}
+use Rattle.journal.specs.Preparing.{prepareAnswer, prepareBuffer}
 use Rattle.journal.specs.Issuing.{issued, issueBuffer}
 use Rattle.journal.specs.Listing.{issuedList, listBuffer}
 use Rattle.journal.specs.Changing.{changed, changeBuffer}
@@ -44,6 +46,27 @@ settingsAnswer s n room = settingsNumber s n (ask (eqb room 123) 23 0)
 unfoldable pub settingsBuffer : Settings → List ℕ → ℕ → List ℕ → List ℕ
 settingsBuffer s key n out = ifZero (settingsAnswer s (widthWith key n) (length out)) (settingsBytes s n key) out
 
+-- what ditgrux_settings returns
+abbrev pub settingsReturned : List ℕ → List ℕ → List ℕ → ℕ → List ℕ → List ℕ → ℕ
+settingsReturned csp id serial n key out = settingsAnswer (settingsFrom csp id serial) (widthWith key n) (length out)
+
+-- ---- what a state says: what ditgrux_counter, ditgrux_last_number, ditgrux_receipts, ditgrux_journal_length and ditgrux_serials return for these bytes
+
+abbrev pub counterIn : List ℕ → ℤ
+counterIn state = stateOf state .counter
+
+abbrev pub lastNumberIn : List ℕ → ℕ
+lastNumberIn state = stateOf state .last
+
+abbrev pub receiptCountIn : List ℕ → ℕ
+receiptCountIn state = stateOf state .issued
+
+abbrev pub journalLengthIn : List ℕ → ℕ
+journalLengthIn state = stateOf state .length
+
+abbrev pub serialCountIn : List ℕ → ℕ
+serialCountIn state = length (used (stateOf state .serials))
+
 -- ---- what a state says of its serials
 
 -- one of those used, from 0; the empty name if there is no such serial
@@ -54,6 +77,10 @@ serialIn st which = getD (used (st .serials)) which noName
 unfoldable pub serialAnswer : List ℕ → ℕ → Answer
 serialAnswer text room = record { number = ask (leb (length text) room) 23 0; length = ifZero (ask (leb (length text) room) 23 0) (length text) 0 }
 
+-- the text that ditgrux_serial writes
+abbrev pub serialTextIn : List ℕ → ℕ → List ℕ
+serialTextIn state which = nameText (serialIn (stateOf state) which)
+
 -- the settings that the receipts under it are spelled with
 unfoldable pub settingsIn : State → ℕ → Settings
 settingsIn st which = record { csp = st .csp; id = st .id; serial = serialIn st which }
@@ -61,6 +88,14 @@ settingsIn st which = record { csp = st .csp; id = st .id; serial = serialIn st 
 -- the output after the call
 unfoldable pub settingsInBuffer : State → ℕ → List ℕ → List ℕ
 settingsInBuffer st which out = cond (eqb (length out) 123) (settingsBytes (settingsIn st which) (st .width) (st .key)) out
+
+-- what ditgrux_settings_in returns for an output that holds these bytes
+abbrev pub settingsInReturned : List ℕ → ℕ
+settingsInReturned out = ask (eqb (length out) 123) 23 0
+
+-- and what it leaves in it
+abbrev pub settingsInLeft : List ℕ → ℕ → List ℕ → List ℕ
+settingsInLeft state which out = settingsInBuffer (stateOf state) which out
 
 -- ---- what a program holds: the bytes of a state, and the buffer of a journal
 
@@ -130,14 +165,22 @@ callWith number year month day hour minute second a b c d e kind signature =
       signature = signature;
     }
 
+-- the details that it gives to Issue and to Prepare
+abbrev pub detailsGiven : IssueCall → Details
+detailsGiven c =
+    detailsOf (c .number) (c .year) (c .month) (c .day) (c .hour) (c .minute) (c .second) (c .standard) (c .reduced1) (c .reduced2) (c .zero) (c .special) (c .kind)
+
 -- what it gives to Issue
 unfoldable pub orderIn : IssueCall → Order
-orderIn c =
-    record {
-      details =
-          detailsOf (c .number) (c .year) (c .month) (c .day) (c .hour) (c .minute) (c .second) (c .standard) (c .reduced1) (c .reduced2) (c .zero) (c .special) (c .kind);
-      signature = c .signature;
-    }
+orderIn c = record { details = detailsGiven c; signature = c .signature }
+
+-- what ditgrux_prepare returns for such a call, whose signature it does not get, and an output of this length, and the length that it gives
+abbrev pub preparedFromC : List ℕ → IssueCall → ℕ → Answer
+preparedFromC state c room = prepareAnswer (stateOf state) (detailsGiven c) room
+
+-- what it leaves in an output that holds these bytes
+abbrev pub preparedOutput : List ℕ → IssueCall → List ℕ → List ℕ
+preparedOutput state c out = prepareBuffer (stateOf state) (detailsGiven c) out
 
 -- what the journal answers: questions 6 to 13
 unfoldable pub issueAnswer : Slices → IssueCall → Issued

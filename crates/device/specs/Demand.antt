@@ -14,9 +14,9 @@ use Rattle.receipt.specs.declared.settings.Settings.{Settings}
 use Rattle.receipt.specs.declared.details.Details.{Details}
 use Rattle.receipt.specs.declared.entry.Entry.{Entry}
 use Rattle.journal.specs.Receipts.{Receipt, receiptsIn, sum}
-use Rattle.journal.specs.Valid.{Pair, entriesIn, Valid, headOf}
+use Rattle.journal.specs.Valid.{Pair, entriesIn, stateAfter, Valid, headOf}
 use Rattle.journal.specs.Calls.{Call, issue, issueList, change, Register, opening, numbersOf, receiptOfCall, firstReceipts, Period, periodsIn, orderOf}
-use Rattle.device.specs.Layout.{settingsOf, widthOf, keyOf, stateOf, kept}
+use Rattle.device.specs.Layout.{stateBytes, settingsOf, widthOf, keyOf, stateOf, kept}
 use Rattle.device.specs.Details.{kindNumber, listIn}
 use Rattle.device.specs.Calls.{settingsFrom, widthWith, settingsAnswer, settingsBuffer, Slices, openedNumber, openedSlices, IssueCall, callWith, orderIn, issuedNumber, issuedSlices, listedNumber, listedCount, listedSlices, changedNumber, changedSlices, takeOverAnswer}
 
@@ -120,6 +120,13 @@ AcceptedIsValidInC =
     → (takeOverAnswer j key n size .number ≡ 0 → (size ≡ 447) × (length key ≡ 32) × Valid j key n)
     × (size ≡ 447 → length key ≡ 32 → Valid j key n → takeOverAnswer j key n size .number ≡ 0)
 
+-- and its state is that of its pairs: where the key is 32 bytes long, ditgrux_take_over writes the very bytes of that state into any slice of 447 bytes
+abbrev pub StateOfJournalInC : Type 0
+StateOfJournalInC =
+    (j key : List ℕ) (n : ℕ) → length key ≡ 32 → (v : Valid j key n) → (out : List ℕ) → length out ≡ 447
+    → (takeOverAnswer j key n (length out) ≡ record { number = 0; index = 0; state = stateAfter (v .owner) key n (v .pairs) })
+    × (kept out (takeOverAnswer j key n (length out) .state) ≡ stateBytes (stateAfter (v .owner) key n (v .pairs)))
+
 -- ---- what is written is accepted
 
 -- the register of the journal that ditgrux_open, or ditgrux_open_shared where the key is shared, makes of these settings and this buffer
@@ -200,5 +207,6 @@ AcceptedIsWrittenInC =
 -- demand 3 of the C library as one theorem
 pub record WritingAndCheckingAgreeInC : Type 0 where
   pub accepted : AcceptedIsValidInC
+  pub state : StateOfJournalInC
   pub forth : WrittenIsAcceptedInC
   pub back : AcceptedIsWrittenInC

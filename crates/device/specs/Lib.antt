@@ -1,8 +1,10 @@
+pub mod AskedInC
 pub mod Calls
 pub mod Demand
 pub mod Details
 pub mod Laws
 pub mod Layout
+pub mod LayoutWords
 pub mod ListLaws
 pub mod PartLaws
 pub mod ReadBack

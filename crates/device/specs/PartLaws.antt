@@ -2,15 +2,19 @@
 -- gives for the same journal. Proved in proofs/PartsInC.antt.
 use Prim.Native.Nat.{ℕ, suc, _≤_, _<_}
 use mathlib.Core.Path.{_≡_}
-use mathlib.Core.List.{List, [], _∷_}
+use mathlib.Core.Bool.{Bool}
+use mathlib.Core.List.{List, [], _∷_, _++_}
 use lib.ListN.{length}
 use Rattle.primitives.specs.Bytes.{AllBytes}
 use Rattle.primitives.specs.Questions.{ifZero}
 use Rattle.journal.specs.State.{unopened, TypedState}
 use Rattle.journal.specs.Parts.{checkSteps, total}
+use Rattle.journal.specs.Valid.{Owner, Pair, stateAfter}
+use Rattle.journal.specs.FirstNo.{SoFar}
 use Rattle.journal.specs.declared.state.State.{State}
 use Rattle.device.specs.Layout.{stateBytes, stateOf, kept}
-use Rattle.device.specs.Calls.{takeOverAnswer, headAnswer, stepsAnswer}
+use Rattle.device.specs.Calls.{Slices, openedNumber, openedSlices, takeOverAnswer, headAnswer, stepsAnswer}
+use Rattle.device.specs.Demand.{CallFromC, TypedCallsFromC, slicesAfterAll, journalIn}
 
 -- ---- what a C program has after a call
 
@@ -88,6 +92,36 @@ pub record CheckOfState (st : State) (journal : List ℕ) (steps : ℕ) : Type 0
 
 abbrev pub StoredStateIsChecked : Type 0
 StoredStateIsChecked = (st : State) (journal : List ℕ) (steps : ℕ) → TypedState st → CheckOfState st journal steps
+
+-- ---- month by month: "The journal may grow in between by receipts and changes that a register appends: pass its new length then."
+
+-- after calls of ditgrux_check_steps with these step counts from the bytes of a state on, up to the first refusal
+abbrev pub checksFromBytes : List ℕ → List ℕ → List ℕ → LeftByCheck
+checksFromBytes bytes journal counts = checksFromC (record { number = 0; index = 0; state = bytes }) journal counts
+
+-- the number, the index and the very bytes that ditgrux_take_over returns and writes for the journal
+pub record GoesOnInC (bytes journal key : List ℕ) (n : ℕ) (counts : List ℕ) : Type 0 where
+  pub number : checksFromBytes bytes journal counts .number ≡ takeOverAnswer journal key n 447 .number
+  pub index : checksFromBytes bytes journal counts .index ≡ takeOverAnswer journal key n 447 .index
+  pub written : takeOverAnswer journal key n 447 .number ≡ 0 → (out : List ℕ) → length out ≡ 447
+      → checksFromBytes bytes journal counts .state ≡ kept out (takeOverAnswer journal key n 447 .state)
+
+-- the stored bytes of the state of the entries up to a place are bytes to go on from in every journal whose answers are yes up to there
+abbrev pub GrownJournalGoesOnInC : Type 0
+GrownJournalGoesOnInC =
+    (grown key : List ℕ) (n : ℕ) (o : Owner) (ps : List Pair) (p : Pair) (k : ℕ) (rest : List ℕ) → AllBytes grown → length grown < 18446744073709551616
+    → AllBytes key → length key ≡ 32 → SoFar grown key n o ps p k rest → (counts : List ℕ) → length grown ≤ total counts
+    → GoesOnInC (stateBytes (stateAfter o key n (ps ++ (p ∷ [])))) grown key n counts
+
+-- the same of a register: what its slice holds after some calls are bytes to go on from in the journal that further calls leave, and the end is what its slice
+-- holds then
+abbrev pub RegisterGoesOnInC : Type 0
+RegisterGoesOnInC =
+    (settings : List ℕ) (shared : Bool) (g : Slices) → AllBytes settings → length (g .journal) < 18446744073709551616 → openedNumber settings shared g ≡ 0
+    → (cs ds : List CallFromC) → TypedCallsFromC cs → TypedCallsFromC ds → (counts : List ℕ)
+    → length (journalIn (slicesAfterAll (openedSlices settings shared g) (cs ++ ds))) ≤ total counts
+    → checksFromBytes (slicesAfterAll (openedSlices settings shared g) cs .state) (journalIn (slicesAfterAll (openedSlices settings shared g) (cs ++ ds))) counts
+    ≡ record { number = 0; index = 0; state = slicesAfterAll (openedSlices settings shared g) (cs ++ ds) .state }
 
 -- ---- a refused call
 

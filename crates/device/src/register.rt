@@ -15,16 +15,11 @@ use receipt::Name;
 use receipt::Settings;
 ghost use mathlib.Core.Path.{_≡_};
 ghost use mathlib.Core.Bool.{true, false};
-ghost use lib.Dec.{eqb};
+ghost use mathlib.Core.List.{[]};
 ghost use lib.ListN.{length};
 ghost use Rattle.primitives.specs.Place.{placed};
-ghost use Rattle.primitives.specs.Questions.{ask};
-ghost use Rattle.receipt.specs.Settings.{nameText};
-ghost use Rattle.journal.specs.State.{used};
-ghost use Rattle.journal.specs.Preparing.{prepareAnswer, prepareBuffer};
-ghost use Rattle.device.specs.Layout.{arrayOf, stateOf, kept};
-ghost use Rattle.device.specs.Details.{detailsOf};
-ghost use Rattle.device.specs.Calls.{settingsFrom, widthWith, settingsAnswer, settingsBuffer, serialIn, serialAnswer, settingsInBuffer, slicesWith, openedNumber, openedSlices, callWith, issuedNumber, issuedSlices, changedNumber, changedSlices, takeOverAnswer};
+ghost use Rattle.device.specs.Layout.{arrayOf, kept};
+ghost use Rattle.device.specs.Calls.{settingsFrom, widthWith, settingsAnswer, settingsReturned, settingsBuffer, counterIn, lastNumberIn, receiptCountIn, journalLengthIn, serialCountIn, serialIn, serialAnswer, serialTextIn, settingsInReturned, settingsInLeft, preparedFromC, preparedOutput, slicesWith, openedNumber, openedSlices, callWith, issuedNumber, issuedSlices, changedNumber, changedSlices, takeOverAnswer};
 
 // ---- settings
 
@@ -99,7 +94,7 @@ pub extern "C" fn ditgrux_settings(
         let s : _ = settingsFrom (now (csp .entry)) (now (id .entry)) (now (serial .entry)) in
         let k : _ = now (key .entry) in
         let out : _ = now (settings .entry) in
-        ⌜ (r ≡ settingsAnswer s (widthWith k width) (length out)) × (now (settings .exit) ≡ settingsBuffer s k width out) ⌝ }
+        ⌜ (r ≡ settingsReturned (now (csp .entry)) (now (id .entry)) (now (serial .entry)) width k out) × (now (settings .exit) ≡ settingsBuffer s k width out) ⌝ }
 {
     let s = settings_from(csp, id, serial);
     let n = width_with(key, width);
@@ -117,7 +112,7 @@ pub extern "C" fn ditgrux_settings(
 // The turnover counter in cents.
 #[no_mangle]
 pub extern "C" fn ditgrux_counter(state: &[u8]) -> i64
-    ensures { λ r. ⌜ r ≡ stateOf (now (state .entry)) .counter ⌝ }
+    ensures { λ r. ⌜ r ≡ counterIn (now (state .entry)) ⌝ }
 {
     let st = state_of(state);
     st.counter
@@ -126,7 +121,7 @@ pub extern "C" fn ditgrux_counter(state: &[u8]) -> i64
 // The last receipt number.
 #[no_mangle]
 pub extern "C" fn ditgrux_last_number(state: &[u8]) -> u32
-    ensures { λ r. ⌜ r ≡ stateOf (now (state .entry)) .last ⌝ }
+    ensures { λ r. ⌜ r ≡ lastNumberIn (now (state .entry)) ⌝ }
 {
     let st = state_of(state);
     st.last
@@ -135,7 +130,7 @@ pub extern "C" fn ditgrux_last_number(state: &[u8]) -> u32
 // The receipts issued.
 #[no_mangle]
 pub extern "C" fn ditgrux_receipts(state: &[u8]) -> u32
-    ensures { λ r. ⌜ r ≡ stateOf (now (state .entry)) .issued ⌝ }
+    ensures { λ r. ⌜ r ≡ receiptCountIn (now (state .entry)) ⌝ }
 {
     let st = state_of(state);
     st.issued
@@ -144,7 +139,7 @@ pub extern "C" fn ditgrux_receipts(state: &[u8]) -> u32
 // The length of the journal.
 #[no_mangle]
 pub extern "C" fn ditgrux_journal_length(state: &[u8]) -> usize
-    ensures { λ r. ⌜ r ≡ stateOf (now (state .entry)) .length ⌝ }
+    ensures { λ r. ⌜ r ≡ journalLengthIn (now (state .entry)) ⌝ }
 {
     let st = state_of(state);
     st.length
@@ -153,7 +148,7 @@ pub extern "C" fn ditgrux_journal_length(state: &[u8]) -> usize
 // How many serials the register has had.
 #[no_mangle]
 pub extern "C" fn ditgrux_serials(state: &[u8]) -> u32
-    ensures { λ r. ⌜ r ≡ length (used (stateOf (now (state .entry)) .serials)) ⌝ }
+    ensures { λ r. ⌜ r ≡ serialCountIn (now (state .entry)) ⌝ }
 {
     let st = state_of(state);
     let slots = st.serials;
@@ -183,8 +178,8 @@ pub extern "C" fn ditgrux_serial(
     length: &mut usize,
 ) -> u32
     ensures { λ r.
-        let text : _ = nameText (serialIn (stateOf (now (state .entry))) which) in
-        ⌜ (r ≡ serialAnswer (nameText (serialIn (stateOf (now (state .entry))) which)) (lib.ListN.length (now (output .entry))) .number)
+        let text : _ = serialTextIn (now (state .entry)) which in
+        ⌜ (r ≡ serialAnswer (serialTextIn (now (state .entry)) which) (lib.ListN.length (now (output .entry))) .number)
         × (now (output .exit) ≡ placed (now (output .entry)) 0 text)
         × (now (length .exit) ≡ serialAnswer text (lib.ListN.length (now (output .entry))) .length) ⌝ }
 {
@@ -205,8 +200,7 @@ pub extern "C" fn ditgrux_serial(
 #[no_mangle]
 pub extern "C" fn ditgrux_settings_in(state: &[u8], which: u32, settings: &mut [u8]) -> u32
     ensures { λ r.
-        let st : _ = stateOf (now (state .entry)) in
-        ⌜ (r ≡ ask (eqb (length (now (settings .entry))) 123) 23 0) × (now (settings .exit) ≡ settingsInBuffer st which (now (settings .entry))) ⌝ }
+        ⌜ (r ≡ settingsInReturned (now (settings .entry))) × (now (settings .exit) ≡ settingsInLeft (now (state .entry)) which (now (settings .entry))) ⌝ }
 {
     if settings.len() != SETTINGS {
         return 23;
@@ -290,10 +284,9 @@ pub extern "C" fn ditgrux_prepare(
     length: &mut usize,
 ) -> u32
     ensures { λ r.
-        let st : _ = stateOf (now (state .entry)) in
-        let d : _ = detailsOf number year month day hour minute second standard «reduced_1» «reduced_2» zero special kind in
-        let a : _ = prepareAnswer st d (lib.ListN.length (now (output .entry))) in
-        ⌜ (r ≡ a .number) × (now (output .exit) ≡ prepareBuffer st d (now (output .entry))) × (now (length .exit) ≡ a .length) ⌝ }
+        let c : _ = callWith number year month day hour minute second standard «reduced_1» «reduced_2» zero special kind [] in
+        let a : _ = preparedFromC (now (state .entry)) c (lib.ListN.length (now (output .entry))) in
+        ⌜ (r ≡ a .number) × (now (output .exit) ≡ preparedOutput (now (state .entry)) c (now (output .entry))) × (now (length .exit) ≡ a .length) ⌝ }
 {
     let st = state_of(state);
     let d = details_of(
