@@ -3,7 +3,7 @@ use Prim.Native.Nat.{ℕ, suc}
 use mathlib.Core.Path.{_≡_, refl, sym, _∙_}
 use mathlib.Core.Bool.{true, false}
 use mathlib.Core.Logic.{_⊎_, inl, inr}
-use Rattle.primitives.specs.Questions.{ask, Row, asked-all, question, AllYes, FirstNo, GivesFirstNo}
+use Rattle.primitives.specs.Questions.{ask, Row, asked-all, question, AllYes, FirstNoIs, GivesFirstNo}
 use Rattle.primitives.proofs.FirstNo.{gives-ask, gives-same}
 use Rattle.primitives.proofs.Rows.{true-is-not-false}
 
@@ -23,8 +23,8 @@ gives-no k q row e n =
 pub record Like (r s : Row) : Type 0 where
   pub yes : AllYes r → AllYes s
   pub back : AllYes s → AllYes r
-  pub no : (k : ℕ) → FirstNo r k → FirstNo s k
-  pub undo : (k : ℕ) → FirstNo s k → FirstNo r k
+  pub no : (k : ℕ) → FirstNoIs r k → FirstNoIs s k
+  pub undo : (k : ℕ) → FirstNoIs s k → FirstNoIs r k
 
 pub like-same : (r : Row) → Like r r
 like-same r = record { yes = λ y. y; back = λ y. y; no = λ k n. n; undo = λ k n. n }
@@ -38,11 +38,11 @@ like-question m q p r s to from more =
       undo = undo;
     }
   where
-    no : (k : ℕ) → FirstNo (question q m r) k → FirstNo (question p m s) k
+    no : (k : ℕ) → FirstNoIs (question q m r) k → FirstNoIs (question p m s) k
     no k (inl n) = inl (λ y. n .0 (from y), n .1)
     no k (inr n) = inr (to (n .0), more (n .0) .no k (n .1))
 
-    undo : (k : ℕ) → FirstNo (question p m s) k → FirstNo (question q m r) k
+    undo : (k : ℕ) → FirstNoIs (question p m s) k → FirstNoIs (question q m r) k
     undo k (inl n) = inl (λ y. n .0 (to y), n .1)
     undo k (inr n) = inr (from (n .0), more (from (n .0)) .undo k (n .1))
 
