@@ -1,11 +1,12 @@
 -- What the calls on BASE64, BASE32 and SHA-256 answer and leave, in the header's words.
-use Prim.Native.Nat.{ℕ, _≤_, _<_}
+use Prim.Native.Nat.{ℕ, _+_, _-_, _≤_, _<_}
 use mathlib.Core.Path.{_≡_, refl, sym, ap, _∙_, subst}
 use mathlib.Core.Bool.{Bool, cond}
 use mathlib.Core.List.{List}
 use mathlib.Core.Option.{Option, none, some}
 use native.Mathlib.Omega.{arith}
 use borrow.Author.Tests.{ne-eqb, le-leb, lt-leb}
+use lib.Dec.{eqb}
 use lib.ListN.{length}
 use Rattle.primitives.specs.Bytes.{AllBytes}
 use Rattle.primitives.specs.Place.{overwrite, placed}
@@ -18,8 +19,11 @@ use Rattle.primitives.specs.declared.answer.Answer.{Answer}
 use Rattle.primitives.proofs.Answers.{written-room, written-full}
 use Rattle.primitives.proofs.Over.{placed-room, placed-full}
 use Rattle.primitives.proofs.Laws.{decoding-is-exact, decoding-is-exact32}
-use Rattle.device.specs.Texts.{hashNumber, hashBuffer, alphabetOf, encodeAnswer, encodeBuffer, decodeAnswer, decodeBuffer, encodeAnswer32, encodeBuffer32, decodeAnswer32, decodeBuffer32}
-use Rattle.device.specs.AskedInC.{WritesInC, ReadsInC, BasesAnswerInC, HashIsWrittenInC}
+use Rattle.receipt.specs.Code.{idPlace, nowhere}
+use Rattle.receipt.specs.declared.machine_code.Part.{Part}
+use Rattle.receipt.proofs.IdFields.{id-field-exact}
+use Rattle.device.specs.Texts.{fieldsNumber, fieldsLength, hashNumber, hashBuffer, alphabetOf, encodeAnswer, encodeBuffer, decodeAnswer, decodeBuffer, encodeAnswer32, encodeBuffer32, decodeAnswer32, decodeBuffer32}
+use Rattle.device.specs.AskedInC.{WritesInC, ReadsInC, BasesAnswerInC, HashIsWrittenInC, FieldsAnswerInC}
 
 writes : (out text : List ℕ) → WritesInC text out (written out text) (placed out 0 text)
 writes out text =
@@ -83,3 +87,21 @@ pub hash-is-written-in-c : HashIsWrittenInC
 unfolding hashNumber hashBuffer
 hash-is-written-in-c m out =
     record { short = λ h. rw (lt-leb 32 (length out) h) (refl, refl); done = λ h. rw (le-leb 32 (length out) h) (refl, refl) }
+
+-- ---- the ID field
+
+field-at : (code : List ℕ) (p : Part) → idPlace code ≡ p → (fieldsNumber code ≡ cond (eqb (p .start) (p .end)) 24 0) × (idPlace code .start ≡ p .start) × (fieldsLength code ≡ p .end - p .start)
+unfolding fieldsNumber fieldsLength
+field-at code p e = (ap (λ (x : Part). cond (eqb (x .start) (x .end)) 24 0) e, ap (λ (x : Part). x .start) e, ap (λ (x : Part). x .end - x .start) e)
+
+pub fields-answer-in-c : FieldsAnswerInC
+fields-answer-in-c code b =
+    let w = id-field-exact code b in
+    record {
+      found = λ x id z h.
+          let f = field-at code (record { start = 2 + length x; end = 2 + length x + length id }) (w .place x id z h) in
+          let n = ne-eqb (2 + length x) (2 + length x + length id) (λ e. omega (arith, e, h .some)) in
+          let l : 2 + length x + length id - (2 + length x) ≡ length id = omega arith in
+          (f .0 ∙ ap (λ (t : Bool). cond t 24 0) n, f .1, f .2 ∙ l);
+      none = λ h. field-at code nowhere (w .nothing h .0);
+    }

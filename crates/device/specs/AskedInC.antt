@@ -20,6 +20,8 @@ use Rattle.receipt.specs.Settings.{nameOf}
 use Rattle.receipt.specs.SettingsWords.{IdByte, SerialByte, GoodCsp, GoodId, GoodSerial, GoodWidth, NoDigitIfShared}
 use Rattle.receipt.specs.DetailsWords.{GoodDate, GoodAmounts}
 use Rattle.receipt.specs.Exact.{Spelled}
+use Rattle.receipt.specs.Code.{idPlace}
+use Rattle.receipt.specs.CodeLaws.{IdPart, HasId}
 use Rattle.receipt.specs.declared.datetime.DateTime.{DateTime}
 use Rattle.journal.specs.State.{used, unopened}
 use Rattle.journal.specs.Certificates.{OneOf}
@@ -32,7 +34,7 @@ use Rattle.journal.specs.declared.state.State.{State}
 use Rattle.device.specs.Layout.{settingsOf, widthOf, stateOf}
 use Rattle.device.specs.Calls.{settingsReturned, Slices, openedNumber, IssueCall, detailsGiven, preparedFromC, issuedNumber, changedNumber, takeOverAnswer, headAnswer, stepsAnswer}
 use Rattle.device.specs.ReadBack.{readBack}
-use Rattle.device.specs.Texts.{hashNumber, hashBuffer, encodeAnswer, encodeBuffer, decodeAnswer, decodeBuffer, encodeAnswer32, encodeBuffer32, decodeAnswer32, decodeBuffer32}
+use Rattle.device.specs.Texts.{fieldsNumber, fieldsLength, hashNumber, hashBuffer, encodeAnswer, encodeBuffer, decodeAnswer, decodeBuffer, encodeAnswer32, encodeBuffer32, decodeAnswer32, decodeBuffer32}
 use Rattle.device.specs.Inspection.{exportAnswer, exportOutput, readAnswer, readOutput}
 use Rattle.exports.specs.Writing.{exported, exportBuffer}
 use Rattle.exports.specs.Reading.{notRead, restored, restoredBuffer}
@@ -270,3 +272,14 @@ pub record HashAnswersInC (m out : List ℕ) : Type 0 where
 
 abbrev pub HashIsWrittenInC : Type 0
 HashIsWrittenInC = (m out : List ℕ) → HashAnswersInC m out
+
+-- ---- ditgrux_fields
+
+-- "Finds the register ID in a machine-readable code: where it starts, and its length"; "DITGRUX_BAD_CODE (also if the code has no ID, or an empty one). Refused:
+-- *start and *length are 0."
+pub record FieldsAnswer (code : List ℕ) : Type 0 where
+  pub found : (x id z : List ℕ) → IdPart code x id z → (fieldsNumber code ≡ 0) × (idPlace code .start ≡ 2 + length x) × (fieldsLength code ≡ length id)
+  pub none : (HasId code → ⊥) → (fieldsNumber code ≡ 24) × (idPlace code .start ≡ 0) × (fieldsLength code ≡ 0)
+
+abbrev pub FieldsAnswerInC : Type 0
+FieldsAnswerInC = (code : List ℕ) → AllBytes code → FieldsAnswer code
