@@ -18,7 +18,7 @@ use Rattle.primitives.proofs.FirstNo.{gives-none, gives-ask, gives-same}
 use Rattle.primitives.proofs.Rows.{ifZero-yes, ifZero-no}
 use Rattle.receipt.specs.Settings.{nameOf, SettingsLengths}
 use Rattle.receipt.specs.SettingsWords.{IdByte, SerialByte, GoodCsp, GoodId, GoodSerial, GoodWidth, NoDigitIfShared, oneToFour, settingsRow}
-use Rattle.receipt.specs.DetailsWords.{GoodDate, GoodAmounts, GoodStart}
+use Rattle.receipt.specs.DetailsWords.{GoodDate, GoodAmounts, GoodStart, amountsTaken, addedUp}
 use Rattle.receipt.specs.Exact.{Spelled}
 use Rattle.receipt.specs.declared.settings.Name.{Name}
 use Rattle.receipt.specs.declared.settings.Settings.{Settings}
@@ -31,7 +31,6 @@ use Rattle.receipt.proofs.Entries.{length-array}
 use Rattle.receipt.proofs.ExactEntry.{exact}
 use Rattle.receipt.proofs.SettingsMeaning.{width-means, one-to-four-asked}
 use Rattle.journal.specs.State.{used, unopened, TypedState}
-use Rattle.journal.specs.Receipts.{amountsTaken, addedUp}
 use Rattle.journal.specs.Certificates.{OneOf}
 use Rattle.journal.specs.Opening.{openNumber}
 use Rattle.journal.specs.Issuing.{issued, issueNumber}
