@@ -317,7 +317,8 @@ uint32_t ditgrux_serial(const uint8_t *state, size_t state_length, uint32_t whic
  * What the state holds is copied, good or bad: CSP, ID, width, key, and all 40 bytes of a serial that the register has had (`which` is
  * below ditgrux_serials), also if its length is over 32 or bytes after its end are not zero. If the register has had no such serial,
  * the 40 bytes are zeros, whatever the state holds in that place: so also for a serial of length 0 with other bytes than zeros, and for
- * one that comes after a serial of length 0. ditgrux_read refuses all these settings with DITGRUX_BAD_SERIAL, if CSP and ID are good.
+ * one that comes after a serial of length 0. Settings with a bad serial, or with zeros in its place, ditgrux_read refuses with
+ * DITGRUX_BAD_SERIAL, if CSP and ID are good.
  * With a state that is not 447 bytes long the settings are all zero, and ditgrux_read refuses them with DITGRUX_BAD_CSP.
  *
  * Returns DITGRUX_DONE, or DITGRUX_OUTPUT_SHORT (settings_length is not 123, be it less or more). Refused: `settings` is unchanged. */

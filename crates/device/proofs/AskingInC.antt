@@ -3,7 +3,6 @@ use Prim.Native.Nat.{ℕ, zero, suc, _+_, _-_, _≤_, _<_}
 use mathlib.Core.Path.{_≡_, refl, sym, ap, _∙_, subst}
 use mathlib.Core.Bool.{Bool, true, false, cond}
 use mathlib.Core.List.{List, [], _∷_, _++_}
-use mathlib.Core.Logic.{_⊎_, inl, inr}
 use mathlib.Core.Option.{Option, none, some}
 use native.Mathlib.Omega.{arith}
 use borrow.Author.Tests.{eq-eqb, ne-eqb, eqb-true, eqb-false}
@@ -452,21 +451,6 @@ module _ (text : List ℕ) (room : ℕ) (key : List ℕ) (n : ℕ) (w : widthGoo
   unfolding refused ifZero
   four-from j m = rw (take-four j key n w)
 
-  by-elements : (o : Option (List Element)) → (restoredBy o key n room ≡ notRead 4 0) ⊎ ((k : List ℕ) (m : ℕ) → restoredBy o key n room ≡ restoredBy o k m room)
-  by-elements none = inr (λ k m. refl)
-  by-elements (some es) = go (elementsNumber es room) refl
-    where
-      go : (m : ℕ) → elementsNumber es room ≡ m
-          → (restoredBy (some es) key n room ≡ notRead 4 0) ⊎ ((k : List ℕ) (i : ℕ) → restoredBy (some es) key n room ≡ restoredBy (some es) k i room)
-      go zero e = inl (ifZero-yes _ _ e ∙ four-from (journalOfElements es) (length (journalOfElements es)))
-      go (suc m) e =
-          let h : elementsNumber es room ≡ 0 → ⊥ = λ z. omega (arith, e, z) in
-          inr (λ k i. ifZero-no (elementsNumber es room) _ _ h ∙ sym (ifZero-no (elementsNumber es room) _ _ h))
-
-  text-first : (restored text key n room ≡ notRead 4 0) ⊎ ((k : List ℕ) (m : ℕ) → restored text key n room ≡ restored text k m room)
-  unfolding restored
-  text-first = by-elements (elementsOf text)
-
   never-elements : (o : Option (List Element)) → restoredBy o key n room .number ≡ 0 → ⊥
   unfolding notRead
   never-elements none z = omega (arith, z)
@@ -487,13 +471,31 @@ module _ (text : List ℕ) (room : ℕ) (key : List ℕ) (n : ℕ) (w : widthGoo
   unfolding restored
   never-read z = never-elements (elementsOf text) z
 
+-- two such widths, under any two keys
+module _ (text : List ℕ) (room : ℕ) (key other : List ℕ) (n m : ℕ) (v : widthGood n ≡ false) (w : widthGood m ≡ false) where
+  by-elements : (o : Option (List Element)) → restoredBy o key n room ≡ restoredBy o other m room
+  by-elements none = refl
+  by-elements (some es) = go (elementsNumber es room) refl
+    where
+      go : (k : ℕ) → elementsNumber es room ≡ k → restoredBy (some es) key n room ≡ restoredBy (some es) other m room
+      go zero e =
+          ifZero-yes _ _ e ∙ four-from text room key n v (journalOfElements es) (length (journalOfElements es))
+          ∙ sym (ifZero-yes _ _ e ∙ four-from text room other m w (journalOfElements es) (length (journalOfElements es)))
+      go (suc k) e =
+          let h : elementsNumber es room ≡ 0 → ⊥ = λ z. omega (arith, e, z) in
+          ifZero-no (elementsNumber es room) _ _ h ∙ sym (ifZero-no (elementsNumber es room) _ _ h)
+
+  text-first : restored text key n room ≡ restored text other m room
+  unfolding restored
+  text-first = by-elements (elementsOf text)
+
 pub read-export-asks-the-key : ReadExportAsksTheKey
 read-export-asks-the-key text key n out state =
     record {
       six = answer-six text key n out state;
-      width = λ l h.
-          subst (λ (x : Restored). (x ≡ notRead 4 0) ⊎ ((k : List ℕ) (m : ℕ) → x ≡ restored text k m (length out))) (sym (answer-read text key n out state l))
-          (text-first text (length out) (arrayOf 32 key) (widthWith key n) (bool-no (widthGood (widthWith key n)) (width-bad n key h)));
+      width = λ l h k m bad.
+          answer-read text key n out state l
+          ∙ text-first text (length out) (arrayOf 32 key) k (widthWith key n) m (bool-no (widthGood (widthWith key n)) (width-bad n key h)) (bool-no (widthGood m) (λ g. bad (width-means m .only g)));
       never = λ l h z.
           never-read text (length out) (arrayOf 32 key) (widthWith key n) (bool-no (widthGood (widthWith key n)) (width-bad n key h))
           (sym (ap (λ (x : Restored). x .number) (answer-read text key n out state l)) ∙ z);

@@ -11,6 +11,7 @@ use lib.ListN.{length}
 use Rattle.primitives.specs.Bytes.{AllBytes}
 use Rattle.primitives.specs.Place.{overwrite, placed}
 use Rattle.primitives.specs.Answers.{written, answerWith, bufferWith}
+use Rattle.primitives.specs.Questions.{ask, ifZero}
 use Rattle.primitives.specs.Base32.{encoding32, decoding32}
 use Rattle.primitives.specs.Base64.{encoding, decoding}
 use Rattle.primitives.specs.declared.base64.Alphabet.{Alphabet}
@@ -23,13 +24,23 @@ use Rattle.receipt.specs.Code.{idPlace, nowhere}
 use Rattle.receipt.specs.declared.machine_code.Part.{Part}
 use Rattle.receipt.proofs.IdFields.{id-field-exact}
 use Rattle.device.specs.Texts.{fieldsNumber, fieldsLength, hashNumber, hashBuffer, alphabetOf, encodeAnswer, encodeBuffer, decodeAnswer, decodeBuffer, encodeAnswer32, encodeBuffer32, decodeAnswer32, decodeBuffer32}
-use Rattle.device.specs.AskedInC.{WritesInC, ReadsInC, BasesAnswerInC, HashIsWrittenInC, FieldsAnswerInC}
+use Rattle.device.specs.Calls.{serialTextIn, serialAnswer}
+use Rattle.device.specs.AskedInC.{WritesInC, ReadsInC, BasesAnswerInC, SerialAnswersInC, HashIsWrittenInC, FieldsAnswerInC}
 
 writes : (out text : List ℕ) → WritesInC text out (written out text) (placed out 0 text)
 writes out text =
     record {
       short = λ h. let e = written-full out text h in (ap (λ (x : Answer). x .number) e, ap (λ (x : Answer). x .length) e, placed-full out 0 text (omega arith));
       done = λ h. let e = written-room out text h in (ap (λ (x : Answer). x .number) e, ap (λ (x : Answer). x .length) e, placed-room out 0 text (omega arith));
+    }
+
+pub serial-answers-in-c : SerialAnswersInC
+unfolding serialAnswer ask ifZero
+serial-answers-in-c state which out =
+    let text = serialTextIn state which in
+    record {
+      short = λ h. let e = lt-leb (length text) (length out) h in (rw e, rw e, placed-full out 0 text (omega arith));
+      done = λ h. let e = le-leb (length text) (length out) h in (rw e, rw e, placed-room out 0 text (omega arith));
     }
 
 module _ (spell : List ℕ → List ℕ) (text out : List ℕ) where

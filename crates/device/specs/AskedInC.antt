@@ -8,7 +8,7 @@ use mathlib.Core.Logic.{_⊎_}
 use lib.IntN.{ℤ, pos, _+ℤ_}
 use lib.ListN.{length, getD, replicate}
 use Rattle.primitives.specs.Bytes.{AllBytes}
-use Rattle.primitives.specs.Place.{overwrite}
+use Rattle.primitives.specs.Place.{overwrite, placed}
 use Rattle.primitives.specs.Counter.{counterFits}
 use Rattle.primitives.specs.Sha256.{sha256}
 use Rattle.primitives.specs.Base32.{encoding32}
@@ -32,7 +32,7 @@ use Rattle.journal.specs.Parts.{handedBack, checkSteps}
 use Rattle.journal.specs.Asked.{SoundState, SoundIn, SoundFor}
 use Rattle.journal.specs.declared.state.State.{State}
 use Rattle.device.specs.Layout.{settingsOf, widthOf, stateOf}
-use Rattle.device.specs.Calls.{settingsReturned, Slices, openedNumber, IssueCall, detailsGiven, preparedFromC, issuedNumber, changedNumber, takeOverAnswer, headAnswer, stepsAnswer}
+use Rattle.device.specs.Calls.{settingsReturned, serialAnswer, serialTextIn, Slices, openedNumber, IssueCall, detailsGiven, preparedFromC, issuedNumber, changedNumber, takeOverAnswer, headAnswer, stepsAnswer}
 use Rattle.device.specs.ReadBack.{readBack}
 use Rattle.device.specs.Texts.{fieldsNumber, fieldsLength, hashNumber, hashBuffer, encodeAnswer, encodeBuffer, decodeAnswer, decodeBuffer, encodeAnswer32, encodeBuffer32, decodeAnswer32, decodeBuffer32}
 use Rattle.device.specs.Inspection.{exportAnswer, exportOutput, readAnswer, readOutput}
@@ -230,11 +230,11 @@ pub record ExportAsksInC (j key : List ℕ) (n : ℕ) (certificates out : List �
 abbrev pub ExportAsksTheKey : Type 0
 ExportAsksTheKey = (j key : List ℕ) (n : ℕ) (certificates out : List ℕ) → ExportAsksInC j key n certificates out
 
--- 6 first; then what is asked of the text, and 4 after it: a bad key or width gets the number that the text gets under every key and width, or else 4, and so never 0
+-- 6 first; then what is asked of the text, and 4 after it: under a bad key or width the answer is that of every key with every width that is not 5 to 8, and so
+-- the text's own number where it has one (`ReadingAnswers`), or else 4, and never 0
 pub record ReadExportAsksInC (text key : List ℕ) (n : ℕ) (out state : List ℕ) : Type 0 where
   pub six : (length state ≡ 447 → ⊥) → readAnswer text key n out state ≡ notRead 6 0
-  pub width : length state ≡ 447 → (WidthWithKey n key → ⊥)
-      → (readAnswer text key n out state ≡ notRead 4 0) ⊎ ((k : List ℕ) (m : ℕ) → readAnswer text key n out state ≡ restored text k m (length out))
+  pub width : length state ≡ 447 → (WidthWithKey n key → ⊥) → (k : List ℕ) (m : ℕ) → (GoodWidth m → ⊥) → readAnswer text key n out state ≡ restored text k m (length out)
   pub never : length state ≡ 447 → (WidthWithKey n key → ⊥) → readAnswer text key n out state .number ≡ 0 → ⊥
   pub same : length state ≡ 447 → length key ≡ 32 → readAnswer text key n out state ≡ restored text key n (length out)
   pub output : length state ≡ 447 → length key ≡ 32 → readOutput text key n out state ≡ restoredBuffer text key n out
@@ -262,6 +262,14 @@ pub record BasesAnswerInC : Type 0 where
   pub unplain : (url : ℕ) (text out : List ℕ) → AllBytes text → (url ≡ 0 → ⊥) → ReadsInC (encoding UrlSafe) text out (decodeAnswer url text out) (decodeBuffer url text out)
   pub thirtytwo : (xs out : List ℕ) → WritesInC (encoding32 xs) out (encodeAnswer32 xs out) (encodeBuffer32 xs out)
   pub unthirtytwo : (text out : List ℕ) → AllBytes text → ReadsInC encoding32 text out (decodeAnswer32 text out) (decodeBuffer32 text out)
+
+-- ---- ditgrux_serial
+
+-- "Returns DITGRUX_DONE, or DITGRUX_OUTPUT_SHORT. Refused: `output` is unchanged and *length is 0.", of the text that `SerialIsReadInC` gives
+abbrev pub SerialAnswersInC : Type 0
+SerialAnswersInC =
+    (state : List ℕ) (which : ℕ) (out : List ℕ)
+    → WritesInC (serialTextIn state which) out (serialAnswer (serialTextIn state which) (length out)) (placed out 0 (serialTextIn state which))
 
 -- ---- ditgrux_sha256
 

@@ -126,14 +126,14 @@ pub record StateIsReadInC : Type 0 where
 
 -- ---- one of the serials
 
--- the text of ditgrux_serial: "number 0 is the first, ditgrux_serials - 1 the newest", "at most 32, whatever a damaged state says"; nothing "if there is no
+-- the text of ditgrux_serial: "number 0 is the first, ditgrux_serials - 1 the newest", at most 32 bytes, whatever a damaged state says; nothing "if there is no
 -- such serial, or if the state is not 447 bytes long"
 pub record SerialIsReadInC : Type 0 where
   pub there : (b : List ℕ) (which : ℕ) → AllBytes b → length b ≡ 447 → which < serialCountIn b
       → serialTextIn b which ≡ take (eight b (75 + 40 * which)) (take 32 (drop (43 + 40 * which) b))
   pub none : (b : List ℕ) (which : ℕ) → serialCountIn b ≤ which → serialTextIn b which ≡ []
 
--- "CSP, ID, that serial, width and key", copied byte by byte; "If the register has no such serial, the settings hold an empty one"; "With a state that is not
+-- "CSP, ID, that serial, width and key", copied byte by byte; zeros in its place if the register has had no such serial; "With a state that is not
 -- 447 bytes long the settings are all zero"; "DITGRUX_OUTPUT_SHORT (settings_length is not 123, be it less or more). Refused: `settings` is unchanged."
 pub record SettingsInAreRead : Type 0 where
   pub there : (b : List ℕ) (which : ℕ) (out : List ℕ) → AllBytes b → length b ≡ 447 → length out ≡ 123 → which < serialCountIn b

@@ -15,6 +15,7 @@ pub mod ExactEntry
 pub mod Finding
 pub mod FormCalls
 pub mod Forms
+pub mod GoodEntries
 pub mod HashInputs
 pub mod IdFields
 pub mod Joined

@@ -60,7 +60,7 @@ pub record GoodId (id : Name) : Type 0 where
   pub letters : (i : ℕ) → i < id .len → IdByte (getD (id .bytes) i 0)
   pub zeros : (i : ℕ) → id .len ≤ i → getD (id .bytes) i 0 ≡ 0
 
--- "Serial: 1 to 32 of 0-9 a-f", and zeros behind its end
+-- "Serial: 1 to 32 of 0-9 a-f", and zeros after its end
 pub record GoodSerial (serial : Name) : Type 0 where
   pub some : 1 ≤ serial .len
   pub most : serial .len ≤ 32
