@@ -126,8 +126,8 @@ static int take(char **arguments, struct input *input)
 /* Prints a line where a tenth of the file more is checked than before. */
 static void show_progress(const uint8_t *state, size_t before, size_t length)
 {
-    const size_t tenths = ditgrux_journal_length(state, DITGRUX_STATE) * 10 / length;
-    if (tenths > before * 10 / length)
+    const unsigned long long tenths = (unsigned long long)ditgrux_journal_length(state, DITGRUX_STATE) * 10 / length;
+    if (tenths > (unsigned long long)before * 10 / length)
         printf("%3u %%: %u receipts, counter %lld cents\n", (unsigned)tenths * 10, (unsigned)ditgrux_receipts(state, DITGRUX_STATE),
                (long long)ditgrux_counter(state, DITGRUX_STATE));
     fflush(stdout);
@@ -197,8 +197,14 @@ static uint32_t find(const struct input *buffer, uint8_t *state, uint32_t *index
 static int write_state(const char *path, const uint8_t *state)
 {
     const int file = open(path, O_WRONLY | O_CREAT | O_EXCL, 0600);
-    if (file < 0 || write(file, state, DITGRUX_STATE) != DITGRUX_STATE || close(file) != 0)
+    int whole;
+    if (file < 0)
         return complain(path, strerror(errno));
+    whole = write(file, state, DITGRUX_STATE) == DITGRUX_STATE;
+    if (close(file) != 0 || !whole) {
+        unlink(path); /* a part of a state is of no use, and it holds the key */
+        return complain(path, "the state could not be written");
+    }
     return 0;
 }
 

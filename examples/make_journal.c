@@ -93,6 +93,8 @@ static int make_journal(const char *path, const uint8_t *key, uint8_t *state)
     refused = fill(key, state, (uint8_t *)buffer);
     if (munmap(buffer, SIZE) != 0 || close(file) != 0)
         return complain(path);
+    if (refused)
+        fprintf(stderr, "make_journal: a call was refused with %u\n", (unsigned)refused);
     return refused != DITGRUX_DONE;
 }
 
@@ -114,6 +116,10 @@ int main(int count, char **arguments)
     }
     for (i = 0; i < sizeof key; i++) /* made up, as all of it: 00 01 02 .. 1f */
         key[i] = (uint8_t)i;
+    if (access(arguments[2], F_OK) == 0) { /* before the buffer is made */
+        errno = EEXIST;
+        return complain(arguments[2]);
+    }
     if (make_journal(arguments[1], key, state) || write_state(arguments[2], state))
         return 1;
     printf("journal of %lu bytes in a buffer of %lu; width %d, key ", (unsigned long)ditgrux_journal_length(state, sizeof state),
