@@ -1,27 +1,30 @@
 -- The optical line of a code in the paper's words: a text with nine "_" that begins with one is nine fields, each after its "_".
-use Prim.Native.Nat.{ℕ, zero, suc, _+_, _<_}
+use Prim.Native.Nat.{ℕ, zero, suc, _≤_, _<_}
 use mathlib.Core.Path.{_≡_, refl, sym, ap, _∙_, subst}
-use mathlib.Core.Bool.{Bool, true, false, cond}
+use mathlib.Core.Bool.{Bool, true, false}
 use mathlib.Core.List.{List, [], _∷_, _++_, append-assoc, append-nil}
-use mathlib.Core.Logic.{_↔_}
+use mathlib.Core.Logic.{_↔_, inl, inr}
 use native.Mathlib.Omega.{arith}
 use borrow.Author.Tests.{eq-eqb, eqb-true, eqb-false}
 use lib.Dec.{eqb}
 use lib.ListN.{length, getD, take}
 use Rattle.primitives.specs.Bytes.{AllBytes}
 use Rattle.primitives.specs.Text.{ascii}
+use Rattle.primitives.specs.Questions.{Row, asked-all, question, AllYes, FirstNoIs, GivesFirstNo}
+use Rattle.primitives.specs.declared.answer.Answer.{Answer}
 use Rattle.primitives.proofs.ByteLists.{bytes-nil, bytes-cons, bytes-head, bytes-tail, bytes-append}
-use Rattle.receipt.specs.Form.{Without, parts}
-use Rattle.receipt.specs.Line.{spell, CodeFields, FieldsOfBytes, countOf, twelve, payloadIn, textIn, codeFieldsGood}
-use Rattle.receipt.specs.LineLaws.{SpelledAs, ImageOf}
+use Rattle.receipt.specs.Form.{Parts, parts}
+use Rattle.receipt.specs.Code.{codeText}
+use Rattle.receipt.specs.Line.{spell, CodeFields, FieldsOfBytes, countOf, twelve, payloadIn, textIn, codeFieldsGood, lineAnswer, lineBuffer, unlineAnswer, unlineBuffer}
+use Rattle.receipt.specs.LineLaws.{ImageOf, HasCode, HasLine}
 use Rattle.receipt.specs.PayloadWords.{joined}
-use Rattle.receipt.specs.CallAnswers.{GoodParts}
-use Rattle.receipt.specs.LineWords.{PlainField, twelveFields, LineOfCode, ImageMeans}
+use Rattle.receipt.specs.CallAnswers.{GoodParts, roomFor, Answered, MadeOfSome, LineFor}
+use Rattle.receipt.specs.LineWords.{PlainField, twelveFields, LineOfCode, ImageMeans, GoodCode, LineThere, CodeThere, LineTo, LineAnswersInWords, UnlineAnswersInWords}
 use Rattle.receipt.specs.declared.optical_line.Spelling.{Spelling}
 use Rattle.receipt.specs.declared.optical_line.Spelling.the-variants.{Base64, Base32}
 use Rattle.receipt.proofs.MarkCounts.{count-append, count-none}
 use Rattle.receipt.proofs.LineFields.{good-twelve, good-parts, start-nine, serial-none}
-use Rattle.receipt.proofs.AnsweredCalls.{parts-mean}
+use Rattle.receipt.proofs.AnsweredCalls.{parts-mean, code-is-payload-and-signature, line-answers, unline-answers}
 
 -- ---- fields, each after its "_"
 
@@ -189,7 +192,7 @@ module _ (f : CodeFields) (good : codeFieldsGood f ≡ true) (b : FieldsOfBytes 
         chainBytes = b .chain;
         signatureBytes = b .signature;
         good = subst (λ (p : List ℕ). GoodParts (parts p (f .signature)))
-        (ap (payloadIn Base64) fields-are ∙ payload-words Base64 (found .others) (f .counter) (f .serial) (f .chain) (f .signature)) good-payload;
+            (ap (payloadIn Base64) fields-are ∙ payload-words Base64 (found .others) (f .counter) (f .serial) (f .chain) (f .signature)) good-payload;
         codeIs = e ∙ in-words Base64;
         lineIs = q ∙ in-words Base32;
       }
@@ -243,3 +246,102 @@ module _ (line code : List ℕ) (w : LineOfCode line code) where
 
 pub image-means : ImageMeans
 image-means line code = (λ w. line-of (w .fields) (w .asCode .good) (w .asCode .bytes) line code (w .asCode .is) (w .asLine .is), image-from line code)
+
+-- ---- rows of questions that mean the same
+
+record SameRow (r r′ : Row) : Type 0 where
+  yes : AllYes r ↔ AllYes r′
+  no : (k : ℕ) → FirstNoIs r k ↔ FirstNoIs r′ k
+
+same-end : SameRow asked-all asked-all
+same-end = record { yes = (λ y. y, λ y. y); no = λ k. (λ n. n, λ n. n) }
+
+same-question : (q q′ : Type 0) (k : ℕ) (r r′ : Row) → (q ↔ q′) → SameRow r r′ → SameRow (question q k r) (question q′ k r′)
+same-question q q′ k r r′ e s =
+    record {
+      yes = (λ y. (e .0 (y .0), s .yes .0 (y .1)), λ y. (e .1 (y .0), s .yes .1 (y .1)));
+      no = λ m. (there m, back m);
+    }
+  where
+    there : (m : ℕ) → FirstNoIs (question q k r) m → FirstNoIs (question q′ k r′) m
+    there m (inl n) = inl (λ y. n .0 (e .1 y), n .1)
+    there m (inr n) = inr (e .0 (n .0), s .no m .0 (n .1))
+
+    back : (m : ℕ) → FirstNoIs (question q′ k r′) m → FirstNoIs (question q k r) m
+    back m (inl n) = inl (λ y. n .0 (e .0 y), n .1)
+    back m (inr n) = inr (e .1 (n .0), s .no m .1 (n .1))
+
+module _ (Text Text′ : List ℕ → Type 0) (e : (text : List ℕ) → Text text ↔ Text′ text) (out : List ℕ) where
+  same-room : SameRow (roomFor Text out) (roomFor Text′ out)
+  same-room =
+      same-question ((text : List ℕ) → Text text → length text ≤ length out) ((text : List ℕ) → Text′ text → length text ≤ length out) 23 asked-all asked-all
+      (λ h text t. h text (e text .1 t), λ h text t. h text (e text .0 t)) same-end
+
+  same-answered : (r r′ : Row) (answer : Answer) (after : List ℕ) → SameRow r r′ → Answered r Text answer out after → Answered r′ Text′ answer out after
+  same-answered r r′ answer after s a =
+      let g : GivesFirstNo (answer .number) r = a .number in
+      record {
+        number = record {
+          none = λ z. s .yes .0 (g .none z);
+          all = λ y. g .all (s .yes .1 y);
+          some = λ h. s .no (answer .number) .0 (g .some h);
+          first = λ k n. g .first k (s .no k .1 n);
+        };
+        refused = a .refused;
+        made = λ text t z. a .made text (e text .1 t) z;
+      }
+
+-- ---- the answers
+
+good-code : (code : List ℕ) → MadeOfSome codeText code ↔ GoodCode code
+good-code code = (there, back)
+  where
+    there : MadeOfSome codeText code → GoodCode code
+    there m =
+        let p : Parts = m .parts in
+        record {
+          payload = p .payload;
+          signature = p .signature;
+          payloadBytes = m .is .bytes .payload;
+          signatureBytes = m .is .bytes .signature;
+          good = parts-mean p .only (m .is .good);
+          codeIs = m .is .is ∙ code-is-payload-and-signature p;
+        }
+
+    back : GoodCode code → MadeOfSome codeText code
+    back g =
+        let p : Parts = parts (g .payload) (g .signature) in
+        record {
+          parts = p;
+          is = record {
+            good = parts-mean p .always (g .good);
+            bytes = record { payload = g .payloadBytes; signature = g .signatureBytes };
+            is = g .codeIs ∙ sym (code-is-payload-and-signature p);
+          };
+        }
+
+line-there : (code : List ℕ) → HasLine code ↔ LineThere code
+line-there code =
+    (λ h. record { line = h .line; is = image-means (h .line) code .0 (h .is) }, λ h. record { line = h .line; is = image-means (h .line) code .1 (h .is) })
+
+code-there : (line : List ℕ) → HasCode line ↔ CodeThere line
+code-there line =
+    (λ h. record { code = h .code; is = image-means line (h .code) .0 (h .is) }, λ h. record { code = h .code; is = image-means line (h .code) .1 (h .is) })
+
+pub line-answers-in-words : LineAnswersInWords
+line-answers-in-words code out b =
+    let e : (line : List ℕ) → LineFor code line ↔ LineTo code line = λ line. image-means line code in
+    same-answered (LineFor code) (LineTo code) e out
+    (question (MadeOfSome codeText code) 24 (question (HasLine code) 26 (roomFor (LineFor code) out)))
+    (question (GoodCode code) 24 (question (LineThere code) 26 (roomFor (LineTo code) out))) (lineAnswer code out) (lineBuffer code out)
+    (same-question (MadeOfSome codeText code) (GoodCode code) 24 (question (HasLine code) 26 (roomFor (LineFor code) out)) (question (LineThere code) 26 (roomFor (LineTo code) out))
+    (good-code code)
+    (same-question (HasLine code) (LineThere code) 26 (roomFor (LineFor code) out) (roomFor (LineTo code) out) (line-there code) (same-room (LineFor code) (LineTo code) e out)))
+    (line-answers code out b)
+
+pub unline-answers-in-words : UnlineAnswersInWords
+unline-answers-in-words line out b =
+    same-answered (ImageOf line) (LineOfCode line) (image-means line) out (question (HasCode line) 27 (roomFor (ImageOf line) out))
+    (question (CodeThere line) 27 (roomFor (LineOfCode line) out)) (unlineAnswer line out) (unlineBuffer line out)
+    (same-question (HasCode line) (CodeThere line) 27 (roomFor (ImageOf line) out) (roomFor (LineOfCode line) out) (code-there line)
+    (same-room (ImageOf line) (LineOfCode line) (image-means line) out)) (unline-answers line out b)
