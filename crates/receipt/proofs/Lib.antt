@@ -23,6 +23,7 @@ pub mod Limits
 pub mod LineCalls
 pub mod LineFields
 pub mod LineMarks
+pub mod LineWords
 pub mod Lines
 pub mod Loose
 pub mod MarkCounts

@@ -15,6 +15,7 @@ pub mod FormReading
 pub mod Line
 pub mod LineLaws
 pub mod LineReading
+pub mod LineWords
 pub mod Payload
 pub mod PayloadReading
 pub mod PayloadWords
