@@ -1,6 +1,6 @@
 -- The number of a row of questions is that of its first no, question by question.
-use Rattle.std.proofs.Common.{◌≡◌, ℕ, zero, suc, Bool, true, false, ◌⊎◌, sym, refl, ◌∙◌, inl, inr, arith}
-use Rattle.primitives.specs.Questions.{ask, Row, asked_all, question, AllYes, FirstNoIs, GivesFirstNo}
+use Rattle.std.proofs.Common.{◌≡◌, ℕ, suc, Bool, true, false, sym, refl, inl, inr, arith}
+use Rattle.primitives.specs.Questions.{ask, Row, asked_all, question, FirstNoIs, GivesFirstNo}
 use Rattle.primitives.proofs.Rows.{true-is-not-false}
 
 pub gives_none : GivesFirstNo 0 asked_all

@@ -6,14 +6,14 @@ ghost use Rattle.primitives.specs.Base64.{LetterTable, DigitTable, quad, from_by
 use crate::buffer::has_room;
 
 // Standard: RFC 4648, section 4, padded with '='. UrlSafe: section 5, without padding.
-#[derive(Drop)]
+#[derive(Clone, Copy)]
 pub enum Alphabet {
     Standard,
     UrlSafe,
 }
 
 // The result of reading a text: the place after the bytes, or why nothing was written.
-#[derive(Drop)]
+#[derive(Clone, Copy)]
 pub enum Decoded {
     Upto(usize),
     Refused,

@@ -18,7 +18,7 @@ const K: [u32; 64] = [
 ];
 
 // A hash value, and the working variables of a block: eight words.
-#[derive(Drop)]
+#[derive(Clone, Copy)]
 struct HashValue {
     a: u32,
     b: u32,

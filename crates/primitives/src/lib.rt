@@ -1,4 +1,6 @@
 // The primitives of the receipt journal: SHA-256, AES-256, BASE64, BASE32, counter bytes, and writing at a place in a buffer.
+#![tactic(auto)]
+
 mod aes;
 mod answer;
 mod base32;

@@ -1,0 +1,11 @@
+-- `base32::all_known` meets its contract: the letters that were passed are known, so those that are left decide.
+use Rattle.std.proofs.Common.{◌≡◌, ◌-◌, ◌≤◌, length, drop}
+use Rattle.primitives.specs.BaseRule.{letters_known}
+use Rattle.primitives.specs.Base32.{base32}
+use Rattle.primitives.proofs.base32.all_known.Given as goal
+
+abbrev pub invariant-loop-i : goal.invariant-loop-i
+invariant-loop-i l = (l.i ≤ length l.s) × (letters_known base32 l.s ≡ letters_known base32 (drop l.i l.s))
+
+abbrev pub decreases-loop-i : goal.decreases-loop-i
+decreases-loop-i l = length l.s - l.i

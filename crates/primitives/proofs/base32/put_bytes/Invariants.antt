@@ -1,0 +1,12 @@
+-- `base32::put_bytes` meets its contract: in the loop, what is left to write is the bytes of what is left to read.
+use Rattle.std.proofs.Common.{◌-◌, length}
+use Rattle.primitives.specs.BaseRule.{bytes_in}
+use Rattle.primitives.specs.Base32.{base32}
+use Rattle.primitives.proofs.Base64Loops.{Pass}
+use Rattle.primitives.proofs.base32.put_bytes.Given as goal
+
+abbrev pub invariant-loop-i : goal.invariant-loop-i
+invariant-loop-i l = Pass (bytes_in base32) l.s l.initial.out l.at l.out l.i l.o
+
+abbrev pub decreases-loop-i : goal.decreases-loop-i
+decreases-loop-i l = length l.s - l.i

@@ -1,0 +1,30 @@
+use Rattle.std.proofs.Common.{◌<◌, get_or, sym, refl, ◌∙◌, arith, rules}
+use Rattle.primitives.proofs.Base64Loops.{known_next, known_not, known_end}
+use Rattle.primitives.proofs.base64.each_known.Goals as goal
+
+pub loop-i-init : goal.loop-i-init
+loop-i-init c = (search rules, λ a t. refl)
+
+pub overflow_cast-c : goal.overflow_cast-c
+overflow_cast-c c = omega (arith, c.type_inv.s c.loop-i.i)
+
+pub bounds-table-c : goal.bounds-table-c
+bounds-table-c c = omega (arith, c.type_inv.s c.loop-i.i)
+
+pub returns-then-table-c-gt63 : goal.returns-then-table-c-gt63
+returns-then-table-c-gt63 c =
+    let i = c.loop-i.i in
+    let a = c.args.alphabet in
+    let b : get_or c.args.s.now i 0 < 256 = omega (arith, c.type_inv.s i) in
+    sym (c.loop-i.invariant.1 a c.requires ∙ known_not a c.args.s.now i c.loop-i-test.true (omega (arith, c.if-table-c-gt63.true, c.requires.at (get_or c.args.s.now i 0) b)))
+
+pub loop-i-preserved : goal.loop-i-preserved
+loop-i-preserved c =
+    let i = c.loop-i.i in
+    let b : get_or c.args.s.now i 0 < 256 = omega (arith, c.type_inv.s i) in
+    (search rules, λ a t. c.loop-i.invariant.1 a t ∙ known_next a c.args.s.now i c.loop-i-test.true (omega (arith, c.if-table-c-gt63.false, t.at (get_or c.args.s.now i 0) b)))
+
+pub returns : goal.returns
+returns c =
+    let a = c.args.alphabet in
+    sym (c.loop-i.invariant.1 a c.requires ∙ known_end a c.args.s.now c.loop-i.i c.loop-i-test.false)
