@@ -17,7 +17,7 @@ import sys
 WORD = re.compile(r'[^\s(){}.;,@"«»\x60]+')
 HEAD = re.compile(r"^((?:unfoldable |abbrev |pub )*)(record |data |ruleset )?([^\s(){}:.,;@\"]+)(?= |$)")
 SIGNED = re.compile(r"^(?:unfoldable |abbrev |pub )*[^\s(){}:.,;@\"]+ :(?: |$)")
-FIELD = re.compile(r"^  (?:pub )?([^\s(){}:.,;@\"]+) :(?: |$)")
+INNER = re.compile(r"^ +(?:unfoldable |abbrev |pub )*([^\s(){}:.,;@\"]+) :(?: |$)")
 KEYWORDS = {"use", "unfolding", "open", "mutual", "module", "where", "mod"}
 # lemmas that would have the name of a definition, each with the name that it gets
 LEMMAS = ("all_asked", "counted_of", "found_in", "owner_of", "pairs_of", "some_of", "text_at")
@@ -51,7 +51,7 @@ def defined():
             m = HEAD.match(line)
             if m and m[3] not in KEYWORDS and (m[2] or SIGNED.match(line)):
                 names[m[3]].add(path)
-            m = FIELD.match(line)
+            m = INNER.match(line)
             if m:
                 names[m[1]].add(path)
     return names
@@ -68,7 +68,7 @@ def table():
     camel = [name for name in names if re.match(r"[a-z]", name) and re.search(r"[a-z0-9'][A-Z]", name) and "-" not in name]
     turned.update((name, snake(name)) for name in camel)
     taken.update(turned.values())
-    if camel:
+    if "allAsked" in names:
         turned.update((name, name + "_lem") for name in LEMMAS)
     for name in sorted(names):
         if re.match(r"[a-z]", name) and "-" in name:
@@ -138,7 +138,7 @@ def main():
     changed = 0
     for path in antt() + files("crates/*/src/**/*.rt"):
         text = open(path, encoding="utf-8").read()
-        here = {name: name + "_lem" for name, paths in HERE.items() if path in paths and turned}
+        here = {name: name + "_lem" for name, paths in HERE.items() if path in paths and "allAsked" in names}
         new = (turn_rt if path.endswith(".rt") else turn_antt)(text, {**turned, **here})
         if new != text:
             changed += 1

@@ -255,18 +255,18 @@ module _ {j key : List ℕ} {n : ℕ} (v : Valid j key n) where
   made = let w = valid_work v in pairs_made key n v.owner _ [] v.pairs w.right w.names
 
   module _ (kb : AllBytes key) (lk : length key ≡ 32) where
-    again-typed : TypedRegister s n key
-    again-typed = good_register s n key s_typed.lengths s_good v.width lk kb
+    again_typed : TypedRegister s n key
+    again_typed = good_register s n key s_typed.lengths s_good v.width lk kb
 
-    again-number : (out : List ℕ) → length out ≡ 123 → settings_answer (settings_again s) (width_with key n) (length out) ≡ 0
-    again-number out l =
+    again_number : (out : List ℕ) → length out ≡ 123 → settings_answer (settings_again s) (width_with key n) (length out) ≡ 0
+    again_number out l =
         let p = settings_same s s_typed s_good in
         (λ i. settings_answer (p i) (width_whole key n lk i) (l i)) ∙ answer_zero s n s_good v.width
 
-    again-bytes : (out : List ℕ) → length out ≡ 123 → settings_buffer (settings_again s) key n out ≡ settings_bytes s n key
+    again_bytes : (out : List ℕ) → length out ≡ 123 → settings_buffer (settings_again s) key n out ≡ settings_bytes s n key
     unfolding settings_buffer
-    again-bytes out l =
-        ifZero-yes (settings_bytes (settings_again s) n key) out (again-number out l)
+    again_bytes out l =
+        ifZero-yes (settings_bytes (settings_again s) n key) out (again_number out l)
         ∙ ap (λ (x : Settings). settings_bytes x n key) (settings_same s s_typed s_good)
 
     module _ (g : Slices) (lj : length j < 18446744073709551616) (lg : length g.journal ≡ length j) (ls : length g.state ≡ 447) where
@@ -283,55 +283,55 @@ module _ {j key : List ℕ} {n : ℕ} (v : Valid j key n) where
 
       read : (settings_of b ≡ s) × (width_of b ≡ n) × (key_of b ≡ key)
       unfolding b
-      read = settings_are_read s n key again-typed
+      read = settings_are_read s n key again_typed
 
-      again-opened : opened_number b false g ≡ 0
+      again_opened : opened_number b false g ≡ 0
       unfolding opened_number
-      again-opened =
+      again_opened =
           ap (λ (x : Opened). x.number) (open_answer_lem b false (length g.journal) (length g.state) ls)
           ∙ opened_number_lem (settings_of b) (key_of b) false (width_of b) (length g.journal)
           ∙ (λ i. open_number (read.0 i) false (read.1 i) (length g.journal)) ∙ again.opened
 
-      again-start : opened_slices b false g ≡ slices_of start
+      again_start : opened_slices b false g ≡ slices_of start
       unfolding start
-      again-start = opened_same b false g ls ∙ (λ i. slices_of (opening (read.0 i) (read.2 i) false (read.1 i) g.journal))
+      again_start = opened_same b false g ls ∙ (λ i. slices_of (opening (read.0 i) (read.2 i) false (read.1 i) g.journal))
 
       same : Same start cs
       unfolding start
       same = same_calls s false n key g.journal s_typed lk kb (omega (arith, lg, lj)) again.opened cs made.0
 
-      again-left : slices_after_all (opened_slices b false g) cs ≡ slices_of (calls start (calls_of v.pairs))
-      again-left = ap (λ (x : Slices). slices_after_all x cs) again-start ∙ same.slices ∙ ap (λ (x : List Call). slices_of (calls start x)) made.1
+      again_left : slices_after_all (opened_slices b false g) cs ≡ slices_of (calls start (calls_of v.pairs))
+      again_left = ap (λ (x : Slices). slices_after_all x cs) again_start ∙ same.slices ∙ ap (λ (x : List Call). slices_of (calls start x)) made.1
 
-      how-many : length (calls_of v.pairs) ≡ length cs
-      how-many = sym (ap length made.1) ∙ length-map cs call_in
+      how_many : length (calls_of v.pairs) ≡ length cs
+      how_many = sym (ap length made.1) ∙ length-map cs call_in
 
-      written-again : AgainInC j key n v.pairs (opened_slices b false g)
+      written_again : AgainInC j key n v.pairs (opened_slices b false g)
       unfolding slices_of cs start
-      written-again =
+      written_again =
           let st = (calls start (calls_of v.pairs)).state in
           let t : TypedState st = subst (λ (x : List Call). TypedState (calls start x).state) made.1 same.typed in
           record {
             typed = made.0;
             none =
-                ap (λ (x : Slices). numbers_from_c x cs) again-start ∙ same.numbers ∙ ap (numbers_of start) made.1 ∙ again.none
-                ∙ ap (λ (m : ℕ). replicate m 0) how-many;
-            journal = ap (λ (x : Slices). x.journal) again-left ∙ again.journal;
+                ap (λ (x : Slices). numbers_from_c x cs) again_start ∙ same.numbers ∙ ap (numbers_of start) made.1 ∙ again.none
+                ∙ ap (λ (m : ℕ). replicate m 0) how_many;
+            journal = ap (λ (x : Slices). x.journal) again_left ∙ again.journal;
             state = λ out l.
-                ap (λ (x : Slices). x.state) again-left ∙ ap state_bytes again.state
+                ap (λ (x : Slices). x.state) again_left ∙ ap state_bytes again.state
                 ∙ sym (kept_all out (take_over_answer j key n 447).state l ∙ ap (λ (x : TakenOver). state_bytes x.state) (take_over_same j key n lk));
             counter =
-                ap (λ (x : Slices). (state_of x.state).counter) again-left ∙ ap (λ (x : State). x.counter) (state_is_read st t ∙ again.state)
+                ap (λ (x : Slices). (state_of x.state).counter) again_left ∙ ap (λ (x : State). x.counter) (state_is_read st t ∙ again.state)
                 ∙ again.counter;
           }
 
 pub accepted_is_written_in_c : AcceptedIsWrittenInC
 unfolding b s
 accepted_is_written_in_c j key n lj kb lk v out lo g lg ls =
-    let e = again-bytes v kb lk out lo in
+    let e = again_bytes v kb lk out lo in
     let p = subst (λ (x : List ℕ). (opened_number x false g ≡ 0) × AgainInC j key n v.pairs (opened_slices x false g)) (sym e)
-    (again-opened v kb lk g lj lg ls, written-again v kb lk g lj lg ls) in
-    (again-number v kb lk out lo, p.0, p.1)
+    (again_opened v kb lk g lj lg ls, written_again v kb lk g lj lg ls) in
+    (again_number v kb lk out lo, p.0, p.1)
 
 pub writing_and_checking_agree_in_c : WritingAndCheckingAgreeInC
 writing_and_checking_agree_in_c =

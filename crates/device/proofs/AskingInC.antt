@@ -263,24 +263,24 @@ module _ (st : State) (c : IssueCall) where
     no_start : {X : Type 0} (kind : Kind) (k : ℕ) → kind_number kind ≡ suc k → GoodStart (made kind) → X
     no_start kind k e g = absurd (omega (arith, e, kind_apart g.standard))
 
-    other-start : {X : Type 0} (k : ℕ) → c.kind ≡ suc k → StandardWithZeros c → X
-    other-start k e g = absurd (omega (arith, e, g.standard))
+    other_start : {X : Type 0} (k : ℕ) → c.kind ≡ suc k → StandardWithZeros c → X
+    other_start k e g = absurd (omega (arith, e, g.standard))
 
     rows_of : (k : ℕ) → c.kind ≡ k → Like (details_row st (of_kind c.number (date_given c) (amounts_given c) k) r) (details_row_in_c st c r)
     unfolding of_kind details_with no_details
     rows_of zero e =
         rows Standard (omega (arith, e)) (start_to e Standard) start_from (adding_to (λ h. omega (arith, e, h))) (adding_from (λ h. omega (arith, e, h)))
     rows_of (suc zero) e =
-        rows Cancellation (omega (arith, e)) (no_start Cancellation 0 refl) (other-start 0 e) (adding_to (λ h. omega (arith, e, h))) (adding_from (λ h. omega (arith, e, h)))
-    rows_of (suc (suc zero)) e = rows Training (omega (arith, e)) (no_start Training 1 refl) (other-start 1 e) (training_to e) (training_from e)
+        rows Cancellation (omega (arith, e)) (no_start Cancellation 0 refl) (other_start 0 e) (adding_to (λ h. omega (arith, e, h))) (adding_from (λ h. omega (arith, e, h)))
+    rows_of (suc (suc zero)) e = rows Training (omega (arith, e)) (no_start Training 1 refl) (other_start 1 e) (training_to e) (training_from e)
     rows_of (suc (suc (suc k))) e =
         let z : (of_kind c.number (date_given c) (amounts_given c) (suc (suc (suc k)))).number ≡ 0 =
         ap (λ (d : Details). d.number) (no_kind c.number (date_given c) (amounts_given c) k) in
         like_question 7 _ _ _ _ (λ h. absurd (omega (arith, h, z))) (λ p. absurd (omega (arith, e, p.kind))) (λ h. absurd (omega (arith, h, z)))
 
-    details-like : Like (details_row st (details_given c) r) (details_row_in_c st c r)
+    details_like : Like (details_row st (details_given c) r) (details_row_in_c st c r)
     unfolding details_of date_of
-    details-like = rows_of c.kind refl
+    details_like = rows_of c.kind refl
 
 -- ---- ditgrux_issue and ditgrux_prepare
 
@@ -290,7 +290,7 @@ module _ (g : Slices) (c : IssueCall) (a : AllBytes g.state) where
   issue_long l =
       let st = state_of g.state in
       gives_like (issue_row st (details_given c) c.signature (length g.journal)) (issue_row_in_c g c)
-      (like_question 6 _ _ _ _ (λ s. record { long = l; sound = s }) (λ s. s.sound) (λ s. details-like st c _))
+      (like_question 6 _ _ _ _ (λ s. record { long = l; sound = s }) (λ s. s.sound) (λ s. details_like st c _))
       (gives_same _ (issued-number st (details_given c) c.signature (length g.journal))
       (issue_gives_first_no st (details_given c) c.signature (length g.journal) (bytes_typed g.state a l)))
 
@@ -312,7 +312,7 @@ module _ (state : List ℕ) (c : IssueCall) (room : ℕ) (a : AllBytes state) wh
   prepare_long l =
       let st = state_of state in
       gives_like (prepare_row st (details_given c) room) (prepare_row_in_c state c room)
-      (like_question 6 _ _ _ _ (λ s. record { long = l; sound = s }) (λ s. s.sound) (λ s. details-like st c _))
+      (like_question 6 _ _ _ _ (λ s. record { long = l; sound = s }) (λ s. s.sound) (λ s. details_like st c _))
       (gives_same _ number_is (prepare_gives_first_no st (details_given c) room (bytes_typed state a l)))
 
   prepare_any : (t : Bool) → eqb (length state) 447 ≡ t → GivesFirstNo (prepared_from_c state c room).number (prepare_row_in_c state c room)

@@ -82,13 +82,13 @@ module _ (s : Settings) (key : List ℕ) (n : ℕ) (out : List ℕ) {s₁ : Sett
         let a = settings_zero s false (width_with key n) (ask (eqb (length out) 123) 23 0) accepted in
         (a.1, eqb-true (length out) 123 (ask_zero (eqb (length out) 123) 22 0 a.2).0)
 
-    pub settings-room : 123 ≤ length out
-    settings-room = let e = answers.1 in omega arith
+    pub settings_room : 123 ≤ length out
+    settings_room = let e = answers.1 in omega arith
 
-    pub settings-done : {k₁ b₁ : List ℕ} → SettingsLengths s → k₁ ≡ array_of 32 key → b₁ ≡ overwrite out 0 (settings_bytes s₁ n₁ k₁)
+    pub settings_done : {k₁ b₁ : List ℕ} → SettingsLengths s → k₁ ≡ array_of 32 key → b₁ ≡ overwrite out 0 (settings_bytes s₁ n₁ k₁)
         → (0 ≡ settings_answer s (width_with key n) (length out)) × (b₁ ≡ settings_buffer s key n out)
     unfolding settings_buffer
-    settings-done {k₁} t q e =
+    settings_done {k₁} t q e =
         let l = key_long key n answers.0 in
         let f : k₁ ≡ key = q ∙ array_whole 32 key l in
         let w : settings_bytes s₁ n₁ k₁ ≡ settings_bytes s n key = λ i. settings_bytes (es i) ((en ∙ width_whole key n l) i) (f i) in (
@@ -130,21 +130,21 @@ module _ (S s : Name) (es : s ≡ S) (long : length s.bytes ≡ 32) where
       (take_all (n - 0) s.bytes (omega (arith, q)) ∙ e, sym (ap length e) ∙ omega (arith, q))
 
   module _ (out : List ℕ) {n : ℕ} (p : Part n) where
-    pub part-ends : n ≤ length s.bytes
-    part-ends = omega (arith, p.1, text_short S (sym (ap (λ (x : Name). length x.bytes) es) ∙ long))
+    pub part_ends : n ≤ length s.bytes
+    part_ends = omega (arith, p.1, text_short S (sym (ap (λ (x : Name). length x.bytes) es) ∙ long))
 
-    pub serial-short : length out < n
+    pub serial_short : length out < n
         → (23 ≡ (serial_answer (name_text S) (length out)).number) × (out ≡ placed out 0 (name_text S)) × (0 ≡ (serial_answer (name_text S) (length out)).length)
     unfolding serial_answer
-    serial-short h =
+    serial_short h =
         let l = p.1 in
         let e = ask_no 23 0 (lt-leb (length (name_text S)) (length out) (omega arith)) in
         (sym e, sym (placed_full out 0 (name_text S) (omega arith)), sym (ifZero-no _ (length (name_text S)) 0 (λ z. omega (arith, z, e))))
 
-    pub serial-done : {out₁ : List ℕ} → n ≤ length out → out₁ ≡ placed out 0 (take (n - 0) s.bytes)
+    pub serial_done : {out₁ : List ℕ} → n ≤ length out → out₁ ≡ placed out 0 (take (n - 0) s.bytes)
         → (0 ≡ (serial_answer (name_text S) (length out)).number) × (out₁ ≡ placed out 0 (name_text S)) × (n ≡ (serial_answer (name_text S) (length out)).length)
     unfolding serial_answer
-    serial-done h q =
+    serial_done h q =
         let l = p.1 in
         let e = ask_yes 23 0 (le-leb (length (name_text S)) (length out) (omega arith)) in
         (sym e, q ∙ ap (placed out 0) p.0, sym (ifZero-yes (length (name_text S)) 0 e ∙ l))

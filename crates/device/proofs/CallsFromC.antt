@@ -32,7 +32,7 @@ use Rattle.journal.specs.declared.state.Opened.{Opened}
 use Rattle.journal.proofs.OpenCalls.{open_zero}
 use Rattle.journal.proofs.Accepting.{owner_in}
 use Rattle.journal.proofs.Pairs.{wider, empty_pair}
-use Rattle.journal.proofs.Registers.{issue_kept, change_kept, widened, holds_list, entry_in, Holds, issue-length, issue-holds, issue-right, change-holds, opening_holds, opening_length}
+use Rattle.journal.proofs.Registers.{issue_kept, change_kept, widened, holds_list, entry_in, Holds, issue_length, issue_holds, issue_right, change_holds, opening_holds, opening_length}
 use Rattle.journal.proofs.TypedStates.{holds_typed}
 use Rattle.device.specs.Layout.{state_bytes, name_at, settings_at, key_at, no_settings, settings_of, width_of, key_of, state_of, kept}
 use Rattle.device.specs.Details.{no_details, date_of, details_with, of_kind, details_of, number_in, amount_in, details_in, details_from, list_in}
@@ -42,7 +42,7 @@ use Rattle.device.specs.Demand.{TypedIssueCall, CallFromC, issuing, listing, cha
 use Rattle.device.proofs.Below.{opened_number_lem, opening_is, calls_none, calls_more, numbers_none, numbers_more, receipts_none, sections_none, issue_number_lem, issue_call, issue_receipts, issue_sections, list_number, list_call, list_issued, list_receipts, list_sections, failed_typed, change_number_lem, change_call, change_receipts, change_sections, changed_number_lem}
 use Rattle.device.proofs.Sizes.{kept_all, open_six, open_answer_lem}
 use Rattle.device.proofs.Slots.{typed_lengths}
-use Rattle.device.proofs.Writers.{length-state}
+use Rattle.device.proofs.Writers.{length_state}
 use Rattle.device.proofs.Spelling.{state_is_read}
 use Rattle.device.proofs.Zeros.{no_settings_get_one}
 
@@ -123,17 +123,17 @@ module _ (b : List ℕ) where
       go false e q = absurd (omega (arith, q, no_settings_get_one shared (width_of b) room))
 
   module _ (a : AllBytes b) (l : length b ≡ 123) where
-    pub settings-typed : TypedSettings (settings_of b)
+    pub settings_typed : TypedSettings (settings_of b)
     unfolding settings_of settings_at name_at
-    settings-typed =
+    settings_typed =
         rw (eq-eqb (length b) 123 l) (record {
           lengths = record { csp = part_length b a 0 3 (omega arith); id = part_length b a 3 32 (omega arith); serial = part_length b a 43 32 (omega arith) };
           bytes = record { csp = bytes_take 3 (bytes_drop 0 a); id = bytes_take 32 (bytes_drop 3 a); serial = bytes_take 32 (bytes_drop 43 a) };
         })
 
-    key-typed : (length (key_of b) ≡ 32) × AllBytes (key_of b)
+    key_typed : (length (key_of b) ≡ 32) × AllBytes (key_of b)
     unfolding key_of key_at
-    key-typed = rw (eq-eqb (length b) 123 l) (part_length b a 91 32 (omega arith), bytes_take 32 (bytes_drop 91 a))
+    key_typed = rw (eq-eqb (length b) 123 l) (part_length b a 91 32 (omega arith), bytes_take 32 (bytes_drop 91 a))
 
 pub open_accepted : (b : List ℕ) (shared : Bool) (g : Slices) → opened_number b shared g ≡ 0 → (length g.state ≡ 447) × (open_number (settings_of b) shared (width_of b) (length g.journal) ≡ 0)
 unfolding opened_number
@@ -168,7 +168,7 @@ module _ (g : Register) (t : TypedState g.state) where
   is_read = state_is_read g.state t
 
   is_kept : (x : State) → kept (state_bytes g.state) x ≡ state_bytes x
-  is_kept x = kept_all (state_bytes g.state) x (length-state g.state (typed_lengths t))
+  is_kept x = kept_all (state_bytes g.state) x (length_state g.state (typed_lengths t))
 
   pub after_same : (c : CallFromC) → slices_after (slices_of g) c ≡ slices_of (call g (call_in c))
   unfolding slices_after slices_of call_in issued_slices issue_answer listed_slices list_answer changed_slices change_answer order_in st
@@ -288,12 +288,12 @@ module _ (k : List ℕ) (n : ℕ) (o : Owner) (kl : length k ≡ 32) (kb : AllBy
     where
       go : (m : ℕ) → number_of g (issue c) ≡ m → Held k n o (call g (issue c))
       go zero e =
-          let r = issue-right k n o g h.before h.pair h.holds c e kb tc in
+          let r = issue_right k n o g h.before h.pair h.holds c e kb tc in
           record {
             before = h.before;
             pair = wider h.pair (entry_in g c);
-            holds = issue-holds k n o g h.before h.pair h.holds c e r;
-            small = omega (arith, h.small, issue-length k n o g h.before h.pair h.holds c e);
+            holds = issue_holds k n o g h.before h.pair h.holds c e r;
+            small = omega (arith, h.small, issue_length k n o g h.before h.pair h.holds c e);
           }
       go (suc m) e = subst (Held k n o) (sym (issue_kept g c (λ q. omega (arith, e, q)))) h
   held_call g (issue_list ds) (lists ts) h =
@@ -303,7 +303,7 @@ module _ (k : List ℕ) (n : ℕ) (o : Owner) (kl : length k ≡ 32) (kb : AllBy
     where
       go : (m : ℕ) → number_of g (change s) ≡ m → Held k n o (call g (change s))
       go zero e =
-          let p = change-holds k n o g h.before h.pair h.holds s (sym (change_number_lem g s ∙ changed_number_lem g.state s (length g.buf)) ∙ e) ts in
+          let p = change_holds k n o g h.before h.pair h.holds s (sym (change_number_lem g s ∙ changed_number_lem g.state s (length g.buf)) ∙ e) ts in
           record { before = h.before ++ (h.pair ∷ []); pair = empty_pair s; holds = p.0; small = omega (arith, h.small, p.1) }
       go (suc m) e = subst (Held k n o) (sym (change_kept g s (λ q. omega (arith, e, q)))) h
 
@@ -328,5 +328,5 @@ pub opened_typed : (b : List ℕ) (shared : Bool) (g : Slices) → AllBytes b �
     → TypedSettings (settings_of b) × (length (key_of b) ≡ 32) × AllBytes (key_of b)
 opened_typed b shared g a z =
     let l = settings_long b shared (length g.journal) (open_accepted b shared g z).1 in
-    let k = key-typed b a l in
-    (settings-typed b a l, k.0, k.1)
+    let k = key_typed b a l in
+    (settings_typed b a l, k.0, k.1)

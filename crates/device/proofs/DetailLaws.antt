@@ -28,7 +28,7 @@ use Rattle.receipt.proofs.Joined.{ok_here}
 use Rattle.device.specs.Details.{date_of, details_with, of_kind, details_of, kind_number, numbers_bytes, amounts_bytes, details_numbers, details_bytes, number_in, amount_in, details_in}
 use Rattle.device.specs.Laws.{DetailsAreRead}
 use Rattle.device.proofs.Reading.{over_all}
-use Rattle.device.proofs.Pieces.{length-pieces, piece-at}
+use Rattle.device.proofs.Pieces.{length_pieces, piece_at}
 
 -- ---- amounts within their limit, and kinds
 
@@ -73,10 +73,10 @@ eight_good = sym (width_test 8 (omega arith))
 
 -- the lengths of the parts: 32 and 40
 numbers_long : (d : Details) → length (numbers_bytes (details_numbers d)) ≡ 32
-numbers_long d = length-pieces (bytes_of 4) 0 4 (length_bytes_of 4) (details_numbers d)
+numbers_long d = length_pieces (bytes_of 4) 0 4 (length_bytes_of 4) (details_numbers d)
 
 amounts_long : (zs : List ℤ) → length zs ≡ 5 → length (amounts_bytes zs) ≡ 40
-amounts_long zs l = length-pieces (counter_bytes 8) (pos 0) 8 (length_counter_bytes 8) zs ∙ ap (λ (k : ℕ). 8 * k) l
+amounts_long zs l = length_pieces (counter_bytes 8) (pos 0) 8 (length_counter_bytes 8) zs ∙ ap (λ (k : ℕ). 8 * k) l
 
 pub details_long : (d : Details) → length d.amounts ≡ 5 → length (details_bytes d) ≡ 72
 unfolding details_bytes
@@ -101,7 +101,7 @@ module _ (d : Details) where
   number_read i h small =
       let x = get_or (details_numbers d) i 0 in
       count_is (numbers_bytes (details_numbers d) ++ amounts_bytes d.amounts) (4 * i) 4
-      ∙ ap value_of (piece-at (bytes_of 4) 0 4 (length_bytes_of 4) (details_numbers d) i (amounts_bytes d.amounts) h)
+      ∙ ap value_of (piece_at (bytes_of 4) 0 4 (length_bytes_of 4) (details_numbers d) i (amounts_bytes d.amounts) h)
       ∙ value_bytes_of 4 x small
 
   amount_read : (i : ℕ) → i < length d.amounts → fits_in 8 (get_or d.amounts i (pos 0)) ≡ true → amount_in (details_bytes d) i ≡ get_or d.amounts i (pos 0)
@@ -112,7 +112,7 @@ module _ (d : Details) where
       let z = get_or d.amounts i (pos 0) in
       ap (λ (l : List ℕ). counter_value 8 (take 8 l))
       (sym (drop-drop (8 * i) 32 (xs ++ ys)) ∙ ap (drop (8 * i)) (drop_at xs ys 32 (numbers_long d) ∙ sym (append-nil ys)))
-      ∙ ap (counter_value 8) (piece-at (counter_bytes 8) (pos 0) 8 (length_counter_bytes 8) d.amounts i [] h)
+      ∙ ap (counter_value 8) (piece_at (counter_bytes 8) (pos 0) 8 (length_counter_bytes 8) d.amounts i [] h)
       ∙ counter_back 8 z (fits_wide 8 z eight_good ∙ fits)
 
 pub details_are_read : DetailsAreRead

@@ -281,10 +281,10 @@ module _ (b : List ℕ) (which : ℕ) (out : List ℕ) (lo : length out ≡ 123)
   left_is = rw (eq-eqb (length out) 123 lo)
 
   module _ (a : AllBytes b) (l : length b ≡ 447) where
-    left-with : (S : List ℕ) → (serial_in (state_of b) which).bytes ++ bytes_of 8 (serial_in (state_of b) which).len ≡ S
+    left_with : (S : List ℕ) → (serial_in (state_of b) which).bytes ++ bytes_of 8 (serial_in (state_of b) which).len ≡ S
         → settings_in_buffer (state_of b) which out ≡ take 43 b ++ S ++ take 40 (drop 363 b)
     unfolding settings_bytes settings_in
-    left-with S e =
+    left_with S e =
         let s = state_is_laid_out b a l in
         let st = state_of b in
         let n = serial_in (state_of b) which in
@@ -296,11 +296,11 @@ module _ (b : List ℕ) (which : ℕ) (out : List ℕ) (lo : length out ≡ 123)
     left_there h =
         let s = state_is_laid_out b a l in
         let u = used_so (state_of b).serials in
-        left-with _ (name_again b a (43 + 40 * which) (omega (arith, u.most, s.most, h, l)) (found b which a l h))
+        left_with _ (name_again b a (43 + 40 * which) (omega (arith, u.most, s.most, h, l)) (found b which a l h))
 
-    left-none : length (used (state_of b).serials) ≤ which → settings_in_buffer (state_of b) which out ≡ take 43 b ++ replicate 40 0 ++ take 40 (drop 363 b)
+    left_none : length (used (state_of b).serials) ≤ which → settings_in_buffer (state_of b) which out ≡ take 43 b ++ replicate 40 0 ++ take 40 (drop 363 b)
     unfolding bytes_of digits_of
-    left-none h = left-with _ (ap (λ (n : Name). n.bytes ++ bytes_of 8 n.len) (sym (serial_none (state_of b) which refl h)))
+    left_none h = left_with _ (ap (λ (n : Name). n.bytes ++ bytes_of 8 n.len) (sym (serial_none (state_of b) which refl h)))
 
   left_other : (length b ≡ 447 → ⊥) → settings_in_buffer (state_of b) which out ≡ replicate 123 0
   unfolding settings_bytes settings_in unopened bytes_of digits_of
@@ -314,7 +314,7 @@ pub settings_in_are_read : SettingsInAreRead
 settings_in_are_read =
     record {
       there = λ b which out a l lo h. left_there b which out lo a l h;
-      none = λ b which out a l lo h. left-none b which out lo a l h;
+      none = λ b which out a l lo h. left_none b which out lo a l h;
       other = λ b which out h lo. left_other b which out lo h;
       done = λ out l. ask_yes 23 0 (eq-eqb (length out) 123 l);
       short = λ b which out h. let p = settings_in_none (state_of b) which out h in (sym p.0, sym p.1);

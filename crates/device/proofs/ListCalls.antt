@@ -82,35 +82,35 @@ typed_first (b ∷ before) d later (also t ts) = let p = typed_first before d la
 
 module _ (g : Register) (t : TypedState g.state) (l : length g.buf < 18446744073709551616) where
   module _ (ds : List Details) (ts : TypedList ds) where
-    numbers-are : numbers_from_c (slices_of g) (single_calls_from_c ds) ≡ numbers_of g (single_calls ds)
-    numbers-are = (singles_leave ds g t l ts).numbers ∙ ap (numbers_of g) (singles_same ds ts)
+    numbers_are : numbers_from_c (slices_of g) (single_calls_from_c ds) ≡ numbers_of g (single_calls ds)
+    numbers_are = (singles_leave ds g t l ts).numbers ∙ ap (numbers_of g) (singles_same ds ts)
 
-    slices-are : slices_after_all (slices_of g) (single_calls_from_c ds) ≡ slices_of (calls g (single_calls ds))
-    slices-are = (singles_leave ds g t l ts).slices ∙ ap (λ (cs : List Call). slices_of (calls g cs)) (singles_same ds ts)
+    slices_are : slices_after_all (slices_of g) (single_calls_from_c ds) ≡ slices_of (calls g (single_calls ds))
+    slices_are = (singles_leave ds g t l ts).slices ∙ ap (λ (cs : List Call). slices_of (calls g cs)) (singles_same ds ts)
 
-    state-typed : TypedState (calls g (single_calls ds)).state
-    state-typed = subst (λ (cs : List Call). TypedState (calls g cs).state) (singles_same ds ts) (singles_leave ds g t l ts).typed
+    state_typed : TypedState (calls g (single_calls ds)).state
+    state_typed = subst (λ (cs : List Call). TypedState (calls g cs).state) (singles_same ds ts) (singles_leave ds g t l ts).typed
 
     -- one more after them
-    number-after : (d : Details) → TypedOrder (failed_order d) → single_number_after (slices_of g) ds d ≡ number_of (calls g (single_calls ds)) (issue (failed_order d))
+    number_after_lem : (d : Details) → TypedOrder (failed_order d) → single_number_after (slices_of g) ds d ≡ number_of (calls g (single_calls ds)) (issue (failed_order d))
     unfolding number_from_c
-    number-after d td =
-        ap (λ (x : Slices). issued_number x (call_with_details d [])) slices-are
-        ∙ number_same (calls g (single_calls ds)) state-typed (issuing (call_with_details d []))
+    number_after_lem d td =
+        ap (λ (x : Slices). issued_number x (call_with_details d [])) slices_are
+        ∙ number_same (calls g (single_calls ds)) state_typed (issuing (call_with_details d []))
         ∙ ap (number_of (calls g (single_calls ds))) (one_same d td)
 
   module _ (list : List ℕ) where
     -- what the journal's list does is what the call from C does
-    lists-same : (done : List Details) (number : ℕ) → TypedList done → ListLeaves g (list_in list) done number → ListLeavesInC (slices_of g) list done number
+    lists_same : (done : List Details) (number : ℕ) → TypedList done → ListLeaves g (list_in list) done number → ListLeavesInC (slices_of g) list done number
     unfolding number_from_c slices_after call_in
-    lists-same done number td h =
+    lists_same done number td h =
         let e = list_call g (list_in list) in
         let s = ap (λ (x : IssuedList). x.state) h.answer in
         record {
           returned = number_same g t (listing list) ∙ list_number g (list_in list) ∙ ap (λ (x : IssuedList). x.number) h.answer;
           issued = count_same g t list ∙ ap (λ (x : IssuedList). x.count) h.answer;
           left =
-              after_same g t (listing list) ∙ ap slices_of e ∙ (λ i. slices_of (record { state = s i; buf = h.buffer i })) ∙ sym (slices-are done td);
+              after_same g t (listing list) ∙ ap slices_of e ∙ (λ i. slices_of (record { state = s i; buf = h.buffer i })) ∙ sym (slices_are done td);
         }
 
 -- ---- the statement
@@ -134,9 +134,9 @@ module _ (g : Slices) (list : List ℕ) (lent : Lent g list) where
   all_equal : AllReturnZero g (list_in list) → ListLeavesInC g list (list_in list) 0
   all_equal h =
       let ts = list_typed list lent.bytes in
-      let z = sym (numbers-are register register_typed register_room (list_in list) ts) ∙ subst (λ (x : Slices). AllReturnZero x (list_in list)) (sym slices_is) h in
+      let z = sym (numbers_are register register_typed register_room (list_in list) ts) ∙ subst (λ (x : Slices). AllReturnZero x (list_in list)) (sym slices_is) h in
       subst (λ (x : Slices). ListLeavesInC x list (list_in list) 0) slices_is
-      (lists-same register register_typed register_room list (list_in list) 0 ts (list_equals_single_calls.all register (list_in list) z))
+      (lists_same register register_typed register_room list (list_in list) 0 ts (list_equals_single_calls.all register (list_in list) z))
 
   module _ (before : List Details) (d : Details) (later : List Details) (e : list_in list ≡ before ++ (d ∷ later)) where
     parts : TypedList before × TypedOrder (failed_order d)
@@ -144,32 +144,32 @@ module _ (g : Slices) (list : List ℕ) (lent : Lent g list) where
 
     after_is : single_number_after g before d ≡ number_of (calls register (single_calls before)) (issue (failed_order d))
     after_is =
-        ap (λ (x : Slices). single_number_after x before d) (sym slices_is) ∙ number-after register register_typed register_room before parts.0 d parts.1
+        ap (λ (x : Slices). single_number_after x before d) (sym slices_is) ∙ number_after_lem register register_typed register_room before parts.0 d parts.1
 
     zeros_are : AllReturnZero g before → NoneRefused register before
-    zeros_are h = sym (numbers-are register register_typed register_room before parts.0) ∙ subst (λ (x : Slices). AllReturnZero x before) (sym slices_is) h
+    zeros_are h = sym (numbers_are register register_typed register_room before parts.0) ∙ subst (λ (x : Slices). AllReturnZero x before) (sym slices_is) h
 
-    zeros-from : NoneRefused register before → AllReturnZero g before
-    zeros-from h = subst (λ (x : Slices). AllReturnZero x before) slices_is (numbers-are register register_typed register_room before parts.0 ∙ h)
+    zeros_from : NoneRefused register before → AllReturnZero g before
+    zeros_from h = subst (λ (x : Slices). AllReturnZero x before) slices_is (numbers_are register register_typed register_room before parts.0 ∙ h)
 
-    until-equal : FirstNonzero g before d → ListLeavesInC g list before (single_number_after g before d)
-    until-equal h =
+    until_equal : FirstNonzero g before d → ListLeavesInC g list before (single_number_after g before d)
+    until_equal h =
         let f : FirstRefused register before d = record { none = zeros_are h.zeros; refused = λ q. h.nonzero (after_is ∙ q) } in
         let m = number_of (calls register (single_calls before)) (issue (failed_order d)) in
         let q = list_equals_single_calls.until register before d later f in
-        let r = lists-same register register_typed register_room list before m parts.0 (subst (λ (ds : List Details). ListLeaves register ds before m) (sym e) q) in
+        let r = lists_same register register_typed register_room list before m parts.0 (subst (λ (ds : List Details). ListLeaves register ds before m) (sym e) q) in
         subst (λ (x : Slices). ListLeavesInC x list before (single_number_after g before d)) slices_is (subst (ListLeavesInC (slices_of register) list before) (sym after_is) r)
 
   ends_in : Ends register (list_in list) → EndsInC g (list_in list)
   ends_in (lists.whole h) =
-      whole (subst (λ (x : Slices). AllReturnZero x (list_in list)) slices_is (numbers-are register register_typed register_room (list_in list) (list_typed list lent.bytes) ∙ h))
+      whole (subst (λ (x : Slices). AllReturnZero x (list_in list)) slices_is (numbers_are register register_typed register_room (list_in list) (list_typed list lent.bytes) ∙ h))
   ends_in (lists.early before d later e f) =
-      early before d later e (record { zeros = zeros-from before d later e f.none; nonzero = λ z. f.refused (sym (after_is before d later e) ∙ z) })
+      early before d later e (record { zeros = zeros_from before d later e f.none; nonzero = λ z. f.refused (sym (after_is before d later e) ∙ z) })
 
 pub list_equals_single_calls_in_c : ListEqualsSingleCallsInC
 list_equals_single_calls_in_c =
     record {
       all = λ g list lent h. all_equal g list lent h;
-      until = λ g list lent before d later e h. until-equal g list lent before d later e h;
+      until = λ g list lent before d later e h. until_equal g list lent before d later e h;
       either = λ g list lent. ends_in g list lent (list_equals_single_calls.either (register g list lent) (list_in list));
     }

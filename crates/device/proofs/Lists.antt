@@ -20,7 +20,7 @@ use Rattle.journal.specs.declared.state.Issued.{Issued}
 use Rattle.journal.specs.declared.state.IssuedList.{IssuedList}
 use Rattle.journal.proofs.Refusals.{refused_changes_nothing}
 use Rattle.journal.proofs.Lists.{empty_list_changes_nothing}
-use Rattle.journal.proofs.ListSteps.{buffer_none, answer_no, buffer-no, listed, listed_start, listed_end, listed_more, buffer-more, listed-stops, buffer-stops}
+use Rattle.journal.proofs.ListSteps.{buffer_none, answer_no, buffer_no, listed, listed_start, listed_end, listed_more, buffer_more, listed_stops, buffer_stops}
 use Rattle.journal.proofs.Answers.{issued-number}
 use Rattle.device.specs.Layout.{state_of, kept}
 use Rattle.device.specs.Details.{no_details, pieces, details_bytes, details_in, details_from, list_in}
@@ -77,18 +77,18 @@ module _ {list b₀ : List ℕ} {s₀ : State} {b : List ℕ} {s : State} {at i 
       )
 
   module _ (h : at < length list) where
-    pub piece-there : at + 72 ≤ length list
-    piece-there = omega (arith, l.place, l.whole)
+    pub piece_there : at + 72 ≤ length list
+    piece_there = omega (arith, l.place, l.whole)
 
-    pub piece-long : 72 ≤ length (take (at + 72 - at) (drop at list))
-    piece-long =
+    pub piece_long : 72 ≤ length (take (at + 72 - at) (drop at list))
+    piece_long =
         let n : at + 72 - at ≡ 72 = omega arith in
-        rw n (omega (arith, length-take-le 72 (drop at list) (omega (arith, length-drop at list, piece-there))))
+        rw n (omega (arith, length-take-le 72 (drop at list) (omega (arith, length-drop at list, piece_there))))
 
     left_more : left list at ≡ details_in (take 72 (drop at list)) ∷ left list (at + 72)
     unfolding details_from
     left_more =
-        let n : (length list - at) / 72 ≡ suc ((length list - (at + 72)) / 72) = omega (arith, piece-there) in
+        let n : (length list - at) / 72 ≡ suc ((length list - (at + 72)) / 72) = omega (arith, piece_there) in
         ap (λ (k : ℕ). details_from k (drop at list)) n
         ∙ ap (λ (q : List ℕ). details_in (take 72 (drop at list)) ∷ details_from ((length list - (at + 72)) / 72) q) (drop-drop 72 at list)
 
@@ -100,24 +100,24 @@ module _ {list b₀ : List ℕ} {s₀ : State} {b : List ℕ} {s : State} {at i 
           let n : at + 72 - at ≡ 72 = omega arith in
           left_more ∙ ap (λ (x : Details). x ∷ left list (at + 72)) (sym (ed ∙ ap (λ (k : ℕ). details_in (take k (drop at list))) n))
 
-      pub listing-stops : (a.number ≡ 0 → ⊥)
+      pub listing_stops : (a.number ≡ 0 → ⊥)
           → (record { number = a.number; count = i; state = s } ≡ issued_list s₀ (details_from (length list / 72) list) b₀)
           × (b₁ ≡ list_buffer s₀ (details_from (length list / 72) list) b₀)
-      listing-stops refused = (
-        listed-stops s d (left list (at + 72)) b b₁ a p.0 p.1 refused i ∙ sym (ap (λ (ds : List Details). listed i s ds b) left_is) ∙ l.answer,
-        buffer-stops s d (left list (at + 72)) b b₁ a p.0 p.1 refused ∙ sym (ap (λ (ds : List Details). list_buffer s ds b) left_is) ∙ l.buffer,
+      listing_stops refused = (
+        listed_stops s d (left list (at + 72)) b b₁ a p.0 p.1 refused i ∙ sym (ap (λ (ds : List Details). listed i s ds b) left_is) ∙ l.answer,
+        buffer_stops s d (left list (at + 72)) b b₁ a p.0 p.1 refused ∙ sym (ap (λ (ds : List Details). list_buffer s ds b) left_is) ∙ l.buffer,
       )
 
-      pub listing-more : a.number ≡ 0 → length b₁ ≡ length b → Listing list b₀ s₀ b₁ a.state (at + 72) (i + 1)
-      listing-more z m =
+      pub listing_more : a.number ≡ 0 → length b₁ ≡ length b → Listing list b₀ s₀ b₁ a.state (at + 72) (i + 1)
+      listing_more z m =
           let ds = left list (at + 72) in
           record {
             place = omega (arith, l.place);
-            within = piece-there;
+            within = piece_there;
             whole = l.whole;
             long = m ∙ l.long;
             answer = listed_more s d ds b b₁ a p.0 p.1 z i ∙ sym (ap (λ (xs : List Details). listed i s xs b) left_is) ∙ l.answer;
-            buffer = buffer-more s d ds b b₁ a p.0 p.1 z ∙ sym (ap (λ (xs : List Details). list_buffer s xs b) left_is) ∙ l.buffer;
+            buffer = buffer_more s d ds b b₁ a p.0 p.1 z ∙ sym (ap (λ (xs : List Details). list_buffer s xs b) left_is) ∙ l.buffer;
           }
 
 -- the state that the loop starts from is the one that was given
@@ -156,18 +156,18 @@ module _ (list : List ℕ) where
   list_whole h = rw (eq-eqb (length list % 72) 0 h)
 
   module _ (st : State) (buf : List ℕ) {r : IssuedList} {b : List ℕ} where
-    pub cut-issued : (length list % 72 ≡ 0 → ⊥) → (r ≡ issued_list st (no_details ∷ []) buf) × (b ≡ buf)
+    pub cut_issued : (length list % 72 ≡ 0 → ⊥) → (r ≡ issued_list st (no_details ∷ []) buf) × (b ≡ buf)
         → (r ≡ issued_list st (list_in list) buf) × (b ≡ list_buffer st (list_in list) buf)
-    cut-issued h p =
+    cut_issued h p =
         let e = list_cut h in (
           p.0 ∙ sym (ap (λ (ds : List Details). issued_list st ds buf) e),
-          p.1 ∙ sym (ap (λ (ds : List Details). list_buffer st ds buf) e ∙ buffer-no _ st no_details [] buf (cut_refused st (length buf))),
+          p.1 ∙ sym (ap (λ (ds : List Details). list_buffer st ds buf) e ∙ buffer_no _ st no_details [] buf (cut_refused st (length buf))),
         )
 
-    pub whole-issued : length list % 72 ≡ 0
+    pub whole_issued : length list % 72 ≡ 0
         → (r ≡ issued_list st (details_from (length list / 72) list) buf) × (b ≡ list_buffer st (details_from (length list / 72) list) buf)
         → (r ≡ issued_list st (list_in list) buf) × (b ≡ list_buffer st (list_in list) buf)
-    whole-issued h p =
+    whole_issued h p =
         let e = sym (list_whole h) in
         (p.0 ∙ ap (λ (ds : List Details). issued_list st ds buf) e, p.1 ∙ ap (λ (ds : List Details). list_buffer st ds buf) e)
 

@@ -27,7 +27,7 @@ use Rattle.device.specs.PartLaws.{LeftByCheck, head_from_c, steps_from_c, checks
 use Rattle.device.proofs.Below.{accepted_is, head_index, in_parts_is}
 use Rattle.device.proofs.Sizes.{array_whole, array_long, array_bytes, width_whole, kept_all, take_six, take_answer}
 use Rattle.device.proofs.Slots.{typed_lengths}
-use Rattle.device.proofs.Writers.{length-state}
+use Rattle.device.proofs.Writers.{length_state}
 use Rattle.device.proofs.Spelling.{state_is_read, kept_as_it_was}
 use Rattle.device.proofs.PartCalls.{head_six, head_answer_lem}
 
@@ -68,7 +68,7 @@ module _ (j : List ℕ) (b : AllBytes j) (small : length j < 1844674407370955161
   unfolding steps_from_c steps_answer
   same_steps c t n z s =
       let e = is_read s z in
-      let l : length c.state ≡ 447 = ap length s.bytes ∙ length-state t.state (typed_lengths (s.typed z)) in
+      let l : length c.state ≡ 447 = ap length s.bytes ∙ length_state t.state (typed_lengths (s.typed z)) in
       record {
         number = ap (λ (x : State). (check_steps x j n).number) e;
         index = ap (λ (x : State). (check_steps x j n).index) e;
@@ -116,8 +116,8 @@ module _ (j : List ℕ) (b : AllBytes j) (small : length j < 1844674407370955161
     unfolding in_parts_from_c
     same_parts ns = subst (Same (checks_from_c (head_from_c j key width state) j ns)) (sym (in_parts_is j k w ns)) (same_checks ns (head_from_c j key width state) (check_head j k w) same_head)
 
-    taken-over : (ns : List ℕ) → SameAnswer (check_in_parts j k w ns) (take_over j k w) → SameAsTakeOverInC j key width state ns
-    taken-over ns p =
+    taken_over : (ns : List ℕ) → SameAnswer (check_in_parts j k w ns) (take_over j k w) → SameAsTakeOverInC j key width state ns
+    taken_over ns p =
         let s = same_parts ns in
         let e = take_answer j key width (length state) l in
         record {
@@ -183,7 +183,7 @@ pub checks_are_take_over_in_c : ChecksAreTakeOverInC
 checks_are_take_over_in_c j key width state ns b a small h = go (eqb (length state) 447) refl
   where
     go : (t : Bool) → eqb (length state) 447 ≡ t → SameAsTakeOverInC j key width state ns
-    go true e = taken-over j b small key width state a (eqb-true (length state) 447 e) ns (steps_are_take_over j (array_of 32 key) (width_with key width) b ns h)
+    go true e = taken_over j b small key width state a (eqb-true (length state) 447 e) ns (steps_are_take_over j (array_of 32 key) (width_with key width) b ns h)
     go false e = refused_both j key width state (eqb-false (length state) 447 e) ns
 
 pub refusal_is_take_overs_in_c : RefusalIsTakeOversInC
@@ -193,7 +193,7 @@ refusal_is_take_overs_in_c j key width state ns b a small h = go (eqb (length st
     go true e =
         let l = eqb-true (length state) 447 e in
         let s = same_parts j b small key width state a l ns in
-        taken-over j b small key width state a l ns (refusal_is_take_overs j (array_of 32 key) (width_with key width) b ns (λ z. h (s.number ∙ z)))
+        taken_over j b small key width state a l ns (refusal_is_take_overs j (array_of 32 key) (width_with key width) b ns (λ z. h (s.number ∙ z)))
     go false e = refused_both j key width state (eqb-false (length state) 447 e) ns
 
 -- ---- one call
@@ -205,7 +205,7 @@ stored_state_is_checked st j n t =
     record {
       number = ap (λ (x : State). (check_steps x j n).number) e;
       index = ap (λ (x : State). (check_steps x j n).index) e;
-      state = kept_all (state_bytes st) (check_steps (state_of (state_bytes st)) j n).state (length-state st (typed_lengths t)) ∙ ap (λ (x : State). state_bytes (check_steps x j n).state) e;
+      state = kept_all (state_bytes st) (check_steps (state_of (state_bytes st)) j n).state (length_state st (typed_lengths t)) ∙ ap (λ (x : State). state_bytes (check_steps x j n).state) e;
     }
 
 pub end_is_seen_in_c : EndIsSeenInC

@@ -19,9 +19,9 @@ module _ {A : Type 0} (f : A → List ℕ) (z : A) where
 
   -- the loop that writes them
   module _ (xs : List A) (i : ℕ) {out₀ out : List ℕ} {at p : ℕ} (w : Writing out₀ at (pieces f xs) out p (pieces f (drop i xs))) where
-    pub piece-more : {r : ℕ} {out₁ : List ℕ} → i < length xs → (r ≡ place_after out p (f (get_or xs i z))) × (out₁ ≡ placed out p (f (get_or xs i z)))
+    pub piece_more : {r : ℕ} {out₁ : List ℕ} → i < length xs → (r ≡ place_after out p (f (get_or xs i z))) × (out₁ ≡ placed out p (f (get_or xs i z)))
         → Writing out₀ at (pieces f xs) out₁ r (pieces f (drop (i + 1) xs))
-    piece-more {r} {out₁} h e =
+    piece_more {r} {out₁} h e =
         let y = f (get_or xs i z) in
         let rest = pieces f (drop (i + 1) xs) in
         let q = here xs i h in
@@ -29,26 +29,26 @@ module _ {A : Type 0} (f : A → List ℕ) (z : A) where
         subst (λ (o : ℕ). Writing out₀ at (pieces f xs) out₁ o rest) (sym (e.0 ∙ after_room out p y room))
         (writing_more y rest (writing_left w q) (e.1 ∙ placed_room out p y room))
 
-    pub pieces-done : length xs ≤ i → out ≡ overwrite out₀ at (pieces f xs)
+    pub pieces_done : length xs ≤ i → out ≡ overwrite out₀ at (pieces f xs)
     unfolding pieces
-    pieces-done h = (writing_end (writing_left w (ap (pieces f) (drop_of_length-le xs h)))).1
+    pieces_done h = (writing_end (writing_left w (ap (pieces f) (drop_of_length-le xs h)))).1
 
   -- pieces of one length
   module _ (k : ℕ) (long : (x : A) → length (f x) ≡ k) where
-    pub length-pieces : (xs : List A) → length (pieces f xs) ≡ k * length xs
+    pub length_pieces : (xs : List A) → length (pieces f xs) ≡ k * length xs
     unfolding pieces
-    length-pieces [] = sym (mul-zero k)
-    length-pieces (x ∷ xs) = length-append (f x) (pieces f xs) ∙ omega (arith, long x, length-pieces xs, mul-suc k (length xs))
+    length_pieces [] = sym (mul-zero k)
+    length_pieces (x ∷ xs) = length-append (f x) (pieces f xs) ∙ omega (arith, long x, length_pieces xs, mul-suc k (length xs))
 
-    pub piece-at : (xs : List A) (i : ℕ) (q : List ℕ) → i < length xs → take k (drop (k * i) (pieces f xs ++ q)) ≡ f (get_or xs i z)
+    pub piece_at : (xs : List A) (i : ℕ) (q : List ℕ) → i < length xs → take k (drop (k * i) (pieces f xs ++ q)) ≡ f (get_or xs i z)
     unfolding pieces
-    piece-at [] i q h = absurd (omega arith)
-    piece-at (x ∷ xs) zero q h =
+    piece_at [] i q h = absurd (omega arith)
+    piece_at (x ∷ xs) zero q h =
         ap (λ (n : ℕ). take k (drop n ((f x ++ pieces f xs) ++ q))) (mul-zero k) ∙ ap (take k) (append_assoc (f x) (pieces f xs) q)
         ∙ take_at (f x) (pieces f xs ++ q) k (long x)
-    piece-at (x ∷ xs) (suc i) q h =
+    piece_at (x ∷ xs) (suc i) q h =
         let e : k * suc i ≡ k + k * i = omega (arith, mul-suc k i) in
         ap (λ (n : ℕ). take k (drop n ((f x ++ pieces f xs) ++ q))) e
         ∙ ap (λ (l : List ℕ). take k (drop (k + k * i) l)) (append_assoc (f x) (pieces f xs) q)
         ∙ ap (take k) (sym (drop-drop (k * i) k (f x ++ (pieces f xs ++ q))) ∙ ap (drop (k * i)) (drop_at (f x) (pieces f xs ++ q) k (long x)))
-        ∙ piece-at xs i q (le_of_suc-le-suc h)
+        ∙ piece_at xs i q (le_of_suc-le-suc h)

@@ -38,22 +38,22 @@ module _ (s : Settings) (n : ℕ) (ok : Bool) (details signature : ℕ) {k : ℕ
     unfolding read_number after_settings
     rest = settings_pass s false n after_settings (sym e ∙ z)
 
-    pub read-misspelled : not ok ≡ true → 16 ≡ read_number s n ok details signature
+    pub read_misspelled : not ok ≡ true → 16 ≡ read_number s n ok details signature
     unfolding after_settings
-    read-misspelled h = sym (rest ∙ ask_no 16 _ (not-true ok h))
+    read_misspelled h = sym (rest ∙ ask_no 16 _ (not-true ok h))
 
     module _ (good : not ok ≡ false) where
-      pub read-details : (details ≡ 72 → ⊥) → 23 ≡ read_number s n ok details signature
+      pub read_details_lem : (details ≡ 72 → ⊥) → 23 ≡ read_number s n ok details signature
       unfolding after_settings
-      read-details h = sym (rest ∙ ask_yes 16 _ (not-false ok good) ∙ ask_no 23 _ (ne_eqb details 72 h))
+      read_details_lem h = sym (rest ∙ ask_yes 16 _ (not-false ok good) ∙ ask_no 23 _ (ne_eqb details 72 h))
 
-      pub read-signature : details ≡ 72 → (signature ≡ 64 → ⊥) → 23 ≡ read_number s n ok details signature
+      pub read_signature : details ≡ 72 → (signature ≡ 64 → ⊥) → 23 ≡ read_number s n ok details signature
       unfolding after_settings
-      read-signature d h = sym (rest ∙ ask_yes 16 _ (not-false ok good) ∙ ask_yes 23 _ (eq-eqb details 72 d) ∙ ask_no 23 0 (ne_eqb signature 64 h))
+      read_signature d h = sym (rest ∙ ask_yes 16 _ (not-false ok good) ∙ ask_yes 23 _ (eq-eqb details 72 d) ∙ ask_no 23 0 (ne_eqb signature 64 h))
 
-      pub read-passes : details ≡ 72 → signature ≡ 64 → 0 ≡ read_number s n ok details signature
+      pub read_passes : details ≡ 72 → signature ≡ 64 → 0 ≡ read_number s n ok details signature
       unfolding after_settings
-      read-passes d h =
+      read_passes d h =
           sym (rest ∙ ask_yes 16 _ (not-false ok good) ∙ ask_yes 23 _ (eq-eqb details 72 d) ∙ ask_yes 23 0 (eq-eqb signature 64 h))
 
 -- what the answers yes say
@@ -124,8 +124,8 @@ module _ (settings form details signature : List ℕ) {s : Settings} {n k : ℕ}
       )
 
   module _ (z : k ≡ 0) where
-    pub read-room : (length details ≡ 72) × (length signature ≡ 64)
-    read-room = let a = number_zero s n found.ok (length details) (length signature) (sym ek ∙ z) in (a.details_length, a.signature_length)
+    pub read_room : (length details ≡ 72) × (length signature ≡ 64)
+    read_room = let a = number_zero s n found.ok (length details) (length signature) (sym ek ∙ z) in (a.details_length, a.signature_length)
 
     pub read_done : {r : ℕ} {b₁ b₂ : List ℕ} → b₁ ≡ details_bytes found.entry.fields.details
         → (r ≡ length (cond found.entry.signature.failed [] found.entry.signature.bytes))

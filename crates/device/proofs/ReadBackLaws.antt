@@ -45,7 +45,7 @@ use Rattle.device.proofs.Spelling.{state_is_read, bytes_typed}
 use Rattle.device.proofs.Zeros.{unopened_gets_six}
 use Rattle.device.proofs.CallAnswers.{serial_some}
 use Rattle.device.proofs.StateCalls.{serial_typed, settings_of_serial}
-use Rattle.device.proofs.CallsFromC.{settings-typed as from-settings, order_typed}
+use Rattle.device.proofs.CallsFromC.{settings_typed as from-settings, order_typed}
 use Rattle.device.proofs.DetailLaws.{details_are_read}
 use Rattle.device.proofs.ReadBackCalls.{Asked, number_zero, zero_number}
 
@@ -83,9 +83,9 @@ module _ (settings form details signature : List ℕ) where
       }
 
   module _ (t : TypedSettings (settings_of settings)) (fb : AllBytes form) where
-    read-spelled : (read_back settings form details signature).number ≡ 0 → Readable settings form details signature
+    read_spelled : (read_back settings form details signature).number ≡ 0 → Readable settings form details signature
     unfolding read_back answered found_in
-    read-spelled z =
+    read_spelled z =
         let a = number_zero (settings_of settings) (width_of settings) (found_in settings form).ok (length details) (length signature) z in
         record {
           good = a.settings;
@@ -95,9 +95,9 @@ module _ (settings form details signature : List ℕ) where
           signature_length = a.signature_length;
         }
 
-    spelled-read : (w : Readable settings form details signature) → read_back settings form details signature ≡ read_as (order_of w.spelled.entry) signature
+    spelled_read : (w : Readable settings form details signature) → read_back settings form details signature ≡ read_as (order_of w.spelled.entry) signature
     unfolding found_in
-    spelled-read w =
+    spelled_read w =
         let f : found_in settings form ≡ record { ok = true; entry = w.spelled.entry } =
         (exact (settings_of settings) (width_of settings) form t.lengths t.bytes fb).1 w.spelled in
         let a : Asked (settings_of settings) (width_of settings) (found_in settings form).ok (length details) (length signature) =
@@ -113,7 +113,7 @@ module _ (settings form details signature : List ℕ) where
 pub read_is_exact : ReadIsExact
 read_is_exact settings form details signature sb fb =
     let t = any_typed settings sb in
-    (read-spelled settings form details signature t fb, spelled-read settings form details signature t fb)
+    (read_spelled settings form details signature t fb, spelled_read settings form details signature t fb)
 
 pub accepted_is_read : AcceptedIsRead
 accepted_is_read j key n v before x later q settings sb es en details signature ld ls =
@@ -277,9 +277,9 @@ module _ (g : Slices) (a : AllBytes g.state) (few : length g.journal < 184467440
         let r = settings_of_serial st (length (used st.serials) - 1) out typed lo in
         (r.0 ∙ last_is, r.1)
 
-    settings-typed : TypedSettings (settings_of settings)
+    settings_typed : TypedSettings (settings_of settings)
     unfolding settings settings_in st
-    settings-typed =
+    settings_typed =
         let s = serial_typed typed (length (used st.serials) - 1) in
         subst TypedSettings (sym (settings_of_serial st (length (used st.serials) - 1) out typed lo).0) (record {
           lengths = record { csp = typed.csp; id = typed.id.long; serial = s.long };
@@ -308,14 +308,14 @@ module _ (g : Slices) (a : AllBytes g.state) (few : length g.journal < 184467440
           signature_length = ls;
         }
 
-    appended-bytes : AllBytes (appended g c)
-    appended-bytes = subst AllBytes (sym spelled.is) (compact_bytes (settings_of settings) (width_of settings) spelled.entry)
+    appended_bytes : AllBytes (appended g c)
+    appended_bytes = subst AllBytes (sym spelled.is) (compact_bytes (settings_of settings) (width_of settings) spelled.entry)
 
     read_again : (details signature : List ℕ) → length details ≡ 72 → length signature ≡ 64
         → read_back settings (appended g c) details signature ≡ read_as (order_in c) signature
     unfolding readable spelled
     read_again details signature ld ls =
-        spelled-read settings (appended g c) details signature settings-typed appended-bytes (readable details signature ld ls)
+        spelled_read settings (appended g c) details signature settings_typed appended_bytes (readable details signature ld ls)
         ∙ ap (λ (k : Order). read_as k signature) order_is
 
 pub issued_is_read : IssuedIsRead

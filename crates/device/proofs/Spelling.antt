@@ -28,7 +28,7 @@ use Rattle.device.specs.Laws.{SettingsAreRead, WrittenSettingsAreRead, SettingsB
 use Rattle.device.proofs.Sizes.{width_whole, key_long, from_typed, good_register}
 use Rattle.device.proofs.Slots.{typed_lengths}
 use Rattle.device.proofs.DetailLaws.{eight_good}
-use Rattle.device.proofs.Writers.{length_name, length_names, length_settings, length-state}
+use Rattle.device.proofs.Writers.{length_name, length_names, length_settings, length_state}
 
 -- ---- what was written is read, at a place from which on the list is m and then r
 
@@ -65,16 +65,16 @@ module _ (l : List ℕ) where
 
 module _ (s : Settings) (n : ℕ) (key : List ℕ) (t : TypedRegister s n key) where
   -- what stands from the ID, the serial, the width and the key on
-  abbrev from-width : List ℕ
-  from-width = bytes_of 8 n ++ (key ++ [])
+  abbrev from_width : List ℕ
+  from_width = bytes_of 8 n ++ (key ++ [])
 
-  abbrev from-serial : List ℕ
-  from-serial = name_bytes s.serial ++ from-width
+  abbrev from_serial : List ℕ
+  from_serial = name_bytes s.serial ++ from_width
 
-  abbrev from-id : List ℕ
-  from-id = name_bytes s.id ++ from-serial
+  abbrev from_id : List ℕ
+  from_id = name_bytes s.id ++ from_serial
 
-  all_settings : drop 0 (settings_bytes s n key) ≡ s.csp ++ from-id
+  all_settings : drop 0 (settings_bytes s n key) ≡ s.csp ++ from_id
   unfolding settings_bytes
   all_settings = sym (append-nil (settings_bytes s n key)) ∙ simp append_assoc
 
@@ -83,13 +83,13 @@ module _ (s : Settings) (n : ℕ) (key : List ℕ) (t : TypedRegister s n key) w
   settings_read =
       let l = settings_bytes s n key in
       let d₁ = all_settings in
-      let d₂ = part_after l 0 3 s.csp from-id d₁ t.settings.csp in
-      let d₃ = part_after l 3 40 (name_bytes s.id) from-serial d₂ (length_name s.id t.settings.id) in
-      let d₄ = part_after l 43 40 (name_bytes s.serial) from-width d₃ (length_name s.serial t.settings.serial) in
+      let d₂ = part_after l 0 3 s.csp from_id d₁ t.settings.csp in
+      let d₃ = part_after l 3 40 (name_bytes s.id) from_serial d₂ (length_name s.id t.settings.id) in
+      let d₄ = part_after l 43 40 (name_bytes s.serial) from_width d₃ (length_name s.serial t.settings.serial) in
       let d₅ = part_after l 83 8 (bytes_of 8 n) (key ++ []) d₄ (length_bytes_of 8 n) in
-      let csp = part_here l 0 3 s.csp from-id d₁ t.settings.csp in
-      let id = name_here l 3 s.id from-serial d₂ t.settings.id t.id in
-      let serial = name_here l 43 s.serial from-width d₃ t.settings.serial t.serial in
+      let csp = part_here l 0 3 s.csp from_id d₁ t.settings.csp in
+      let id = name_here l 3 s.id from_serial d₂ t.settings.id t.id in
+      let serial = name_here l 43 s.serial from_width d₃ t.settings.serial t.serial in
       (λ i. record { csp = csp i; id = id i; serial = serial i }, count_here l 83 8 n (key ++ []) d₄ (omega (arith, t.width)), part_here l 91 32 key [] d₅ t.key_length)
 
 pub settings_are_read : SettingsAreRead
@@ -114,37 +114,37 @@ module _ (st : State) (t : TypedState st) where
   abbrev from_place : List ℕ
   from_place = bytes_of 8 st.place ++ []
 
-  abbrev from-since : List ℕ
-  from-since = bytes_of 4 st.since ++ from_place
+  abbrev from_since : List ℕ
+  from_since = bytes_of 4 st.since ++ from_place
 
-  abbrev from-length : List ℕ
-  from-length = bytes_of 8 st.length ++ from-since
+  abbrev from_length : List ℕ
+  from_length = bytes_of 8 st.length ++ from_since
 
-  abbrev from-chain : List ℕ
-  from-chain = st.chain ++ from-length
+  abbrev from_chain : List ℕ
+  from_chain = st.chain ++ from_length
 
-  abbrev from-issued : List ℕ
-  from-issued = bytes_of 4 st.issued ++ from-chain
+  abbrev from_issued : List ℕ
+  from_issued = bytes_of 4 st.issued ++ from_chain
 
   abbrev from_last : List ℕ
-  from_last = bytes_of 4 st.last ++ from-issued
+  from_last = bytes_of 4 st.last ++ from_issued
 
-  abbrev from-counter : List ℕ
-  from-counter = counter_bytes 8 st.counter ++ from_last
+  abbrev from_counter : List ℕ
+  from_counter = counter_bytes 8 st.counter ++ from_last
 
   abbrev from_key : List ℕ
-  from_key = st.key ++ from-counter
+  from_key = st.key ++ from_counter
 
-  abbrev from-states-width : List ℕ
-  from-states-width = bytes_of 8 st.width ++ from_key
+  abbrev from_states_width : List ℕ
+  from_states_width = bytes_of 8 st.width ++ from_key
 
-  abbrev from-serials : List ℕ
-  from-serials = names_bytes st.serials ++ from-states-width
+  abbrev from_serials : List ℕ
+  from_serials = names_bytes st.serials ++ from_states_width
 
-  abbrev from-states-id : List ℕ
-  from-states-id = name_bytes st.id ++ from-serials
+  abbrev from_states_id : List ℕ
+  from_states_id = name_bytes st.id ++ from_serials
 
-  all_state : drop 0 (state_bytes st) ≡ st.csp ++ from-states-id
+  all_state : drop 0 (state_bytes st) ≡ st.csp ++ from_states_id
   unfolding state_bytes register_bytes figures_bytes
   all_state = sym (append-nil (state_bytes st)) ∙ simp append_assoc
 
@@ -154,29 +154,29 @@ module _ (st : State) (t : TypedState st) where
       let l = state_bytes st in
       let z = st.counter in
       let d₁ = all_state in
-      let d₂ = part_after l 0 3 st.csp from-states-id d₁ t.csp in
-      let d₃ = part_after l 3 40 (name_bytes st.id) from-serials d₂ (length_name st.id t.id.long) in
+      let d₂ = part_after l 0 3 st.csp from_states_id d₁ t.csp in
+      let d₃ = part_after l 3 40 (name_bytes st.id) from_serials d₂ (length_name st.id t.id.long) in
       let m = length_names st.serials (typed_lengths t).serials in
-      let d₄ = part_after l 43 320 (names_bytes st.serials) from-states-width d₃ (omega (arith, m, t.eight)) in
+      let d₄ = part_after l 43 320 (names_bytes st.serials) from_states_width d₃ (omega (arith, m, t.eight)) in
       let d₅ = part_after l 363 8 (bytes_of 8 st.width) from_key d₄ (length_bytes_of 8 st.width) in
-      let d₆ = part_after l 371 32 st.key from-counter d₅ t.key_length in
+      let d₆ = part_after l 371 32 st.key from_counter d₅ t.key_length in
       let d₇ = part_after l 403 8 (counter_bytes 8 z) from_last d₆ (length_counter_bytes 8 z) in
-      let d₈ = part_after l 411 4 (bytes_of 4 st.last) from-issued d₇ (length_bytes_of 4 st.last) in
-      let d₉ = part_after l 415 4 (bytes_of 4 st.issued) from-chain d₈ (length_bytes_of 4 st.issued) in
-      let d₁₀ = part_after l 419 8 st.chain from-length d₉ t.chain in
-      let d₁₁ = part_after l 427 8 (bytes_of 8 st.length) from-since d₁₀ (length_bytes_of 8 st.length) in
+      let d₈ = part_after l 411 4 (bytes_of 4 st.last) from_issued d₇ (length_bytes_of 4 st.last) in
+      let d₉ = part_after l 415 4 (bytes_of 4 st.issued) from_chain d₈ (length_bytes_of 4 st.issued) in
+      let d₁₀ = part_after l 419 8 st.chain from_length d₉ t.chain in
+      let d₁₁ = part_after l 427 8 (bytes_of 8 st.length) from_since d₁₀ (length_bytes_of 8 st.length) in
       let d₁₂ = part_after l 435 4 (bytes_of 4 st.since) from_place d₁₁ (length_bytes_of 4 st.since) in
-      let csp = part_here l 0 3 st.csp from-states-id d₁ t.csp in
-      let id = name_here l 3 st.id from-serials d₂ t.id.long t.id.small in
-      let serials = ap (names_at l 43) (sym t.eight) ∙ names_here l 43 st.serials from-states-width d₃ (λ i h. t.serials i (omega (arith, t.eight))) in
+      let csp = part_here l 0 3 st.csp from_states_id d₁ t.csp in
+      let id = name_here l 3 st.id from_serials d₂ t.id.long t.id.small in
+      let serials = ap (names_at l 43) (sym t.eight) ∙ names_here l 43 st.serials from_states_width d₃ (λ i h. t.serials i (omega (arith, t.eight))) in
       let width = count_here l 363 8 st.width from_key d₄ (omega (arith, t.width)) in
-      let key = part_here l 371 32 st.key from-counter d₅ t.key_length in
+      let key = part_here l 371 32 st.key from_counter d₅ t.key_length in
       let bytes = part_here l 403 8 (counter_bytes 8 z) from_last d₆ (length_counter_bytes 8 z) in
       let counter = ap (counter_value 8) bytes ∙ counter_back 8 z (fits_wide 8 z eight_good ∙ t.counter) in
-      let last = count_here l 411 4 st.last from-issued d₇ (omega (arith, t.last)) in
-      let issued = count_here l 415 4 st.issued from-chain d₈ (omega (arith, t.issued)) in
-      let chain = part_here l 419 8 st.chain from-length d₉ t.chain in
-      let len = count_here l 427 8 st.length from-since d₁₀ (omega (arith, t.in_journal)) in
+      let last = count_here l 411 4 st.last from_issued d₇ (omega (arith, t.last)) in
+      let issued = count_here l 415 4 st.issued from_chain d₈ (omega (arith, t.issued)) in
+      let chain = part_here l 419 8 st.chain from_length d₉ t.chain in
+      let len = count_here l 427 8 st.length from_since d₁₀ (omega (arith, t.in_journal)) in
       let since = count_here l 435 4 st.since from_place d₁₁ (omega (arith, t.since)) in
       let place = count_here l 439 8 st.place [] d₁₂ (omega (arith, t.place)) in
       λ i. record {
@@ -196,7 +196,7 @@ module _ (st : State) (t : TypedState st) where
 
 pub state_is_read : StateIsRead
 unfolding state_of
-state_is_read st t = rw (eq-eqb (length (state_bytes st)) 447 (length-state st (typed_lengths t))) (state_read st t)
+state_is_read st t = rw (eq-eqb (length (state_bytes st)) 447 (length_state st (typed_lengths t))) (state_read st t)
 
 -- ---- what was read is written
 
@@ -229,9 +229,9 @@ module _ (b : List ℕ) (a : AllBytes b) where
       next_part b 91 32 p₅ refl ∙ take_all 123 b (omega arith)
 
   module _ (e : length b ≡ 447) where
-    register-again : register_bytes (state_at b) ≡ take 403 b
+    register_again : register_bytes (state_at b) ≡ take 403 b
     unfolding register_bytes state_at
-    register-again =
+    register_again =
         let p₁ = next_part b 3 40 refl (name_again 3 (omega arith)) in
         let p₂ = next_part b 43 320 p₁ (names_again 8 43 (omega arith)) in
         let p₃ = next_part b 363 8 p₂ (count_bytes b a 363 8 (omega arith)) in
@@ -243,25 +243,25 @@ module _ (b : List ℕ) (a : AllBytes b) where
         let m : length (take 8 (drop 403 b)) ≤ 8 = omega arith in
         counter_whole 8 eight_good (bytes_take 8 (bytes_drop 403 a)) l (drop_of_length-le (take 8 (drop 403 b)) m)
 
-    figures-split : (y : List ℕ) (st : State)
+    figures_split : (y : List ℕ) (st : State)
         → y ++ figures_bytes st
         ≡ y ++ counter_bytes 8 st.counter ++ bytes_of 4 st.last ++ bytes_of 4 st.issued ++ st.chain ++ bytes_of 8 st.length ++ bytes_of 4 st.since
         ++ bytes_of 8 st.place
     unfolding figures_bytes
-    figures-split y st = simp append_assoc
+    figures_split y st = simp append_assoc
 
-    state-again : state_bytes (state_at b) ≡ b
+    state_again : state_bytes (state_at b) ≡ b
     unfolding state_bytes state_at
-    state-again =
+    state_again =
         let c : (at n : ℕ) → at + n ≤ length b → bytes_of n (count_at b at n) ≡ take n (drop at b) = λ at n h. count_bytes b a at n h in
-        let p₁ = next_part b 403 8 register-again counter_again in
+        let p₁ = next_part b 403 8 register_again counter_again in
         let p₂ = next_part b 411 4 p₁ (c 411 4 (omega arith)) in
         let p₃ = next_part b 415 4 p₂ (c 415 4 (omega arith)) in
         let p₄ = next_part b 419 8 p₃ refl in
         let p₅ = next_part b 427 8 p₄ (c 427 8 (omega arith)) in
         let p₆ = next_part b 435 4 p₅ (c 435 4 (omega arith)) in
         let p₇ = next_part b 439 8 p₆ (c 439 8 (omega arith)) in
-        figures-split (register_bytes (state_at b)) (state_at b) ∙ p₇ ∙ take_all 447 b (omega arith)
+        figures_split (register_bytes (state_at b)) (state_at b) ∙ p₇ ∙ take_all 447 b (omega arith)
 
 pub settings_bytes_are_kept : SettingsBytesAreKept
 unfolding settings_of width_of key_of
@@ -269,7 +269,7 @@ settings_bytes_are_kept b a e = rw (eq-eqb (length b) 123 e) (settings_again_lem
 
 pub bytes_are_kept : BytesAreKept
 unfolding state_of
-bytes_are_kept b a e = rw (eq-eqb (length b) 447 e) (state-again b a e)
+bytes_are_kept b a e = rw (eq-eqb (length b) 447 e) (state_again b a e)
 
 -- ---- a state that was read is kept as it was
 

@@ -50,9 +50,9 @@ module _ (s : Settings) (t : SettingsLengths s) where
   names_long = length-append (s.csp ++ name_bytes s.id) (name_bytes s.serial) ∙ omega (arith, front_long s.csp s.id t.csp t.id, length_name s.serial t.serial)
 
   module _ (b : List ℕ) where
-    pub put-names : {b₁ b₂ b₃ : List ℕ} → 83 ≤ length b → b₁ ≡ placed b 0 s.csp → b₂ ≡ overwrite b₁ 3 (name_bytes s.id)
+    pub put_names : {b₁ b₂ b₃ : List ℕ} → 83 ≤ length b → b₁ ≡ placed b 0 s.csp → b₂ ≡ overwrite b₁ 3 (name_bytes s.id)
         → b₃ ≡ overwrite b₂ 43 (name_bytes s.serial) → b₃ ≡ overwrite b 0 (s.csp ++ name_bytes s.id ++ name_bytes s.serial)
-    put-names h e₁ e₂ e₃ =
+    put_names h e₁ e₂ e₃ =
         let l₁ = t.csp in
         let l₂ = front_long s.csp s.id t.csp t.id in
         let w₁ = e₁ ∙ placed_room b 0 s.csp (omega arith) in
@@ -112,8 +112,8 @@ module _ (ns : List Name) (i : ℕ) {at : ℕ} {out₀ out : List ℕ} (w : Writ
 
 module _ (st : State) where
   -- counter, last number and receipts issued; chain value, length, receipts in the open section and the place of their count
-  abbrev countsBytes : List ℕ
-  countsBytes = counter_bytes 8 st.counter ++ bytes_of 4 st.last ++ bytes_of 4 st.issued
+  abbrev counts_bytes : List ℕ
+  counts_bytes = counter_bytes 8 st.counter ++ bytes_of 4 st.last ++ bytes_of 4 st.issued
 
   abbrev chain_bytes : List ℕ
   chain_bytes = st.chain ++ bytes_of 8 st.length ++ bytes_of 4 st.since ++ bytes_of 8 st.place
@@ -123,45 +123,45 @@ module _ (st : State) where
       length-append (counter_bytes 8 st.counter) (bytes_of 4 st.last)
       ∙ omega (arith, length_counter_bytes 8 st.counter, length_bytes_of 4 st.last)
 
-  counts_long : length countsBytes ≡ 16
+  counts_long : length counts_bytes ≡ 16
   counts_long =
       length-append (counter_bytes 8 st.counter ++ bytes_of 4 st.last) (bytes_of 4 st.issued) ∙ omega (arith, last_long, length_bytes_of 4 st.issued)
 
-  figures : countsBytes ++ chain_bytes ≡ figures_bytes st
+  figures : counts_bytes ++ chain_bytes ≡ figures_bytes st
   unfolding figures_bytes
   figures = simp append_assoc
 
   module _ (e : length st.chain ≡ 8) where
-    length-long : length (st.chain ++ bytes_of 8 st.length) ≡ 16
-    length-long = length-append st.chain (bytes_of 8 st.length) ∙ omega (arith, length_bytes_of 8 st.length)
+    length_long : length (st.chain ++ bytes_of 8 st.length) ≡ 16
+    length_long = length-append st.chain (bytes_of 8 st.length) ∙ omega (arith, length_bytes_of 8 st.length)
 
-    since-long : length (st.chain ++ bytes_of 8 st.length ++ bytes_of 4 st.since) ≡ 20
-    since-long = length-append (st.chain ++ bytes_of 8 st.length) (bytes_of 4 st.since) ∙ omega (arith, length-long, length_bytes_of 4 st.since)
+    since_long : length (st.chain ++ bytes_of 8 st.length ++ bytes_of 4 st.since) ≡ 20
+    since_long = length-append (st.chain ++ bytes_of 8 st.length) (bytes_of 4 st.since) ∙ omega (arith, length_long, length_bytes_of 4 st.since)
 
-    chain-long : length chain_bytes ≡ 28
-    chain-long =
-        length-append (st.chain ++ bytes_of 8 st.length ++ bytes_of 4 st.since) (bytes_of 8 st.place) ∙ omega (arith, since-long, length_bytes_of 8 st.place)
+    chain_long : length chain_bytes ≡ 28
+    chain_long =
+        length-append (st.chain ++ bytes_of 8 st.length ++ bytes_of 4 st.since) (bytes_of 8 st.place) ∙ omega (arith, since_long, length_bytes_of 8 st.place)
 
   module _ (t : Lengths st) where
-    serials-long : length (st.csp ++ name_bytes st.id ++ names_bytes st.serials) ≡ 363
-    serials-long =
+    serials_long : length (st.csp ++ name_bytes st.id ++ names_bytes st.serials) ≡ 363
+    serials_long =
         length-append (st.csp ++ name_bytes st.id) (names_bytes st.serials)
         ∙ omega (arith, front_long st.csp st.id t.csp t.id, length_names st.serials t.serials, t.eight)
 
-    width-long : length (st.csp ++ name_bytes st.id ++ names_bytes st.serials ++ bytes_of 8 st.width) ≡ 371
-    width-long =
-        length-append (st.csp ++ name_bytes st.id ++ names_bytes st.serials) (bytes_of 8 st.width) ∙ omega (arith, serials-long, length_bytes_of 8 st.width)
+    width_long : length (st.csp ++ name_bytes st.id ++ names_bytes st.serials ++ bytes_of 8 st.width) ≡ 371
+    width_long =
+        length-append (st.csp ++ name_bytes st.id ++ names_bytes st.serials) (bytes_of 8 st.width) ∙ omega (arith, serials_long, length_bytes_of 8 st.width)
 
     length_register : length (register_bytes st) ≡ 403
     unfolding register_bytes
     length_register =
-        length-append (st.csp ++ name_bytes st.id ++ names_bytes st.serials ++ bytes_of 8 st.width) st.key ∙ omega (arith, width-long, t.key)
+        length-append (st.csp ++ name_bytes st.id ++ names_bytes st.serials ++ bytes_of 8 st.width) st.key ∙ omega (arith, width_long, t.key)
 
-    pub length-state : length (state_bytes st) ≡ 447
+    pub length_state : length (state_bytes st) ≡ 447
     unfolding state_bytes
-    length-state =
+    length_state =
         length-append (register_bytes st) (figures_bytes st)
-        ∙ omega (arith, length_register, ap length figures, length-append countsBytes chain_bytes, counts_long, chain-long t.chain)
+        ∙ omega (arith, length_register, ap length figures, length-append counts_bytes chain_bytes, counts_long, chain_long t.chain)
 
   module _ (b : List ℕ) where
     pub put_register : {b₁ b₂ b₃ b₄ b₅ : List ℕ} → Lengths st → 403 ≤ length b → b₁ ≡ placed b 0 st.csp → b₂ ≡ overwrite b₁ 3 (name_bytes st.id)
@@ -174,8 +174,8 @@ module _ (st : State) where
         let p₃ = p₂ ++ names_bytes st.serials in
         let l₁ = t.csp in
         let l₂ = front_long st.csp st.id t.csp t.id in
-        let l₃ = serials-long t in
-        let l₄ = width-long t in
+        let l₃ = serials_long t in
+        let l₄ = width_long t in
         let l₅ = length_bytes_of 8 st.width in
         let w₁ = e₁ ∙ placed_room b 0 p₁ (omega arith) in
         let w₂ = then b p₁ (name_bytes st.id) 0 3 w₁ e₂ (omega arith) (omega arith) in
@@ -183,9 +183,9 @@ module _ (st : State) where
         let w₄ = then_placed b p₃ (bytes_of 8 st.width) 0 363 w₃ e₄ (omega arith) (omega arith) in
         then_placed b (p₃ ++ bytes_of 8 st.width) st.key 0 371 w₄ e₅ (omega arith) (omega (arith, t.key))
 
-    pub put-counts : {r b₁ b₂ b₃ : List ℕ} → 447 ≤ length b → SFits w64 st.counter → r ≡ counter_bytes 8 (to_z w64 (of_z w64 st.counter)) → b₁ ≡ placed b 403 r
-        → b₂ ≡ placed b₁ 411 (bytes_of 4 st.last) → b₃ ≡ placed b₂ 415 (bytes_of 4 st.issued) → b₃ ≡ overwrite b 403 countsBytes
-    put-counts h f q e₁ e₂ e₃ =
+    pub put_counts : {r b₁ b₂ b₃ : List ℕ} → 447 ≤ length b → SFits w64 st.counter → r ≡ counter_bytes 8 (to_z w64 (of_z w64 st.counter)) → b₁ ≡ placed b 403 r
+        → b₂ ≡ placed b₁ 411 (bytes_of 4 st.last) → b₃ ≡ placed b₂ 415 (bytes_of 4 st.issued) → b₃ ≡ overwrite b 403 counts_bytes
+    put_counts h f q e₁ e₂ e₃ =
         let z = st.counter in
         let l₁ = length_counter_bytes 8 z in
         let l₂ = length_bytes_of 4 st.last in
@@ -195,29 +195,29 @@ module _ (st : State) where
         let w = both_placed b (counter_bytes 8 z) (bytes_of 4 st.last) 403 411 p e₂ (omega arith) (omega arith) in
         then_placed b (counter_bytes 8 z ++ bytes_of 4 st.last) (bytes_of 4 st.issued) 403 415 w e₃ (omega arith) (omega arith)
 
-    pub put-chain : {b₁ b₂ b₃ b₄ : List ℕ} → length st.chain ≡ 8 → 447 ≤ length b → b₁ ≡ placed b 419 st.chain → b₂ ≡ placed b₁ 427 (bytes_of 8 st.length)
+    pub put_chain : {b₁ b₂ b₃ b₄ : List ℕ} → length st.chain ≡ 8 → 447 ≤ length b → b₁ ≡ placed b 419 st.chain → b₂ ≡ placed b₁ 427 (bytes_of 8 st.length)
         → b₃ ≡ placed b₂ 435 (bytes_of 4 st.since) → b₄ ≡ placed b₃ 439 (bytes_of 8 st.place) → b₄ ≡ overwrite b 419 chain_bytes
-    put-chain t h e₁ e₂ e₃ e₄ =
+    put_chain t h e₁ e₂ e₃ e₄ =
         let p₁ = st.chain in
         let p₂ = p₁ ++ bytes_of 8 st.length in
         let l₂ = length_bytes_of 8 st.length in
         let l₃ = length_bytes_of 4 st.since in
         let l₄ = length_bytes_of 8 st.place in
-        let l₅ = length-long t in
-        let l₆ = since-long t in
+        let l₅ = length_long t in
+        let l₆ = since_long t in
         let w₁ = both_placed b p₁ (bytes_of 8 st.length) 419 427 e₁ e₂ (omega arith) (omega arith) in
         let w₂ = then_placed b p₂ (bytes_of 4 st.since) 419 435 w₁ e₃ (omega arith) (omega arith) in
         then_placed b (p₂ ++ bytes_of 4 st.since) (bytes_of 8 st.place) 419 439 w₂ e₄ (omega arith) (omega arith)
 
-    pub put-state : {b₁ b₂ b₃ : List ℕ} → Lengths st → length b ≡ 447 → b₁ ≡ overwrite b 0 (register_bytes st) → b₂ ≡ overwrite b₁ 403 countsBytes
+    pub put_state : {b₁ b₂ b₃ : List ℕ} → Lengths st → length b ≡ 447 → b₁ ≡ overwrite b 0 (register_bytes st) → b₂ ≡ overwrite b₁ 403 counts_bytes
         → b₃ ≡ overwrite b₂ 419 chain_bytes → b₃ ≡ state_bytes st
     unfolding state_bytes
-    put-state t h e₁ e₂ e₃ =
+    put_state t h e₁ e₂ e₃ =
         let x = register_bytes st in
         let l₁ = length_register t in
         let l₂ = counts_long in
-        let l₃ : length (x ++ countsBytes) ≡ 419 = length-append x countsBytes ∙ omega arith in
-        let w = then b x countsBytes 0 403 e₁ e₂ (omega arith) (omega arith) in
-        then b (x ++ countsBytes) chain_bytes 0 419 w e₃ (omega arith) (omega arith)
-        ∙ ap (overwrite b 0) (append_assoc x countsBytes chain_bytes ∙ ap (λ (l : List ℕ). x ++ l) figures)
-        ∙ over_all b (state_bytes st) (length-state t ∙ sym h)
+        let l₃ : length (x ++ counts_bytes) ≡ 419 = length-append x counts_bytes ∙ omega arith in
+        let w = then b x counts_bytes 0 403 e₁ e₂ (omega arith) (omega arith) in
+        then b (x ++ counts_bytes) chain_bytes 0 419 w e₃ (omega arith) (omega arith)
+        ∙ ap (overwrite b 0) (append_assoc x counts_bytes chain_bytes ∙ ap (λ (l : List ℕ). x ++ l) figures)
+        ∙ over_all b (state_bytes st) (length_state t ∙ sym h)

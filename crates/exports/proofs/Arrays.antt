@@ -108,8 +108,8 @@ module _ {A : Type 0} (item : A → List Token) where
         back r [] q = tail_is (sym e ∙ q ∙ nil_following r)
         back r (x ∷ xs) q = other_mark (λ z. omega arith) (sym e ∙ q ∙ cons_following x xs r)
 
-    going-never : ((r : List Token) → (ts₁ ≡ mark 44 ∷ r → ⊥) × (ts₁ ≡ mark 93 ∷ r → ⊥)) → Never ts₀
-    going-never h = record { complete = λ ys r q. back r (follows ys r q).0 (follows ys r q).1 }
+    going_never : ((r : List Token) → (ts₁ ≡ mark 44 ∷ r → ⊥) × (ts₁ ≡ mark 93 ∷ r → ⊥)) → Never ts₀
+    going_never h = record { complete = λ ys r q. back r (follows ys r q).0 (follows ys r q).1 }
       where
         back : (r : List Token) (xs : List A) → ts₁ ≡ following item xs ++ r → ⊥
         back r [] q = (h _).1 (q ∙ nil_following r)
@@ -156,11 +156,11 @@ module _ {A : Type 0} (item : A → List Token) where
           onward = λ q. omega (arith, r.onward pos, f.onward q);
           more = λ m. ((f.more m).0, going_more g s.0 s.1 only (f.more m).1);
           ended = λ m q. going_end g s.0 s.1 only (f.ended m q);
-          none = λ m q. going-never g s.0 s.1 only (f.none m q);
+          none = λ m q. going_never g s.0 s.1 only (f.none m q);
         }
 
-    pub walk-falls : {d : Cursor} → (p ≡ 0 → ⊥) → Followed text p d → remains text d < remains text c
-    walk-falls {d} z f =
+    pub walk_falls : {d : Cursor} → (p ≡ 0 → ⊥) → Followed text p d → remains text d < remains text c
+    walk_falls {d} z f =
         let pos : 0 < p = omega (arith, z) in
         falls text c d e w.inside (λ m. omega (arith, r.onward pos, f.onward (f.more m).0)) f.inside
 

@@ -169,22 +169,22 @@ module _ (text out : List ℕ) (at : ℕ) where
   is_refused e = rw e
 
   module _ {d : Decoded} (q : d ≡ decode_answer Standard text out at) where
-    pub refused-bad : d ≡ Refused → false ≡ canonical text
-    refused-bad r = go (accepted Standard text) refl
+    pub refused_bad : d ≡ Refused → false ≡ canonical text
+    refused_bad r = go (accepted Standard text) refl
       where
         go : (t : Bool) → accepted Standard text ≡ t → false ≡ accepted Standard text
         go true e = absurd (not_refused e (sym r ∙ q))
         go false e = sym e
 
-    answered-good : (d ≡ Refused → ⊥) → true ≡ canonical text
-    answered-good r = go (accepted Standard text) refl
+    answered_good : (d ≡ Refused → ⊥) → true ≡ canonical text
+    answered_good r = go (accepted Standard text) refl
       where
         go : (t : Bool) → accepted Standard text ≡ t → true ≡ accepted Standard text
         go true e = sym e
         go false e = absurd (r (q ∙ is_refused e))
 
-    pub upto-good : {n : ℕ} → d ≡ Upto n → true ≡ canonical text
-    upto-good r = answered-good (λ s. let k : ◌≡◌ {A = ℕ} 0 1 = cc in omega arith)
+    pub upto_good : {n : ℕ} → d ≡ Upto n → true ≡ canonical text
+    upto_good r = answered_good (λ s. let k : ◌≡◌ {A = ℕ} 0 1 = cc in omega arith)
 
-    pub full-good : d ≡ NoRoom → true ≡ canonical text
-    full-good r = answered-good (λ s. let k : ◌≡◌ {A = ℕ} 0 1 = cc in omega arith)
+    pub full_good : d ≡ NoRoom → true ≡ canonical text
+    full_good r = answered_good (λ s. let k : ◌≡◌ {A = ℕ} 0 1 = cc in omega arith)

@@ -71,14 +71,14 @@ module _ {text : List ℕ} {start to at o : ℕ} {out₀ out : List ℕ} {l : Le
     below : to + length k.done < length out₀
     below = omega (arith, k.room, ap length more_left, length-append k.done (l.byte ∷ content (drop l.next text) 0))
 
-    pub copy-room : o < length out
-    copy-room = omega (arith, copy_long, below, k.place)
+    pub copy_room : o < length out
+    copy_room = omega (arith, copy_long, below, k.place)
 
-    pub copy-letters-at : LettersAt text l.next
-    copy-letters-at = (k.read.more e).1
+    pub copy_letters_at : LettersAt text l.next
+    copy_letters_at = (k.read.more e).1
 
     pub copy_falls : length text - l.next < length text - at
-    copy_falls = omega (arith, (k.read.more e).0, letters_inside text l.next copy-letters-at)
+    copy_falls = omega (arith, (k.read.more e).0, letters_inside text l.next copy_letters_at)
 
     pub copy_more : {m : Letter} → LetterRead text l.next m → Copying text start out₀ to (set out o l.byte) l.next (o + 1) m
     copy_more r =
@@ -87,7 +87,7 @@ module _ {text : List ℕ} {start to at o : ℕ} {out₀ out : List ℕ} {l : Le
           is = sym more_left ∙ sym (append_assoc k.done (l.byte ∷ []) (content (drop l.next text) 0));
           written = (λ i. set (k.written i) (k.place i) l.byte) ∙ over_snoc out₀ to k.done l.byte below;
           place = omega (arith, k.place, length-append k.done (l.byte ∷ []));
-          letters = copy-letters-at;
+          letters = copy_letters_at;
           room = k.room;
           read = r;
         }
@@ -143,8 +143,8 @@ module _ {A : Type 0} (item : A → List Token) where
   carry_start o s b = record { inside = b.inside; left = λ xs r q. ([], xs, refl, left_start item o b xs r q, begun_on xs r q b, s) }
 
   module _ {P : List A → Type 0} {text : List ℕ} {at : ℕ} {c : Cursor} (k : Carrying P text at c) where
-    pub carry-end : c.more ≡ false → (xs : List A) (r : List Token) → from text at ≡ array item xs ++ r → P xs × (at < c.at) × (from text c.at ≡ r)
-    carry-end e xs r s =
+    pub carry_end : c.more ≡ false → (xs : List A) (r : List Token) → from text at ≡ array item xs ++ r → P xs × (at < c.at) × (from text c.at ≡ r)
+    carry_end e xs r s =
         let l = k.left xs r s in
         let m = l.3.ended e in
         (subst P (sym (l.2 ∙ ap (λ (ys : List A). l.0 ++ ys) m.0 ∙ append-nil l.0)) l.5, l.4, m.1)
@@ -156,13 +156,13 @@ module _ {A : Type 0} (item : A → List Token) where
 
       -- n is the place after it
       module _ {n : ℕ} {d : Cursor} (b : c.at < n) (f : Followed text n d) where
-        pub carry-falls : remains text d < remains text c
-        carry-falls = falls text c d e k.inside (λ m. omega (arith, b, f.onward (f.more m).0)) f.inside
+        pub carry_falls : remains text d < remains text c
+        carry_falls = falls text c d e k.inside (λ m. omega (arith, b, f.onward (f.more m).0)) f.inside
 
-        pub carry-more : {Q : List A → Type 0}
+        pub carry_more : {Q : List A → Type 0}
             → ((x : A) (r : List Token) → from text c.at ≡ item x ++ r → (from text n ≡ r) × ((done : List A) → P done → Q (done ++ (x ∷ []))))
             → Carrying Q text at d
-        carry-more h =
+        carry_more h =
             record {
               inside = f.inside;
               left = λ xs r s.
@@ -213,13 +213,13 @@ module _ {out₀ out text : List ℕ} {p q : End} {at n : ℕ} {c : Cursor} (k :
         inside = k.carry.inside;
         long = k.long;
         is = λ ws r s.
-            let x = carry-end string k.carry m ws r s in
+            let x = carry_end string k.carry m ws r s in
             (puts_then (subst (λ (y : End). Puts false out₀ out₀ p₀ y []) (sym e) (puts_nothing false out₀ p₀)) x.0.0, x.0.1, x.1, x.2);
       }
 
   module _ {s : Part} (e : c.more ≡ true) (i : PartRead text c.at s) where
-    pub entries-refused : (p₀ : End) → s.next ≡ 0 → EntriesWritten text at out₀ out p₀ (record { end = q; count = n; next = 0 })
-    entries-refused p₀ z =
+    pub entries_refused : (p₀ : End) → s.next ≡ 0 → EntriesWritten text at out₀ out p₀ (record { end = q; count = n; next = 0 })
+    entries_refused p₀ z =
         record {
           inside = omega arith;
           long = k.long;
@@ -230,15 +230,15 @@ module _ {out₀ out text : List ℕ} {p q : End} {at n : ℕ} {c : Cursor} (k :
       beyond : c.at < s.next
       beyond = i.reads.onward (omega (arith, z))
 
-      pub entries-fall : remains text d < remains text c
-      entries-fall = carry-falls string k.carry e beyond f
+      pub entries_fall : remains text d < remains text c
+      entries_fall = carry_falls string k.carry e beyond f
 
       pub entries_next : {out' : List ℕ} {q' : End} → Puts false out out' q q' (entry_text (content (drop s.start text) 0)) → Entries out₀ p text at out' q' (n + 1) d
       entries_next u =
           record {
             long = u.long ∙ k.long;
             small = λ m. omega (arith, k.small e, beyond, f.onward (f.more m).0);
-            carry = carry-more string k.carry e beyond f
+            carry = carry_more string k.carry e beyond f
                 (λ w r s. (
                   (i.reads.complete w r s).1,
                   λ ws t. (
@@ -323,14 +323,14 @@ module _ {text out₀ out : List ℕ} {p q : End} {c : Cursor} (k : Pairing out�
       → (es : List Element) → Shape text es → n ≡ owner_named es → Puts false out₁ out start q (journal_of_elements es)
   unfolding journal_of_elements journal_spelled pairs_written from
   journal_put s m es x o =
-      let w = (carry-end written k.carry m x.order _ (k.group.is x.order (lexed x.spelled))).0 in
+      let w = (carry_end written k.carry m x.order _ (k.group.is x.order (lexed x.spelled))).0 in
       puts_is (λ i. owner_text ((ap owner_in o ∙ owner_is es) i) ++ pairs_spelled (map pair_of (x.same i))) (puts_then s w)
 
   -- the element at the cursor: a is the place of its receipts, and e the place after it
   module _ {a e : ℕ} {out' : List ℕ} {w : Wrote} (m : c.more ≡ true) (f : ReceiptsFound text c.at a) (u : PairWritten text a out out' q w) (t : ElementEnded text w.next e) where
-    pair-on : (x : Written) (r : List Token) → from text c.at ≡ written x ++ r
+    pair_on : (x : Written) (r : List Token) → from text c.at ≡ written x ++ r
         → (c.at < e) × (from text e ≡ r) × Puts false out out' q w.end (pair_spelled (pair_of x.element))
-    pair-on x r s =
+    pair_on x r s =
         let g = f.is x r s in
         let y = u.is x.element g.1 g.2 in
         let z = t.is g.1 r g.3 y.2 in
@@ -338,11 +338,11 @@ module _ {text out₀ out : List ℕ} {p q : End} {c : Cursor} (k : Pairing out�
 
     pub journal_refused {ℓ} : {X : Type ℓ} → e ≤ c.at → (es : List Element) → Shape text es → X
     unfolding from
-    journal_refused h es x = carry-out written k.carry m (λ w r s. omega (arith, h, (pair-on w r s).0)) x.order _ (k.group.is x.order (lexed x.spelled))
+    journal_refused h es x = carry-out written k.carry m (λ w r s. omega (arith, h, (pair_on w r s).0)) x.order _ (k.group.is x.order (lexed x.spelled))
 
     module _ {d : Cursor} (b : c.at < e) (g : Followed text e d) where
-      pub pairs-fall : remains text d < remains text c
-      pairs-fall = carry-falls written k.carry m b g
+      pub pairs_fall : remains text d < remains text c
+      pairs_fall = carry_falls written k.carry m b g
 
       pub pairs_next : Pairing out₀ p text out' w.end d
       pairs_next =
@@ -350,6 +350,6 @@ module _ {text out₀ out : List ℕ} {p q : End} {c : Cursor} (k : Pairing out�
             place = k.place;
             group = k.group;
             long = u.long ∙ k.long;
-            carry = carry-more written k.carry m b g
-                (λ x r s. let y = pair-on x r s in (y.1, λ ws v. puts_is (sym (pairs_more ws x)) (puts_then v y.2)));
+            carry = carry_more written k.carry m b g
+                (λ x r s. let y = pair_on x r s in (y.1, λ ws v. puts_is (sym (pairs_more ws x)) (puts_then v y.2)));
           }

@@ -103,23 +103,23 @@ module _ {text : List ℕ} {at : ℕ} {k : Key} (s : Seeking text at k) where
       go l (later m o a) n q = absurd (o (sym n ∙ z))
 
   module _ {e : ℕ} (v : ValueRead k.number text k.next e) where
-    pub seek-no-value : e ≡ 0 → ReceiptsFound text at 0
-    seek-no-value z = found_none (λ w rest q. let x = s.keys w rest q in omega (arith, (value_ends v x.member x.tail x.number x.stands).0))
+    pub seek_no_value : e ≡ 0 → ReceiptsFound text at 0
+    seek_no_value z = found_none (λ w rest q. let x = s.keys w rest q in omega (arith, (value_ends v x.member x.tail x.number x.stands).0))
 
     module _ (z : e ≡ 0 → ⊥) {d : Key} (r : MemberKeyed text e 44 d) where
       up : k.next < e
       up = v.onward (omega (arith, z))
 
-      pub seek-falls : (k.number ≡ 0 → ⊥) → remains text d < remains text k
-      seek-falls n = rw (ne_eqb k.number 0 n) (go (eqb d.number 0) refl)
+      pub seek_falls : (k.number ≡ 0 → ⊥) → remains text d < remains text k
+      seek_falls n = rw (ne_eqb k.number 0 n) (go (eqb d.number 0) refl)
         where
           go : (b : Bool) → eqb d.number 0 ≡ b → cond b 0 (suc (length text) - d.next) < suc (length text) - k.next
           go true i = omega (arith, s.inside)
           go false i = omega (arith, up, r.inside, r.onward (omega (arith, eqb-false d.number 0 i)))
 
-      pub seek-more : (k.number ≡ 3 → ⊥) → Seeking text at d
+      pub seek_more : (k.number ≡ 3 → ⊥) → Seeking text at d
       unfolding number_of
-      seek-more n = record { inside = r.inside; keys = λ w rest q. next (s.keys w rest q) }
+      seek_more n = record { inside = r.inside; keys = λ w rest q. next (s.keys w rest q) }
         where
           next : {ws : List (List ℕ)} {rest : List Token} → Keys text at k ws rest → Keys text at d ws rest
           next {ws} {rest} x = go x.ahead x.number (value_ends v x.member x.tail x.number x.stands).1

@@ -134,8 +134,8 @@ module _ (coded : Bool) where
 
     module _ (more : i < count) {e : ℕ} (r : SizedRead j a e) where
       -- a text is missing
-      pub copies-cut : e ≡ 0 → (start : End) → StringsPut d coded j from count out₀ out start (record { end = end; at = a })
-      copies-cut z start = record {
+      pub copies_cut : e ≡ 0 → (start : End) → StringsPut d coded j from count out₀ out start (record { end = end; at = a })
+      copies_cut z start = record {
         long = t.long;
         is = λ ws rest h l q.
             let n = next more (drop a j) ws rest (t.is ws rest h l q) in
@@ -144,9 +144,9 @@ module _ (coded : Bool) where
       }
 
       -- one more is copied
-      pub copies-more : {out₁ : List ℕ} {end₁ : End} → Puts d out out₁ end end₁ (comma (ltb 0 i) ++ quoted (spelling coded (take (e - (a + 2)) (drop (a + 2) j))))
+      pub copies_more : {out₁ : List ℕ} {end₁ : End} → Puts d out out₁ end end₁ (comma (ltb 0 i) ++ quoted (spelling coded (take (e - (a + 2)) (drop (a + 2) j))))
           → Copies d j from count out₀ p out₁ end₁ e (i + 1)
-      copies-more {out₁} {end₁} w = record {
+      copies_more {out₁} {end₁} w = record {
         few = omega arith;
         long = w.long ∙ t.long;
         is = λ ws rest h l q.

@@ -80,28 +80,28 @@ module _ {text : List ℕ} {p : ℕ} (r : Reads (one 123) text 0 p) where
   shape_no_1 z = no_shape (λ ws q. omega (arith, (step_1 ws q).0))
 
   module _ {k : Key} (d : Keyed text p k) where
-    step-2 : (ws : List Written) → from text 0 ≡ document ws → (k.number ≡ 4) × (from text k.next ≡ array written ws ++ (mark 125 ∷ []))
-    step-2 ws q =
+    step_2 : (ws : List Written) → from text 0 ≡ document ws → (k.number ≡ 4) × (from text k.next ≡ array written ws ++ (mark 125 ∷ []))
+    step_2 ws q =
         let c = d.complete group_name _ (step_1 ws q).1 in
         let n : k.number ≡ 4 = c.0 ∙ group_is in
         (n, c.1 (omega arith))
 
-    pub shape-no-2 : (k.number ≡ 4 → ⊥) → (false ≡ true) ↔ Shaped text
-    shape-no-2 n = no_shape (λ ws q. n (step-2 ws q).0)
+    pub shape_no_2 : (k.number ≡ 4 → ⊥) → (false ≡ true) ↔ Shaped text
+    shape_no_2 n = no_shape (λ ws q. n (step_2 ws q).0)
 
     module _ {e : ℕ} (a : Reads (array written) text k.next e) where
-      step-3 : (ws : List Written) → from text 0 ≡ document ws → (0 < e) × (from text e ≡ mark 125 ∷ [])
-      step-3 ws q = a.complete ws _ (step-2 ws q).1
+      step_3 : (ws : List Written) → from text 0 ≡ document ws → (0 < e) × (from text e ≡ mark 125 ∷ [])
+      step_3 ws q = a.complete ws _ (step_2 ws q).1
 
-      pub shape-no-3 : e ≡ 0 → (false ≡ true) ↔ Shaped text
-      shape-no-3 z = no_shape (λ ws q. omega (arith, (step-3 ws q).0))
+      pub shape_no_3 : e ≡ 0 → (false ≡ true) ↔ Shaped text
+      shape_no_3 z = no_shape (λ ws q. omega (arith, (step_3 ws q).0))
 
       module _ {f : ℕ} (b : Reads (one 125) text e f) where
-        step-4 : (ws : List Written) → from text 0 ≡ document ws → (0 < f) × (from text f ≡ [])
-        step-4 ws q = b.complete tt _ (step-3 ws q).1
+        step_4 : (ws : List Written) → from text 0 ≡ document ws → (0 < f) × (from text f ≡ [])
+        step_4 ws q = b.complete tt _ (step_3 ws q).1
 
-        pub shape-no-4 : f ≡ 0 → (false ≡ true) ↔ Shaped text
-        shape-no-4 z = no_shape (λ ws q. omega (arith, (step-4 ws q).0))
+        pub shape_no_4 : f ≡ 0 → (false ≡ true) ↔ Shaped text
+        shape_no_4 z = no_shape (λ ws q. omega (arith, (step_4 ws q).0))
 
         module _ {t : Found} (l : Next text f t) (np : p ≡ 0 → ⊥) (nk : k.number ≡ 4) (ne : e ≡ 0 → ⊥) (nf : f ≡ 0 → ⊥) where
           -- the text, where nothing follows
@@ -122,9 +122,9 @@ module _ {text : List ℕ} {p : ℕ} (r : Reads (one 123) text 0 p) where
                     ∙ ap (λ (x : List Token). array written g.0 ++ x) ((b.sound n).1 ∙ ap (λ (x : List Token). mark 125 ∷ x) (l.ended z)))),
               )
 
-          pub shape-last : (eqb t.kind 0 ≡ true) ↔ Shaped text
+          pub shape_last : (eqb t.kind 0 ≡ true) ↔ Shaped text
           unfolding from
-          shape-last = (forth, λ s. back s.shape.order (lexed s.shape.spelled))
+          shape_last = (forth, λ s. back s.shape.order (lexed s.shape.spelled))
             where
               forth : eqb t.kind 0 ≡ true → Shaped text
               forth q =
@@ -137,4 +137,4 @@ module _ {text : List ℕ} {p : ℕ} (r : Reads (one 123) text 0 p) where
                 where
                   go : (n : ℕ) → t.kind ≡ n → t.kind ≡ 0
                   go zero z = z
-                  go (suc n) z = nil_cons (sym (step-4 ws q).1 ∙ (l.is (omega arith)).1)
+                  go (suc n) z = nil_cons (sym (step_4 ws q).1 ∙ (l.is (omega arith)).1)

@@ -99,9 +99,9 @@ module _ (b : ℕ) (f : Foreign b) where
         sym inner ∙ sym (ap (λ (x : Bool). x || holds b (part 21 k t ++ (46 ∷ drop (k + 1) t))) f.first)
         ∙ sym (holds_append b first_element (part 21 k t ++ (46 ∷ drop (k + 1) t))) ∙ ap (holds b) (sym q) ∙ h
 
-    pub no-form : parts_of_form t ≡ none
+    pub no_form : parts_of_form t ≡ none
     unfolding parts_of_form
-    no-form = go (ltb (second_dot t) (length t)) refl
+    no_form = go (ltb (second_dot t) (length t)) refl
       where
         inner : (x y : Bool) → holds b (part 21 (second_dot t) t) ≡ x → holds b (drop (second_dot t + 1) t) ≡ y → x || y ≡ true
             → good_parts (decoding UrlSafe (part 21 (second_dot t) t)) (decoding UrlSafe (drop (second_dot t + 1) t)) ≡ none
@@ -116,17 +116,17 @@ module _ (b : ℕ) (f : Foreign b) where
 
     -- ---- and no such text is an entry
 
-    none-ok : no_entry.ok ≡ false
+    none_ok : no_entry.ok ≡ false
     unfolding no_entry
-    none-ok = refl
+    none_ok = refl
 
-    no-entry : (st : State) → (found st t).ok ≡ false
+    no_entry_lem : (st : State) → (found st t).ok ≡ false
     unfolding found read_entry
-    no-entry st = rw no-form none-ok
+    no_entry_lem st = rw no_form none_ok
 
     sixteen : (k : List (List ℕ)) (st : State) → text_number k st t ≡ 16
     unfolding text_number
-    sixteen k st = ask_no 16 (context_number k st (found st t).entry.fields) (no-entry st)
+    sixteen k st = ask_no 16 (context_number k st (found st t).entry.fields) (no_entry_lem st)
 
     pub not_entry : (k : List (List ℕ)) (st : State) → entry_checked k st t ≡ cond (entry_ready st t) (stopped 16 st) (stopped 6 st)
     unfolding entry_checked text_checked checked

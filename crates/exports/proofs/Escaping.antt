@@ -169,34 +169,34 @@ unfolding ascii
 escape_exactly = record { same = λ a b es. (to a b es, from a b es); only = only }
   where
     -- a "=" in a string, written as the escape
-    to-escape : {t c rest : List ℕ} → Inside t c rest → (b : List ℕ) → t ≡ 61 ∷ b → Inside (92 ∷ 117 ∷ 48 ∷ 48 ∷ 51 ∷ 100 ∷ b) c rest
-    to-escape close b e = let z : ◌≡◌ {A = ℕ} 34 61 = cc in absurd (omega (arith, z))
-    to-escape (letter {b = y} {text} {content} {rest} h p) b e =
+    to_escape : {t c rest : List ℕ} → Inside t c rest → (b : List ℕ) → t ≡ 61 ∷ b → Inside (92 ∷ 117 ∷ 48 ∷ 48 ∷ 51 ∷ 100 ∷ b) c rest
+    to_escape close b e = let z : ◌≡◌ {A = ℕ} 34 61 = cc in absurd (omega (arith, z))
+    to_escape (letter {b = y} {text} {content} {rest} h p) b e =
         let z : 61 ≡ y = cc in
         let r : text ≡ b = cc in
         subst (λ (k : ℕ). Inside (92 ∷ 117 ∷ 48 ∷ 48 ∷ 51 ∷ 100 ∷ b) (k ∷ content) rest) z (escape (subst (λ (l : List ℕ). Inside l content rest) r p))
-    to-escape (escape p) b e = let z : ◌≡◌ {A = ℕ} 92 61 = cc in absurd (omega (arith, z))
+    to_escape (escape p) b e = let z : ◌≡◌ {A = ℕ} 92 61 = cc in absurd (omega (arith, z))
 
     -- after a backslash stand the other five, and the six spell "="
-    of-backslash : {t c rest : List ℕ} → Inside t c rest → (b : List ℕ) → t ≡ 92 ∷ b
+    of_backslash : {t c rest : List ℕ} → Inside t c rest → (b : List ℕ) → t ≡ 92 ∷ b
         → (more : List ℕ) × (b ≡ 117 ∷ 48 ∷ 48 ∷ 51 ∷ 100 ∷ more) × Inside (61 ∷ more) c rest
-    of-backslash close b e = let z : ◌≡◌ {A = ℕ} 34 92 = cc in absurd (omega (arith, z))
-    of-backslash (letter {b = y} h p) b e =
+    of_backslash close b e = let z : ◌≡◌ {A = ℕ} 34 92 = cc in absurd (omega (arith, z))
+    of_backslash (letter {b = y} h p) b e =
         let z : y ≡ 92 = cc in
         true-is-not-false (sym backslash_no_letter ∙ subst (λ (k : ℕ). plain k ≡ true) z h)
-    of-backslash (escape {text} {content} {rest} p) b e =
+    of_backslash (escape {text} {content} {rest} p) b e =
         let r : b ≡ 117 ∷ 48 ∷ 48 ∷ 51 ∷ 100 ∷ text = cc in
         (text, r, letter equals_letter p)
 
     to : (a b : List ℕ) (es : List Element) → Shape (a ++ (ascii "=" ++ b)) es → Shape (a ++ (ascii "\\u003d" ++ b)) es
     to a b es s =
         let p = find 61 b equals_inner s.spelled a refl in
-        record { order = s.order; same = s.same; spelled = p.back (92 ∷ 117 ∷ 48 ∷ 48 ∷ 51 ∷ 100 ∷ b) (to-escape p.here b refl) }
+        record { order = s.order; same = s.same; spelled = p.back (92 ∷ 117 ∷ 48 ∷ 48 ∷ 51 ∷ 100 ∷ b) (to_escape p.here b refl) }
 
     from : (a b : List ℕ) (es : List Element) → Shape (a ++ (ascii "\\u003d" ++ b)) es → Shape (a ++ (ascii "=" ++ b)) es
     from a b es s =
         let p = find 92 (117 ∷ 48 ∷ 48 ∷ 51 ∷ 100 ∷ b) backslash_inner s.spelled a refl in
-        let q = of-backslash p.here (117 ∷ 48 ∷ 48 ∷ 51 ∷ 100 ∷ b) refl in
+        let q = of_backslash p.here (117 ∷ 48 ∷ 48 ∷ 51 ∷ 100 ∷ b) refl in
         let r : q.0 ≡ b = tail_of q.0 b (sym q.1) in
         record { order = s.order; same = s.same; spelled = p.back (61 ∷ b) (subst (λ (l : List ℕ). Inside (61 ∷ l) p.content p.rest) r q.2) }
       where
@@ -206,5 +206,5 @@ escape_exactly = record { same = λ a b es. (to a b es, from a b es); only = onl
     only : (a b : List ℕ) (es : List Element) → Shape (a ++ (ascii "\\" ++ b)) es → (rest : List ℕ) × (b ≡ ascii "u003d" ++ rest)
     only a b es s =
         let p = find 92 b backslash_inner s.spelled a refl in
-        let q = of-backslash p.here b refl in
+        let q = of_backslash p.here b refl in
         (q.0, q.1)

@@ -59,8 +59,8 @@ module _ {j key : List ℕ} {n : ℕ} (v : Valid j key n) where
     text = export_text (elements_for (pairs_of j) t.groups)
 
     -- what a run writes or measures
-    pub run-puts : (d : Bool) (out out' : List ℕ) (r : End) → ExportPut d j s (length (pairs_of j)) out out' r → Puts d out out' start r (export_text (elements_for (pairs_of j) t.groups))
-    run-puts d out out' r x =
+    pub run_puts : (d : Bool) (out out' : List ℕ) (r : End) → ExportPut d j s (length (pairs_of j)) out out' r → Puts d out out' start r (export_text (elements_for (pairs_of j) t.groups))
+    run_puts d out out' r x =
         let ps = map (text_pair v.owner n) v.pairs in
         let e = valid_spelled v in
         x.is (pairs_of j) t.groups (subst GoodPairs (sym (valid_pairs v)) (valid_good v)) t.good refl t.count
@@ -130,9 +130,9 @@ module _ (j key : List ℕ) (n : ℕ) (s out : List ℕ) where
 
       module _ {g : Bool} (f : (g ≡ true) ↔ GroupsThere k s) where
         -- 28
-        pub export-other : not g ≡ true
+        pub export_other : not g ≡ true
             → (◌≡◌ {A = Exported} (record { number = 28; index = 0; length = 0 }) (exported j key n s out)) × (out ≡ export_buffer j key n s out)
-        export-other h =
+        export_other h =
             let no_groups : GroupsThere (length (pairs_of j)) s → ⊥ =
             λ x. true-is-not-false (sym (not-true g h) ∙ f.1 (subst (λ (m : ℕ). GroupsThere m s) (sym many) x)) in
             let q = text_none valid s no_groups in
@@ -151,23 +151,23 @@ module _ (j key : List ℕ) (n : ℕ) (s out : List ℕ) where
 
           measured : Puts true out out₁ start r whole
           unfolding whole
-          measured = run-puts valid s groups true out out₁ r (subst (λ (m : ℕ). ExportPut true j s m out out₁ r) many first)
+          measured = run_puts valid s groups true out out₁ r (subst (λ (m : ℕ). ExportPut true j s m out out₁ r) many first)
 
           -- 23
-          pub export-full : not r.fits ≡ true
+          pub export_full : not r.fits ≡ true
               → (◌≡◌ {A = Exported} (record { number = 23; index = 0; length = 0 }) (exported j key n s out)) × (out₁ ≡ export_buffer j key n s out)
-          export-full l =
+          export_full l =
               let c = no_run measured (not-true r.fits l) in (
                 sym (answer_is (some whole) text_some ∙ ap answered (written_full out whole c)),
                 measured.kept refl ∙ sym (buffer_is (some whole) text_some ∙ placed_no out whole c),
               )
 
           -- written
-          pub export-written : not r.fits ≡ false → {out₂ : List ℕ} {r₂ : End} → ExportPut false j s k out₁ out₂ r₂
+          pub export_written : not r.fits ≡ false → {out₂ : List ℕ} {r₂ : End} → ExportPut false j s k out₁ out₂ r₂
               → (◌≡◌ {A = Exported} (record { number = 0; index = 0; length = r.at }) (exported j key n s out)) × (out₂ ≡ export_buffer j key n s out)
           unfolding whole
-          export-written l {out₂} {r₂} second =
-              let w = two_runs measured (not-false r.fits l) (run-puts valid s groups false out₁ out₂ r₂ (subst (λ (m : ℕ). ExportPut false j s m out₁ out₂ r₂) many second)) in (
+          export_written l {out₂} {r₂} second =
+              let w = two_runs measured (not-false r.fits l) (run_puts valid s groups false out₁ out₂ r₂ (subst (λ (m : ℕ). ExportPut false j s m out₁ out₂ r₂) many second)) in (
                 ap (λ (m : ℕ). record { number = 0; index = 0; length = m }) w.at ∙ sym (answer_is (some whole) text_some ∙ ap answered (written_room out whole w.room)),
                 w.is ∙ sym (buffer_is (some whole) text_some ∙ placed_yes out whole w.room),
               )

@@ -26,7 +26,7 @@ use Rattle.exports.specs.Running.{StringsPut, SigningPut, GroupPut, FourRead, Se
 use Rattle.exports.specs.declared.output.End.{End}
 use Rattle.exports.specs.declared.writing.Copied.{Copied}
 use Rattle.exports.proofs.Putting.{puts_then, puts_is, puts_nothing, puts_still}
-use Rattle.exports.proofs.Sized.{every_head, every_tail, sized_cons, all, good_texts, group_room, group-many, group-tail, groups_cons}
+use Rattle.exports.proofs.Sized.{every_head, every_tail, sized_cons, all, good_texts, group_room, group_many, group_tail, groups_cons}
 use Rattle.exports.proofs.PairsBack.{pair_open, pair_end, pair_count, pair_entries, pairs_cons}
 use Rattle.exports.proofs.Copying.{piece_is, whole_more, listed_nil, spelling_coded, spellings_coded, spellings_plain}
 
@@ -43,9 +43,9 @@ module _ {d : Bool} {out out₁ : List ℕ} {p a : End} where
   -- ---- the certificate that signs
 
   module _ (more : Bool) (s : List ℕ) (at : ℕ) {e : ℕ} (r : SizedRead s at e) where
-    pub signing-put : {out₂ out₃ : List ℕ} {b c : End} → Puts d out out₁ p a (comma more) → Puts d out₁ out₂ a b before_certificate
+    pub signing_put : {out₂ out₃ : List ℕ} {b c : End} → Puts d out out₁ p a (comma more) → Puts d out₁ out₂ a b before_certificate
         → Puts d out₂ out₃ b c (comma false ++ quoted (spelling true (take (e - (at + 2)) (drop (at + 2) s)))) → SigningPut d more s at out out₃ p (record { end = c; at = e })
-    signing-put x y z = record {
+    signing_put x y z = record {
       long = z.long ∙ y.long ∙ x.long;
       is = λ w rest h q.
           let f = r.complete w rest h q in
@@ -67,19 +67,19 @@ module _ (d more : Bool) (s : List ℕ) (at : ℕ) (out : List ℕ) (p : End) wh
   group_none h r = record { long = refl; is = λ g rest e q. absurd (omega (arith, group_room s at g rest q)) }
 
   module _ (h : at < length s) where
-    pub group-zero : get_or s at 0 ≡ 0 → (r : Copied) → GroupPut d more s at out out p r
-    group-zero z r = record { long = refl; is = λ g rest e q. absurd (omega (arith, z, group-many s at h g rest q)) }
+    pub group_zero : get_or s at 0 ≡ 0 → (r : Copied) → GroupPut d more s at out out p r
+    group_zero z r = record { long = refl; is = λ g rest e q. absurd (omega (arith, z, group_many s at h g rest q)) }
 
-    pub group-put : {out₁ out₂ out₃ out₄ : List ℕ} {sg : Copied} {b : End} {t : Copied} {e : End} → SigningPut d more s (at + 1) out out₁ p sg
+    pub group_put : {out₁ out₂ out₃ out₄ : List ℕ} {sg : Copied} {b : End} {t : Copied} {e : End} → SigningPut d more s (at + 1) out out₁ p sg
         → Puts d out₁ out₂ sg.end b before_issuers → StringsPut d true s sg.at (get_or s at 0 - 1) out₂ out₃ b t → Puts d out₃ out₄ t.end e before_receipts
         → GroupPut d more s at out out₄ p (record { end = e; at = t.at })
-    group-put {out₁} {out₂} {out₃} {out₄} {sg} {b} {t} {e} x y z v = record {
+    group_put {out₁} {out₂} {out₃} {out₄} {sg} {b} {t} {e} x y z v = record {
       long = v.long ∙ z.long ∙ y.long ∙ x.long;
       is = λ g rest good q.
           let k = good_texts g good in
-          let m = group-many s at h g rest q in
+          let m = group_many s at h g rest q in
           let l : drop (at + 1) s ≡ entry_text g.certificate ++ (sized_texts g.issuers ++ rest) =
-          group-tail s at h g rest q ∙ ap (λ (u : List ℕ). u ++ rest) (sized_cons g.certificate g.issuers) ∙ append_assoc (entry_text g.certificate) (sized_texts g.issuers) rest in
+          group_tail s at h g rest q ∙ ap (λ (u : List ℕ). u ++ rest) (sized_cons g.certificate g.issuers) ∙ append_assoc (entry_text g.certificate) (sized_texts g.issuers) rest in
           let f = x.is g.certificate (sized_texts g.issuers ++ rest) (every_head short g.certificate g.issuers k) l in
           let i = z.is g.issuers rest (every_tail short g.certificate g.issuers k) (omega (arith, m)) f.1 in
           (puts_is (part_is more (in_base64 g.certificate) (map in_base64 g.issuers)) (puts_then (puts_then (puts_then f.0 y) (puts_is (ap (listed quoted false) (spellings_coded g.issuers)) i.0)) v), i.1);
@@ -99,13 +99,13 @@ module _ (j : List ℕ) (at : ℕ) where
   section_short h = record { inside = omega arith; is = λ k. absurd (omega (arith, k)) }
 
   module _ {v : ℕ} (f : FourRead j at v) (h : at + 4 ≤ length j) where
-    pub section-cut : length j < at + 4 + v → SectionRead j at 0
+    pub section_cut : length j < at + 4 + v → SectionRead j at 0
     unfolding section_end
-    section-cut l = record { inside = omega arith; is = λ k. absurd (omega (arith, k, f.is h)) }
+    section_cut l = record { inside = omega arith; is = λ k. absurd (omega (arith, k, f.is h)) }
 
-    pub section-whole : at + 4 + v ≤ length j → SectionRead j at (at + 4 + v)
+    pub section_whole : at + 4 + v ≤ length j → SectionRead j at (at + 4 + v)
     unfolding section_end
-    section-whole l = record { inside = l; is = λ k. ap (λ (n : ℕ). at + 4 + n) (f.is h) }
+    section_whole l = record { inside = l; is = λ k. ap (λ (n : ℕ). at + 4 + n) (f.is h) }
 
 -- ---- a pair
 

@@ -44,7 +44,7 @@ use Rattle.exports.proofs.NamedExactly.{first_receipt_exactly}
 use Rattle.exports.proofs.Plainly.{PlainElement, AllPlain, shape_plain, plain_bytes}
 use Rattle.exports.proofs.RoomEnough.{some_element}
 use Rattle.exports.proofs.GroupsBack.{groups_exactly, one_list_of_groups}
-use Rattle.exports.proofs.ReadBack.{exported-taken, exported-refused, restored_is}
+use Rattle.exports.proofs.ReadBack.{exported_taken, exported_refused, restored_is}
 use Rattle.exports.proofs.Promising.{written_exactly}
 
 -- ---- at each place of a list
@@ -533,8 +533,8 @@ module _ (j certificates out : List ℕ) where
   one_list : (gs hs : List Group) → GroupsFor j certificates gs → GroupsFor j certificates hs → gs ≡ hs
   one_list gs hs g h = one_list_of_groups gs hs (groups_good gs g.fit) (groups_good hs h.fit) (sym g.bytes ∙ h.bytes)
 
-  abbrev groupRow : Row
-  groupRow =
+  abbrev group_row : Row
+  group_row =
       question ((gs : List Group) × GroupsFor j certificates gs) 28
       (question ((gs : List Group) → GroupsFor j certificates gs → length (export_text (elements_for (pairs_of j) gs)) ≤ length out) 23 asked_all)
 
@@ -562,12 +562,12 @@ module _ (j certificates out : List ℕ) where
           (λ h. sym q ∙ le-leb (0 + length (export_text (elements_for (pairs_of j) gs))) (length out) (omega (arith, h gs g))) (λ h. gives_none)
 
   -- "then comes 28 for any other buffer, then 23"
-  groups_give : GivesFirstNo (answer_with 28 (export_of j certificates) out).number groupRow
+  groups_give : GivesFirstNo (answer_with 28 (export_of j certificates) out).number group_row
   unfolding ask
   groups_give = go groups_found
     where
       go : Found (export_of j certificates) ⊎ ((export_of j certificates ≡ none) × ((gs : List Group) → GroupsFor j certificates gs → ⊥))
-          → GivesFirstNo (answer_with 28 (export_of j certificates) out).number groupRow
+          → GivesFirstNo (answer_with 28 (export_of j certificates) out).number group_row
       go (inl f) =
           gives_same _ (ap (λ (o : Option (List ℕ)). (answer_with 28 o out).number) f.text)
           (gives_ask true 27 (written out (export_text (elements_for (pairs_of j) f.groups))).number _ _ (λ e. (f.groups, f.are)) (λ q. refl) (λ q. room_gives f.groups f.are))
@@ -580,7 +580,7 @@ gives_first : (m x : ℕ) (row : Row) → (m ≡ 0 → GivesFirstNo x row) → G
 gives_first m x row h = gives_then m x (question (m ≡ 0) m asked_all) row (gives_number m) (λ y. h y.0)
 
 pub writing_answers : WritingAnswers
-writing_answers = record { number = number; refused = exported-refused; index = index; written = done }
+writing_answers = record { number = number; refused = exported_refused; index = index; written = done }
   where
     number_is : (j key : List ℕ) (n : ℕ) (certificates out : List ℕ)
         → (exported j key n certificates out).number ≡ ifZero (take_over j key n).number (answer_with 28 (export_of j certificates) out).number (take_over j key n).number
@@ -588,10 +588,10 @@ writing_answers = record { number = number; refused = exported-refused; index = 
       where
         go : (m : ℕ) → (take_over j key n).number ≡ m
             → (exported j key n certificates out).number ≡ ifZero (take_over j key n).number (answer_with 28 (export_of j certificates) out).number (take_over j key n).number
-        go zero q = ap (λ (x : Exported). x.number) (exported-taken j key n certificates out q) ∙ sym (ifZero-yes _ _ q)
+        go zero q = ap (λ (x : Exported). x.number) (exported_taken j key n certificates out q) ∙ sym (ifZero-yes _ _ q)
         go (suc m) q =
             let z : (take_over j key n).number ≡ 0 → ⊥ = λ z. omega (arith, z, q) in
-            ap (λ (x : Exported). x.number) (exported-refused j key n certificates out z) ∙ sym (ifZero-no (take_over j key n).number _ _ z)
+            ap (λ (x : Exported). x.number) (exported_refused j key n certificates out z) ∙ sym (ifZero-no (take_over j key n).number _ _ z)
 
     number : (j key : List ℕ) (n : ℕ) (certificates out : List ℕ)
         → GivesFirstNo (exported j key n certificates out).number (questions_of_writing j certificates out (take_over j key n))
@@ -599,7 +599,7 @@ writing_answers = record { number = number; refused = exported-refused; index = 
         gives_same _ (number_is j key n certificates out) (gives_first (take_over j key n).number (answer_with 28 (export_of j certificates) out).number _ (λ z. groups_give j certificates out))
 
     index : (j key : List ℕ) (n : ℕ) (certificates out : List ℕ) → (take_over j key n).number ≡ 0 → (exported j key n certificates out).index ≡ 0
-    index j key n certificates out z = ap (λ (x : Exported). x.index) (exported-taken j key n certificates out z)
+    index j key n certificates out z = ap (λ (x : Exported). x.index) (exported_taken j key n certificates out z)
 
     done : (j key : List ℕ) (n : ℕ) (certificates out : List ℕ) (gs : List Group) → GroupsFor j certificates gs
         → AllYes (questions_of_writing j certificates out (take_over j key n))

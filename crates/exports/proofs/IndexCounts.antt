@@ -282,9 +282,9 @@ module _ (e : Element) (es : List Element) (key : List ℕ) (n : ℕ) (width : w
         ap (map pair_of) p
         ∙ (pairs_append before (x ∷ after) ∙ ap (λ (q : TextPair). map pair_of before ++ (q ∷ map pair_of after)) (pair_is x))
 
-    good-pairs : GoodParts o (map pair_of before ++ (pair_with serial x.receipts ∷ map pair_of after))
+    good_pairs : GoodParts o (map pair_of before ++ (pair_with serial x.receipts ∷ map pair_of after))
     unfolding o
-    good-pairs = subst (GoodParts o) pairs_are g
+    good_pairs = subst (GoodParts o) pairs_are g
 
     start_is : fresh (settings_for o (serial_in before serial)) n key ≡ start
     unfolding start serial
@@ -300,7 +300,7 @@ module _ (e : Element) (es : List Element) (key : List ℕ) (n : ℕ) (width : w
         ap (λ (j : List ℕ). take_over j key n) (up_to_is o before x ws)
         ∙ (taken_then o key n width before (pair_with serial ws)
         (parts_cut o (map pair_of before) serial ws left (map pair_of after)
-        (subst (λ (l : List (List ℕ)). GoodParts o (map pair_of before ++ (pair_with serial l ∷ map pair_of after))) q good-pairs))
+        (subst (λ (l : List (List ℕ)). GoodParts o (map pair_of before ++ (pair_with serial l ∷ map pair_of after))) q good_pairs))
         ∙ ap (λ (st : State). last_answer (run_pairs k true st (map pair_of before ++ (pair_with serial ws ∷ [])))) start_is)
 
     -- what follows a refused place does not matter
@@ -352,23 +352,23 @@ module _ (e : Element) (es : List Element) (key : List ℕ) (n : ℕ) (width : w
     name : Name
     name = (settings_of r.element).serial
 
-    start-issued : start.issued ≡ 0
+    start_issued : start.issued ≡ 0
     unfolding start fresh
-    start-issued = refl
+    start_issued = refl
 
-    middle-issued : middle.issued ≡ receipt_count r.before
+    middle_issued : middle.issued ≡ receipt_count r.before
     unfolding middle
-    middle-issued = omega (arith, pairs_issued k r.before true start r.passed, start-issued)
+    middle_issued = omega (arith, pairs_issued k r.before true start r.passed, start_issued)
 
     whole_is : whole ≡ run_pair k first middle (pair_with name r.element.receipts)
     unfolding whole first middle name
     whole_is = r.is ∙ ap (run_pair k first middle) (pair_is r.element)
 
     -- with some of the receipts of the element
-    first-of-it : (ws left : List (List ℕ)) → r.element.receipts ≡ ws ++ left
+    first_of_it : (ws left : List (List ℕ)) → r.element.receipts ≡ ws ++ left
         → take_over (journal_up_to (owner_of (e ∷ es)) r.before r.element ws) key n ≡ last_answer (run_pair k first middle (pair_with name ws))
     unfolding first middle name serial
-    first-of-it ws left q =
+    first_of_it ws left q =
         up_to r.before r.element r.after r.parts ws left q
         ∙ ap last_answer (pair_last k (map pair_of r.before) true start (pair_with name ws) r.passed)
 
@@ -383,23 +383,23 @@ module _ (e : Element) (es : List Element) (key : List ℕ) (n : ℕ) (width : w
       done : Step
       done = run_texts k c.base t.done
 
-      done-issued : done.state.issued ≡ receipt_count r.before + length t.done
+      done_issued : done.state.issued ≡ receipt_count r.before + length t.done
       unfolding done
-      done-issued = omega (arith, texts_issued k t.done c.base t.passed, c.issued, middle-issued)
+      done_issued = omega (arith, texts_issued k t.done c.base t.passed, c.issued, middle_issued)
 
-      index-done : done.state.issued ≡ answer.index
+      index_done : done.state.issued ≡ answer.index
       unfolding done
-      index-done = ap (λ (s : State). s.issued) (sym t.state) ∙ (ap (λ (s : Step). s.state.issued) (sym texts_are) ∙ sym index_is)
+      index_done = ap (λ (s : State). s.issued) (sym t.state) ∙ (ap (λ (s : Step). s.state.issued) (sym texts_are) ∙ sym index_is)
 
       one_more : r.element.receipts ≡ (t.done ++ (t.text ∷ [])) ++ t.left
       one_more = t.parts ∙ sym (append_assoc t.done (t.text ∷ []) t.left)
 
-      before-it : take_over (journal_up_to (owner_of (e ∷ es)) r.before r.element t.done) key n ≡ accepted done.state
+      before_it : take_over (journal_up_to (owner_of (e ∷ es)) r.before r.element t.done) key n ≡ accepted done.state
       unfolding done
-      before-it = first-of-it t.done (t.text ∷ t.left) t.parts ∙ (ap last_answer (c.run t.done) ∙ answer_yes done t.passed)
+      before_it = first_of_it t.done (t.text ∷ t.left) t.parts ∙ (ap last_answer (c.run t.done) ∙ answer_yes done t.passed)
 
-      at-receipt : ReceiptRefused (e ∷ es) key n answer.number answer.index
-      at-receipt =
+      at_receipt : ReceiptRefused (e ∷ es) key n answer.number answer.index
+      at_receipt =
           record {
             before = r.before;
             element = r.element;
@@ -409,17 +409,17 @@ module _ (e : Element) (es : List Element) (key : List ℕ) (n : ℕ) (width : w
             receipt = t.text;
             left = t.left;
             receipts = t.parts;
-            without = ap (λ (u : TakenOver). u.number) before-it ∙ (accepted_is done.state).0;
-            issued = ap (λ (u : TakenOver). u.state.issued) before-it ∙ (ap (λ (s : State). s.issued) (accepted_is done.state).2 ∙ index-done);
+            without = ap (λ (u : TakenOver). u.number) before_it ∙ (accepted_is done.state).0;
+            issued = ap (λ (u : TakenOver). u.state.issued) before_it ∙ (ap (λ (s : State). s.issued) (accepted_is done.state).2 ∙ index_done);
             with_it =
-                first-of-it (t.done ++ (t.text ∷ [])) t.left one_more
+                first_of_it (t.done ++ (t.text ∷ [])) t.left one_more
                 ∙ (ap last_answer (c.run (t.done ++ (t.text ∷ [])) ∙ (t.same ∙ sym texts_are)) ∙ (sym answer_is ∙ self));
-            counted = sym index-done ∙ done-issued;
+            counted = sym index_done ∙ done_issued;
           }
 
-      receipt-number : among of_receipt answer.number ≡ true
+      receipt_number : among of_receipt answer.number ≡ true
       unfolding done
-      receipt-number =
+      receipt_number =
           let q : whole.number ≡ (entry_checked k done.state t.text).number = ap (λ (s : Step). s.number) texts_are ∙ t.number in
           ap (among of_receipt) number_is
           ∙ but_first 6 of_receipt whole.number
@@ -430,49 +430,49 @@ module _ (e : Element) (es : List Element) (key : List ℕ) (n : ℕ) (width : w
       stop_is : whole ≡ record { number = (serial_checked middle name).number; state = middle }
       stop_is = whole_is ∙ c.run r.element.receipts
 
-      some-before : r.before ≡ [] → ⊥
+      some_before : r.before ≡ [] → ⊥
       unfolding first later
-      some-before q = true-is-not-false (sym c.is_later ∙ ap (λ (l : List Element). later k true (map pair_of l)) q)
+      some_before q = true-is-not-false (sym c.is_later ∙ ap (λ (l : List Element). later k true (map pair_of l)) q)
 
-      middle-index : middle.issued ≡ answer.index
-      middle-index = ap (λ (s : Step). s.state.issued) (sym stop_is) ∙ sym index_is
+      middle_index : middle.issued ≡ answer.index
+      middle_index = ap (λ (s : Step). s.state.issued) (sym stop_is) ∙ sym index_is
 
-      before-serial : take_over (journal_of_elements r.before) key n ≡ accepted middle
+      before_serial : take_over (journal_of_elements r.before) key n ≡ accepted middle
       unfolding o k middle
-      before-serial =
-          let q = ap (λ (w : Owner). journal_spelled w (map pair_of r.before)) (owner_before (e ∷ es) r.before r.element r.after r.parts some-before) in
+      before_serial =
+          let q = ap (λ (w : Owner). journal_spelled w (map pair_of r.before)) (owner_before (e ∷ es) r.before r.element r.after r.parts some_before) in
           ap (λ (j : List ℕ). take_over j key n) (journal_is r.before ∙ q)
-          ∙ (taken_some o key n width r.before (serial r.before r.element r.after r.parts) some-before
-          (parts_before o (map pair_of r.before) _ (good-pairs r.before r.element r.after r.parts))
+          ∙ (taken_some o key n width r.before (serial r.before r.element r.after r.parts) some_before
+          (parts_before o (map pair_of r.before) _ (good_pairs r.before r.element r.after r.parts))
           ∙ (ap (λ (st : State). last_answer (run_pairs k true st (map pair_of r.before))) (start_is r.before r.element r.after r.parts)
           ∙ answer_yes (run_pairs k true start (map pair_of r.before)) r.passed))
 
-      at-serial : SerialRefused (e ∷ es) key n answer.number answer.index
-      at-serial =
+      at_serial : SerialRefused (e ∷ es) key n answer.number answer.index
+      at_serial =
           record {
             before = r.before;
             element = r.element;
             after = r.after;
             elements = r.parts;
-            some = some-before;
-            without = ap (λ (u : TakenOver). u.number) before-serial ∙ (accepted_is middle).0;
-            issued = ap (λ (u : TakenOver). u.state.issued) before-serial ∙ (ap (λ (s : State). s.issued) (accepted_is middle).2 ∙ middle-index);
-            with_it = first-of-it [] r.element.receipts refl ∙ (ap last_answer (c.run [] ∙ sym stop_is) ∙ (sym answer_is ∙ self));
-            counted = sym middle-index ∙ middle-issued;
+            some = some_before;
+            without = ap (λ (u : TakenOver). u.number) before_serial ∙ (accepted_is middle).0;
+            issued = ap (λ (u : TakenOver). u.state.issued) before_serial ∙ (ap (λ (s : State). s.issued) (accepted_is middle).2 ∙ middle_index);
+            with_it = first_of_it [] r.element.receipts refl ∙ (ap last_answer (c.run [] ∙ sym stop_is) ∙ (sym answer_is ∙ self));
+            counted = sym middle_index ∙ middle_issued;
           }
 
       serial_number_lem : among of_serial answer.number ≡ true
       unfolding name serial
       serial_number_lem =
           let q : whole.number ≡ (serial_checked middle name).number = ap (λ (s : Step). s.number) stop_is in
-          let h : serial_good name ≡ true = (pair_there (map pair_of r.before) _ (map pair_of r.after) (good-pairs r.before r.element r.after r.parts).pairs).good in
+          let h : serial_good name ≡ true = (pair_there (map pair_of r.before) _ (map pair_of r.after) (good_pairs r.before r.element r.after r.parts).pairs).good in
           ap (among of_serial) number_is
           ∙ but_first 6 of_serial whole.number
           (but_first 0 (6 ∷ of_serial) whole.number (ap (among (0 ∷ 6 ∷ of_serial)) q ∙ serial_numbers middle name h) not_zero) not_six
 
     place_of : Place (e ∷ es) key n (take_over (journal_of_elements (e ∷ es)) key n).number (take_over (journal_of_elements (e ∷ es)) key n).index
     unfolding answer
-    place_of = ⊎_elim (λ c. receipt_there (receipt-number c) (at-receipt c)) (λ c. serial_there (serial_number_lem c) (at-serial c)) (pair_case k first middle name)
+    place_of = ⊎_elim (λ c. receipt_there (receipt_number c) (at_receipt c)) (λ c. serial_there (serial_number_lem c) (at_serial c)) (pair_case k first middle name)
 
 -- ---- refused at no element
 
@@ -612,26 +612,26 @@ pub index_counts_all_receipts : IndexCountsAllReceipts
 unfolding among every
 index_counts_all_receipts =
     record {
-      neither = λ text key n size h a. neither-of text key n _ _ a (outcome text key n size h);
-      receipt = λ text key n size h a. receipt-of text key n _ _ a (outcome text key n size h);
-      serial = λ text key n size h a. serial-of text key n _ _ a (outcome text key n size h);
+      neither = λ text key n size h a. neither_of text key n _ _ a (outcome text key n size h);
+      receipt = λ text key n size h a. receipt_of_lem text key n _ _ a (outcome text key n size h);
+      serial = λ text key n size h a. serial_of text key n _ _ a (outcome text key n size h);
       this_receipt = λ text key n size es m i h s q a c.
           this_receipt text key n size h es m i s q (λ z. apart of_receipt (0 ∷ []) m refl a (ap (among (0 ∷ [])) z)) c;
       this_serial = λ text key n size es m i h s q a c.
           this_serial text key n size h es m i s q (λ z. apart of_serial (0 ∷ []) m refl a (ap (among (0 ∷ [])) z)) c;
     }
   where
-    neither-of : (text key : List ℕ) (n m i : ℕ) → among of_neither m ≡ true → Outcome text key n m i → i ≡ 0
-    neither-of text key n m i a (no_place b z) = z
-    neither-of text key n m i a (a_place es s (receipt_there b r)) = absurd (apart of_neither of_receipt m refl a b)
-    neither-of text key n m i a (a_place es s (serial_there b r)) = absurd (apart of_neither of_serial m refl a b)
+    neither_of : (text key : List ℕ) (n m i : ℕ) → among of_neither m ≡ true → Outcome text key n m i → i ≡ 0
+    neither_of text key n m i a (no_place b z) = z
+    neither_of text key n m i a (a_place es s (receipt_there b r)) = absurd (apart of_neither of_receipt m refl a b)
+    neither_of text key n m i a (a_place es s (serial_there b r)) = absurd (apart of_neither of_serial m refl a b)
 
-    receipt-of : (text key : List ℕ) (n m i : ℕ) → among of_receipt m ≡ true → Outcome text key n m i → (es : List Element) × Shape text es × ReceiptRefused es key n m i
-    receipt-of text key n m i a (no_place b z) = absurd (apart of_receipt of_neither m refl a b)
-    receipt-of text key n m i a (a_place es s (receipt_there b r)) = (es, s, r)
-    receipt-of text key n m i a (a_place es s (serial_there b r)) = absurd (apart of_receipt of_serial m refl a b)
+    receipt_of_lem : (text key : List ℕ) (n m i : ℕ) → among of_receipt m ≡ true → Outcome text key n m i → (es : List Element) × Shape text es × ReceiptRefused es key n m i
+    receipt_of_lem text key n m i a (no_place b z) = absurd (apart of_receipt of_neither m refl a b)
+    receipt_of_lem text key n m i a (a_place es s (receipt_there b r)) = (es, s, r)
+    receipt_of_lem text key n m i a (a_place es s (serial_there b r)) = absurd (apart of_receipt of_serial m refl a b)
 
-    serial-of : (text key : List ℕ) (n m i : ℕ) → among of_serial m ≡ true → Outcome text key n m i → (es : List Element) × Shape text es × SerialRefused es key n m i
-    serial-of text key n m i a (no_place b z) = absurd (apart of_serial of_neither m refl a b)
-    serial-of text key n m i a (a_place es s (receipt_there b r)) = absurd (apart of_serial of_receipt m refl a b)
-    serial-of text key n m i a (a_place es s (serial_there b r)) = (es, s, r)
+    serial_of : (text key : List ℕ) (n m i : ℕ) → among of_serial m ≡ true → Outcome text key n m i → (es : List Element) × Shape text es × SerialRefused es key n m i
+    serial_of text key n m i a (no_place b z) = absurd (apart of_serial of_neither m refl a b)
+    serial_of text key n m i a (a_place es s (receipt_there b r)) = absurd (apart of_serial of_receipt m refl a b)
+    serial_of text key n m i a (a_place es s (serial_there b r)) = (es, s, r)

@@ -224,39 +224,39 @@ module _ {text : List ℕ} {start i n : ℕ} (s : Ending text start i n) where
     here : drop i text ≡ get_or text i 0 ∷ drop (suc i) text
     here = drop-cons text i 0 h
 
-    lexed-here : (c : List ℕ) → lex_in (drop start text) 0 c ≡ lex_in (get_or text i 0 ∷ drop (suc i) text) 0 c
-    lexed-here c = s.same c ∙ ap (λ (l : List ℕ). lex_in l 0 c) here
+    lexed_here : (c : List ℕ) → lex_in (drop start text) 0 c ≡ lex_in (get_or text i 0 ∷ drop (suc i) text) 0 c
+    lexed_here c = s.same c ∙ ap (λ (l : List ℕ). lex_in l 0 c) here
 
-    before-quote : get_or text i 0 ≡ 34 → before (drop i text) ≡ 0
+    before_quote : get_or text i 0 ≡ 34 → before (drop i text) ≡ 0
     unfolding before
-    before-quote e = rw (here, e)
+    before_quote e = rw (here, e)
 
-    none-at-quote : get_or text i 0 ≡ 34 → length (content (drop i text) 0) ≡ 0
+    none_at_quote : get_or text i 0 ≡ 34 → length (content (drop i text) 0) ≡ 0
     unfolding content
-    none-at-quote e = rw (here, e)
+    none_at_quote e = rw (here, e)
 
-    pub string-close : get_or text i 0 ≡ 34 → Closed text start (record { length = n; next = i + 1 })
+    pub string_close : get_or text i 0 ≡ 34 → Closed text start (record { length = n; next = i + 1 })
     unfolding from lex_in
-    string-close e =
+    string_close e =
         let a = s.small in
         record {
           inside = omega arith;
           none = λ q. absurd (omega arith);
-          is = λ p. (omega arith, λ c. lexed-here c ∙ rw (e, add-one));
-          quote = λ p. omega (arith, s.clear, before-quote e);
-          long = λ p. omega (arith, s.long, none-at-quote e);
+          is = λ p. (omega arith, λ c. lexed_here c ∙ rw (e, add-one));
+          quote = λ p. omega (arith, s.clear, before_quote e);
+          long = λ p. omega (arith, s.long, none_at_quote e);
         }
 
-    pub string-wrong : {r : Close} {t : Bool} → r ≡ not_closed → (get_or text i 0 ≡ 34 → ⊥) → EscapeAt text i t → t ≡ false → Closed text start r
-    string-wrong q n e z =
-        no_string text start q (λ c. lexed-here c ∙ other_lexed (get_or text i 0) (drop (suc i) text) c (s.stop h) n (λ rest q. e.none z rest (here ∙ q)))
+    pub string_wrong : {r : Close} {t : Bool} → r ≡ not_closed → (get_or text i 0 ≡ 34 → ⊥) → EscapeAt text i t → t ≡ false → Closed text start r
+    string_wrong q n e z =
+        no_string text start q (λ c. lexed_here c ∙ other_lexed (get_or text i 0) (drop (suc i) text) c (s.stop h) n (λ rest q. e.none z rest (here ∙ q)))
 
     module _ {t : Bool} (e : EscapeAt text i t) (z : t ≡ true) where
-      pub escape-room : i + 6 ≤ length text
-      escape-room = omega (arith, escape_length (drop (i + 6) text) (e.is z), length-drop i text)
+      pub escape_room : i + 6 ≤ length text
+      escape_room = omega (arith, escape_length (drop (i + 6) text) (e.is z), length-drop i text)
 
-      pub string-more : {j : ℕ} → Stopped text (i + 6) j → Ending text start j (n + 1 + (j - (i + 6)))
-      string-more {j} p =
+      pub string_more : {j : ℕ} → Stopped text (i + 6) j → Ending text start j (n + 1 + (j - (i + 6)))
+      string_more {j} p =
           let a = p.onward in
           let b : before (drop i text) ≡ before (drop (i + 6) text) + 6 = ap before (e.is z) ∙ escape_before (drop (i + 6) text) in
           let l : length (content (drop i text) 0) ≡ suc (length (content (drop (i + 6) text) 0))
@@ -439,8 +439,8 @@ module _ {text : List ℕ} {at p : ℕ} (s : Skipped text at p) where
     unfolding from
     head = s.same ∙ ap lex (drop-cons text p 0 inside)
 
-    next-wrong : {t : Found} → t ≡ at_end 1 (length text) → from text at ≡ wrong → Next text at t
-    next-wrong q e =
+    next_wrong : {t : Found} → t ≡ at_end 1 (length text) → from text at ≡ wrong → Next text at t
+    next_wrong q e =
         let a = inside in
         let o = s.onward in
         rw q (record {
@@ -458,11 +458,11 @@ module _ {text : List ℕ} {at p : ℕ} (s : Skipped text at p) where
     quote e = head ∙ rw (e, add-one)
 
     module _ {r : Close} (e : get_or text p 0 ≡ 34) (k : Closed text (p + 1) r) where
-      pub next-no-string : {t : Found} → t ≡ at_end 1 (length text) → r.next ≡ 0 → Next text at t
-      next-no-string q z = next-wrong q (quote e ∙ k.none z _)
+      pub next_no_string : {t : Found} → t ≡ at_end 1 (length text) → r.next ≡ 0 → Next text at t
+      next_no_string q z = next_wrong q (quote e ∙ k.none z _)
 
-      pub next-string : (r.next ≡ 0 → ⊥) → Next text at (record { kind = 34; start = p + 1; length = r.length; next = r.next })
-      next-string z =
+      pub next_string : (r.next ≡ 0 → ⊥) → Next text at (record { kind = 34; start = p + 1; length = r.length; next = r.next })
+      next_string z =
           let pos : 0 < r.next = omega (arith, z) in
           let a = inside in
           let o = s.onward in
@@ -477,9 +477,9 @@ module _ {text : List ℕ} {at p : ℕ} (s : Skipped text at p) where
             long = λ q. k.long pos;
           }
 
-    pub next-mark : (b : ℕ) → get_or text p 0 ≡ b → (b ≡ 34 → ⊥) → is_mark b ≡ true → Next text at (record { kind = b; start = p; length = 0; next = p + 1 })
+    pub next_mark : (b : ℕ) → get_or text p 0 ≡ b → (b ≡ 34 → ⊥) → is_mark b ≡ true → Next text at (record { kind = b; start = p; length = 0; next = p + 1 })
     unfolding from lex
-    next-mark b e n m =
+    next_mark b e n m =
         let a = inside in
         let o = s.onward in
         record {
@@ -494,4 +494,4 @@ module _ {text : List ℕ} {at p : ℕ} (s : Skipped text at p) where
 
     pub next_other : {t : Found} → t ≡ at_end 1 (length text) → (b : ℕ) → get_or text p 0 ≡ b → (b ≡ 34 → ⊥) → is_mark b ≡ false → Next text at t
     unfolding lex
-    next_other q b e n m = next-wrong q (head ∙ rw (s.stop inside, e, ne_eqb b 34 n, m))
+    next_other q b e n m = next_wrong q (head ∙ rw (s.stop inside, e, ne_eqb b 34 n, m))

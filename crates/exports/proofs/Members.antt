@@ -136,9 +136,9 @@ module _ {text : List ℕ} {at lead : ℕ} {k : Key} (d : MemberKeyed text at le
         → (m : Member) × (from text at ≡ led lead m ++ from text e)
     spelled m w n q s = (m, q ∙ ap₂ (λ (x : List ℕ) (l : List Token). mark lead ∷ word x ∷ mark 58 ∷ l) n s ∙ sym (led_is lead m (from text e)))
 
-    pub member-found : (k.number ≡ 0 → ⊥) → MemberRead text at lead (record { number = k.number; place = k.next; next = e })
+    pub member_found : (k.number ≡ 0 → ⊥) → MemberRead text at lead (record { number = k.number; place = k.next; next = e })
     unfolding name_of value_of
-    member-found n₀ =
+    member_found n₀ =
         let pos : 0 < k.number = omega (arith, n₀) in
         let o = d.onward pos in
         record {

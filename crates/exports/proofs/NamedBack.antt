@@ -34,7 +34,7 @@ use Rattle.receipt.proofs.Signs.{each_digits, each_amount, each_date}
 use Rattle.receipt.proofs.Names.{letters_no_mark, good_settings, name_of_lem}
 use Rattle.receipt.proofs.MarkCounts.{count_append, count_none, one_mark, without_each}
 use Rattle.receipt.proofs.Finding.{next_without}
-use Rattle.receipt.proofs.ExactEntry.{parts-bytes}
+use Rattle.receipt.proofs.ExactEntry.{parts_bytes}
 use Rattle.exports.specs.Naming.{middle, field_of, settings_in, payload_names, named}
 
 -- ---- a field and the "_" after it
@@ -277,4 +277,4 @@ module _ (s : Settings) (n : ℕ) (e : Entry) (l : SettingsLengths s) (b : Setti
       let nx = dotless header in
       let ny = dotless (payload s n e.fields) in
       let nz = dotless (signature_text e.signature) in
-      rw (form_is, eq-eqb _ 2 (two_dots x y z nx ny nz), middle_is x y z nx ny nz, decode_encode UrlSafe (payload s n e.fields) (parts-bytes s n e te l can b).payload, payload_names_lem s n e.fields l g te.fields.amounts, settings_in_lem s n e.fields l g te.fields.amounts)
+      rw (form_is, eq-eqb _ 2 (two_dots x y z nx ny nz), middle_is x y z nx ny nz, decode_encode UrlSafe (payload s n e.fields) (parts_bytes s n e te l can b).payload, payload_names_lem s n e.fields l g te.fields.amounts, settings_in_lem s n e.fields l g te.fields.amounts)

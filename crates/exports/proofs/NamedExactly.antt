@@ -125,16 +125,16 @@ module _ (r : List ℕ) (t : Tests (beginning ++ r)) where
       last_one : count_of separator r₁₁ ≡ 1
       last_one = omega (arith, c₃, count_many 7 r₃ m)
 
-      id-text : name_text s.id ≡ front separator r₂
-      id-text = ap name_text id_is ∙ field_text (front separator r₂) (subst (λ (n : Name). n.len ≤ 32) id_is g.id.most)
+      id_text : name_text s.id ≡ front separator r₂
+      id_text = ap name_text id_is ∙ field_text (front separator r₂) (subst (λ (n : Name). n.len ≤ 32) id_is g.id.most)
 
-      serial-text : name_text s.serial ≡ front separator r₁₁
-      serial-text = ap name_text serial_is ∙ field_text (front separator r₁₁) (subst (λ (n : Name). n.len ≤ 32) serial_is g.serial.most)
+      serial_text : name_text s.serial ≡ front separator r₁₁
+      serial_text = ap name_text serial_is ∙ field_text (front separator r₁₁) (subst (λ (n : Name). n.len ≤ 32) serial_is g.serial.most)
 
       spelled : r ≡ s.csp ++ (separator ∷ (name_text s.id ++ (separator ∷ (m.text ++ (separator ∷ (name_text s.serial ++ (separator ∷ after r₁₁)))))))
       spelled =
           split_after r (omega (arith, eleven))
-          ∙ (λ i. sym csp_is i ++ (separator ∷ (split_after r₂ (omega (arith, c₂)) ∙ (λ j. sym id-text j ++ (separator ∷ (m.is ∙ (λ k. m.text ++ (separator ∷ (split_after r₁₁ (omega (arith, last_one)) ∙ (λ n. sym serial-text n ++ (separator ∷ after r₁₁))) k))) j))) i))
+          ∙ (λ i. sym csp_is i ++ (separator ∷ (split_after r₂ (omega (arith, c₂)) ∙ (λ j. sym id_text j ++ (separator ∷ (m.is ∙ (λ k. m.text ++ (separator ∷ (split_after r₁₁ (omega (arith, last_one)) ∙ (λ n. sym serial_text n ++ (separator ∷ after r₁₁))) k))) j))) i))
 
 names_in : (p : List ℕ) → payload_names p ≡ true → NamesIn p (settings_in p)
 names_in p e =

@@ -67,23 +67,23 @@ module _ {text name : List ℕ} {start at i : ℕ} (s : Spelling text name start
   spell_short h l = sym (s.same ∙ rw (drop_of_length-le text l, drop-cons name i 0 h))
 
   module _ (h : i < length name) (l : at < length text) where
-    bare-here : Bare (get_or name i 0) (drop (suc i) name)
-    bare-here = bare_is _ _ (rw (drop-cons name i 0 h) at s.bare')
+    bare_here : Bare (get_or name i 0) (drop (suc i) name)
+    bare_here = bare_is _ _ (rw (drop-cons name i 0 h) at s.bare')
 
-    pub spell-differ : (get_or text at 0 ≡ get_or name i 0 → ⊥) → false ≡ same (content (drop start text) 0) name
+    pub spell_differ : (get_or text at 0 ≡ get_or name i 0 → ⊥) → false ≡ same (content (drop start text) 0) name
     unfolding content
-    spell-differ n = sym (s.same ∙ rw (drop-cons name i 0 h, drop-cons text at 0 l) (differs _ _ _ _ _ (eqb (get_or text at 0) 34) (eqb (get_or text at 0) 92) bare-here.equals n))
+    spell_differ n = sym (s.same ∙ rw (drop-cons name i 0 h, drop-cons text at 0 l) (differs _ _ _ _ _ (eqb (get_or text at 0) 34) (eqb (get_or text at 0) 92) bare_here.equals n))
 
-    pub spell-more : get_or text at 0 ≡ get_or name i 0 → Spelling text name start (at + 1) (i + 1)
+    pub spell_more : get_or text at 0 ≡ get_or name i 0 → Spelling text name start (at + 1) (i + 1)
     unfolding content same
-    spell-more e =
+    spell_more e =
         record {
           inside = omega arith;
           within = omega arith;
-          bare' = rw add-one bare-here.rest;
+          bare' = rw add-one bare_here.rest;
           same =
               s.same
-              ∙ rw (add-one at, add-one i, drop-cons name i 0 h, drop-cons text at 0 l, e, ne_eqb _ _ bare-here.quote, ne_eqb _ _ bare-here.backslash, eq-eqb (get_or name i 0) (get_or name i 0) refl);
+              ∙ rw (add-one at, add-one i, drop-cons name i 0 h, drop-cons text at 0 l, e, ne_eqb _ _ bare_here.quote, ne_eqb _ _ bare_here.backslash, eq-eqb (get_or name i 0) (get_or name i 0) refl);
         }
 
   pub spell_close : length name ≤ i → at < length text → eqb (get_or text at 0) 34 ≡ same (content (drop start text) 0) name

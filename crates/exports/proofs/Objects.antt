@@ -124,21 +124,21 @@ module _ {text : List ℕ} {at : ℕ} {a : Value} (ra : MemberRead text at 123 a
   element_no_1 i e = no_element i (λ x y z rest q. omega (arith, (step_1 x y z rest q).0))
 
   module _ {b : Value} (rb : MemberRead text a.next 44 b) where
-    step-2 : (x y z : Member) (rest : List Token) → from text at ≡ object x y z ++ rest → (0 < b.next) × (from text b.next ≡ led 44 z ++ (mark 125 ∷ rest))
-    step-2 x y z rest q = rb.reads.complete y _ (step_1 x y z rest q).1
+    step_2 : (x y z : Member) (rest : List Token) → from text at ≡ object x y z ++ rest → (0 < b.next) × (from text b.next ≡ led 44 z ++ (mark 125 ∷ rest))
+    step_2 x y z rest q = rb.reads.complete y _ (step_1 x y z rest q).1
 
-    pub element-no-2 : {p : Places} → p ≡ no_places → b.next ≡ 0 → ElementRead text at p
-    element-no-2 i e = no_element i (λ x y z rest q. omega (arith, (step-2 x y z rest q).0))
+    pub element_no_2 : {p : Places} → p ≡ no_places → b.next ≡ 0 → ElementRead text at p
+    element_no_2 i e = no_element i (λ x y z rest q. omega (arith, (step_2 x y z rest q).0))
 
     module _ {c : Value} (rc : MemberRead text b.next 44 c) where
-      step-3 : (x y z : Member) (rest : List Token) → from text at ≡ object x y z ++ rest → (0 < c.next) × (from text c.next ≡ mark 125 ∷ rest)
-      step-3 x y z rest q = rc.reads.complete z _ (step-2 x y z rest q).1
+      step_3 : (x y z : Member) (rest : List Token) → from text at ≡ object x y z ++ rest → (0 < c.next) × (from text c.next ≡ mark 125 ∷ rest)
+      step_3 x y z rest q = rc.reads.complete z _ (step_2 x y z rest q).1
 
-      pub element-no-3 : {p : Places} → p ≡ no_places → c.next ≡ 0 → ElementRead text at p
-      element-no-3 i e = no_element i (λ x y z rest q. omega (arith, (step-3 x y z rest q).0))
+      pub element_no_3 : {p : Places} → p ≡ no_places → c.next ≡ 0 → ElementRead text at p
+      element_no_3 i e = no_element i (λ x y z rest q. omega (arith, (step_3 x y z rest q).0))
 
-      pub element-no-4 : {p : Places} → p ≡ no_places → Reads (one 125) text c.next 0 → ElementRead text at p
-      element-no-4 i r = no_element i (λ x y z rest q. omega (arith, (r.complete tt rest (step-3 x y z rest q).1).0))
+      pub element_no_4 : {p : Places} → p ≡ no_places → Reads (one 125) text c.next 0 → ElementRead text at p
+      element_no_4 i r = no_element i (λ x y z rest q. omega (arith, (r.complete tt rest (step_3 x y z rest q).1).0))
 
       place_inside : (n : ℕ) → place_of n a b c ≤ length text
       unfolding place_in
@@ -155,7 +155,7 @@ module _ {text : List ℕ} {at : ℕ} {a : Value} (ra : MemberRead text at 123 a
 
       matched : (x y z : Member) (rest : List Token) → from text at ≡ object x y z ++ rest → Matched text (a ∷ b ∷ c ∷ []) (x ∷ y ∷ z ∷ [])
       matched x y z rest q =
-          more (here ra x _ (q ∙ object_is x y z rest)) (more (here rb y _ (step_1 x y z rest q).1) (more (here rc z _ (step-2 x y z rest q).1) none))
+          more (here ra x _ (q ∙ object_is x y z rest)) (more (here rb y _ (step_1 x y z rest q).1) (more (here rc z _ (step_2 x y z rest q).1) none))
 
       -- the places of what is written there
       module _ (w : Written) (rest : List Token) (q : from text at ≡ written w ++ rest) where
@@ -163,14 +163,14 @@ module _ {text : List ℕ} {at : ℕ} {a : Value} (ra : MemberRead text at 123 a
         unfolding written
         all = matched w.first w.second w.third rest q
 
-        find-1 : (0 < place_of 1 a b c) × ((r : List Token) × (from text (place_of 1 a b c) ≡ string w.element.certificate ++ r))
-        find-1 = find 1 all _ [] (certificates_are _ ∙ ap (map string) w.certificates)
+        find_1 : (0 < place_of 1 a b c) × ((r : List Token) × (from text (place_of 1 a b c) ≡ string w.element.certificate ++ r))
+        find_1 = find 1 all _ [] (certificates_are _ ∙ ap (map string) w.certificates)
 
-        find-2 : (0 < place_of 2 a b c) × ((r : List Token) × (from text (place_of 2 a b c) ≡ strings w.element.issuers ++ r))
-        find-2 = find 2 all _ [] (issuers_are _ ∙ ap (map strings) w.issuer_lists)
+        find_2 : (0 < place_of 2 a b c) × ((r : List Token) × (from text (place_of 2 a b c) ≡ strings w.element.issuers ++ r))
+        find_2 = find 2 all _ [] (issuers_are _ ∙ ap (map strings) w.issuer_lists)
 
-        find-3 : (0 < place_of 3 a b c) × ((r : List Token) × (from text (place_of 3 a b c) ≡ strings w.element.receipts ++ r))
-        find-3 = find 3 all _ [] (receipts_are _ ∙ ap (map strings) w.receipt_lists)
+        find_3 : (0 < place_of 3 a b c) × ((r : List Token) × (from text (place_of 3 a b c) ≡ strings w.element.receipts ++ r))
+        find_3 = find 3 all _ [] (receipts_are _ ∙ ap (map strings) w.receipt_lists)
 
       module _ {e : ℕ} (re : Reads (one 125) text c.next e) (na : a.next ≡ 0 → ⊥) (nb : b.next ≡ 0 → ⊥) (nc : c.next ≡ 0 → ⊥) (ne : e ≡ 0 → ⊥) where
         pa : 0 < a.next
@@ -239,24 +239,24 @@ module _ {text : List ℕ} {at : ℕ} {a : Value} (ra : MemberRead text at 123 a
                 inside = re.inside;
                 onward = λ p. omega (arith, ra.reads.onward pa, rb.reads.onward pb, rc.reads.onward pc, re.onward pe);
                 sound = λ p. one_each n₁ n₂ n₃;
-                complete = λ w rest q. (pe, (re.complete tt rest (step-3 w.first w.second w.third rest q).1).1);
+                complete = λ w rest q. (pe, (re.complete tt rest (step_3 w.first w.second w.third rest q).1).1);
               };
-              found = λ w rest q. record { certificate = (find-1 w rest q).1; issuers = (find-2 w rest q).1; receipts = (find-3 w rest q).1 };
+              found = λ w rest q. record { certificate = (find_1 w rest q).1; issuers = (find_2 w rest q).1; receipts = (find_3 w rest q).1 };
               certificate_inside = place_inside 1;
               issuers_inside = place_inside 2;
               receipts_inside = place_inside 3;
             }
 
-        pub element-found : {p : Places} → p ≡ places_of a b c e → ElementRead text at p
+        pub element_found : {p : Places} → p ≡ places_of a b c e → ElementRead text at p
         unfolding places_of
-        element-found {p} q = rw q (go (eqb (place_of 1 a b c) 0) (eqb (place_of 2 a b c) 0) (eqb (place_of 3 a b c) 0) refl refl refl)
+        element_found {p} q = rw q (go (eqb (place_of 1 a b c) 0) (eqb (place_of 2 a b c) 0) (eqb (place_of 3 a b c) 0) refl refl refl)
           where
             go : (s t u : Bool) → eqb (place_of 1 a b c) 0 ≡ s → eqb (place_of 2 a b c) 0 ≡ t → eqb (place_of 3 a b c) 0 ≡ u
                 → ElementRead text at (cond s no_places (cond t no_places (cond u no_places
                 (record { certificate = place_of 1 a b c; issuers = place_of 2 a b c; receipts = place_of 3 a b c; next = e }))))
-            go true t u i j k = no_written (λ w rest h. omega (arith, eqb-true (place_of 1 a b c) 0 i, (find-1 w rest h).0))
-            go false true u i j k = no_written (λ w rest h. omega (arith, eqb-true (place_of 2 a b c) 0 j, (find-2 w rest h).0))
-            go false false true i j k = no_written (λ w rest h. omega (arith, eqb-true (place_of 3 a b c) 0 k, (find-3 w rest h).0))
+            go true t u i j k = no_written (λ w rest h. omega (arith, eqb-true (place_of 1 a b c) 0 i, (find_1 w rest h).0))
+            go false true u i j k = no_written (λ w rest h. omega (arith, eqb-true (place_of 2 a b c) 0 j, (find_2 w rest h).0))
+            go false false true i j k = no_written (λ w rest h. omega (arith, eqb-true (place_of 3 a b c) 0 k, (find_3 w rest h).0))
             go false false false i j k = full (eqb-false _ _ i) (eqb-false _ _ j) (eqb-false _ _ k)
 
 -- ---- the array of elements

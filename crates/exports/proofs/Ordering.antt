@@ -41,12 +41,12 @@ module _ (e : Element) where
   order (issuers is) (receipts rs) (certificate w) o = made (λ v y z. Order e (issuers y) (receipts z) (certificate v)) o.certificates o.issuers o.receipts zbs
   order (receipts rs) (certificate w) (issuers is) o = made (λ v y z. Order e (receipts z) (certificate v) (issuers y)) o.certificates o.issuers o.receipts bsz
   order (receipts rs) (issuers is) (certificate w) o = made (λ v y z. Order e (receipts z) (issuers y) (certificate v)) o.certificates o.issuers o.receipts bzs
-  order (certificate w) (certificate x) c o = absurd (two-certificates c o.issuers o.receipts)
+  order (certificate w) (certificate x) c o = absurd (two_certificates c o.issuers o.receipts)
     where
-      two-certificates : (c : Member) → issuers_of (c ∷ []) ≡ e.issuers ∷ [] → receipts_of (c ∷ []) ≡ e.receipts ∷ [] → ⊥
-      two-certificates (certificate v) p q = omega (arith, ap length p)
-      two-certificates (issuers v) p q = omega (arith, ap length q)
-      two-certificates (receipts v) p q = omega (arith, ap length p)
+      two_certificates : (c : Member) → issuers_of (c ∷ []) ≡ e.issuers ∷ [] → receipts_of (c ∷ []) ≡ e.receipts ∷ [] → ⊥
+      two_certificates (certificate v) p q = omega (arith, ap length p)
+      two_certificates (issuers v) p q = omega (arith, ap length q)
+      two_certificates (receipts v) p q = omega (arith, ap length p)
   order (certificate w) (issuers is) (certificate x) o = absurd (omega (arith, ap length o.receipts))
   order (certificate w) (issuers is) (issuers js) o = absurd (omega (arith, ap length o.receipts))
   order (certificate w) (receipts rs) (certificate x) o = absurd (omega (arith, ap length o.issuers))

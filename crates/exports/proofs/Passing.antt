@@ -106,9 +106,9 @@ module _ {A : Type 0} (item : A → List Token) where
 
       module _ (e : c.more ≡ true) where
         -- the item at the cursor decides
-        pub pass-out : (b : B) → ((x : A) (xs : List A) (r : List Token) → from text c.at ≡ item x ++ r → G (x ∷ xs) ≡ b)
+        pub pass_out : (b : B) → ((x : A) (xs : List A) (r : List Token) → from text c.at ≡ item x ++ r → G (x ∷ xs) ≡ b)
             → (xs : List A) (r : List Token) → from text at ≡ array item xs ++ r → b ≡ F xs
-        pass-out b h xs r q =
+        pass_out b h xs r q =
             let l = w.left xs r q in
             let m = l.1.more e in
             sym (l.2 ∙ ap G m.2 ∙ h m.0 m.1 _ m.3)
@@ -125,21 +125,21 @@ module _ {A : Type 0} (item : A → List Token) where
                   (m.1, left_on m.1 r (i m.0 _ m.3) f, l.2 ∙ ap G m.2 ∙ h m.0 m.1 _ m.3);
             }
 
-        pub pass-more : {p : ℕ} {d : Cursor} (H : List A → B) → ((x : A) (xs : List A) (r : List Token) → from text c.at ≡ item x ++ r → G (x ∷ xs) ≡ H xs)
+        pub pass_more : {p : ℕ} {d : Cursor} (H : List A → B) → ((x : A) (xs : List A) (r : List Token) → from text c.at ≡ item x ++ r → G (x ∷ xs) ≡ H xs)
             → Reads item text c.at p → Followed text p d → Passing F H text at d
-        pass-more H h i f = pass_on H h (λ x r q. (i.complete x r q).1) f
+        pass_more H h i f = pass_on H h (λ x r q. (i.complete x r q).1) f
 
-        pub pass-beyond : {p : ℕ} {d : Cursor} → c.at < p → Followed text p d → remains text d < remains text c
-        pass-beyond {p} {d} b f = falls text c d e w.inside (λ m. omega (arith, b, f.onward (f.more m).0)) f.inside
+        pub pass_beyond : {p : ℕ} {d : Cursor} → c.at < p → Followed text p d → remains text d < remains text c
+        pass_beyond {p} {d} b f = falls text c d e w.inside (λ m. omega (arith, b, f.onward (f.more m).0)) f.inside
 
-        pub pass-falls : {p : ℕ} {d : Cursor} → Reads item text c.at p → (p ≡ 0 → ⊥) → Followed text p d → remains text d < remains text c
-        pass-falls {p} {d} i z f =
+        pub pass_falls : {p : ℕ} {d : Cursor} → Reads item text c.at p → (p ≡ 0 → ⊥) → Followed text p d → remains text d < remains text c
+        pass_falls {p} {d} i z f =
             let pos : 0 < p = omega (arith, z) in
-            pass-beyond (i.onward pos) f
+            pass_beyond (i.onward pos) f
 
         -- no item stands at the cursor, so no array at the start
-        pub pass-stop : ((x : A) (r : List Token) → from text c.at ≡ item x ++ r → ⊥) → (xs : List A) (r : List Token) → from text at ≡ array item xs ++ r → ⊥
-        pass-stop h xs r q = let m = (w.left xs r q).1.more e in h m.0 _ m.3
+        pub pass_stop : ((x : A) (r : List Token) → from text c.at ≡ item x ++ r → ⊥) → (xs : List A) (r : List Token) → from text at ≡ array item xs ++ r → ⊥
+        pass_stop h xs r q = let m = (w.left xs r q).1.more e in h m.0 _ m.3
 
     -- ---- a walk whose end is asked for too
 
@@ -147,12 +147,12 @@ module _ {A : Type 0} (item : A → List Token) where
       pub pass : Passing F G text at c
       pub beyond : (xs : List A) (r : List Token) → from text at ≡ array item xs ++ r → at < c.at
 
-    pub cross-start : {text : List ℕ} {at : ℕ} {c : Cursor} (F : List A → B) → Opens item → Begun text at c → Crossing F F text at c
-    cross-start {text} {at} {c} F o b = record { pass = pass_start F o b; beyond = λ xs r q. go c.more c.at refl refl (q ∙ (array-opens xs r).1) }
+    pub cross_start : {text : List ℕ} {at : ℕ} {c : Cursor} (F : List A → B) → Opens item → Begun text at c → Crossing F F text at c
+    cross_start {text} {at} {c} F o b = record { pass = pass_start F o b; beyond = λ xs r q. go c.more c.at refl refl (q ∙ (array_opens xs r).1) }
       where
-        array-opens : (xs : List A) (r : List Token) → (ts : List Token) × (array item xs ++ r ≡ mark 91 ∷ ts)
-        array-opens [] r = (_, nil_array item r)
-        array-opens (x ∷ xs) r = (_, cons_array item x xs r)
+        array_opens : (xs : List A) (r : List Token) → (ts : List Token) × (array item xs ++ r ≡ mark 91 ∷ ts)
+        array_opens [] r = (_, nil_array item r)
+        array_opens (x ∷ xs) r = (_, cons_array item x xs r)
 
         go : (t : Bool) (n : ℕ) → c.more ≡ t → c.at ≡ n → {ts : List Token} → from text at ≡ mark 91 ∷ ts → at < c.at
         go true n e z q = b.onward (b.more e).0
@@ -160,14 +160,14 @@ module _ {A : Type 0} (item : A → List Token) where
         go false (suc n) e z q = b.onward (omega arith)
 
     module _ {F G : List A → B} {text : List ℕ} {at : ℕ} {c : Cursor} (w : Crossing F G text at c) where
-      pub cross-end : c.more ≡ false → (xs : List A) (r : List Token) → from text at ≡ array item xs ++ r → (G [] ≡ F xs) × (at < c.at) × (from text c.at ≡ r)
-      cross-end e xs r q = (pass_end w.pass e xs r q, w.beyond xs r q, ((w.pass.left xs r q).1.ended e).1)
+      pub cross_end : c.more ≡ false → (xs : List A) (r : List Token) → from text at ≡ array item xs ++ r → (G [] ≡ F xs) × (at < c.at) × (from text c.at ≡ r)
+      cross_end e xs r q = (pass_end w.pass e xs r q, w.beyond xs r q, ((w.pass.left xs r q).1.ended e).1)
 
-      pub cross-more : c.more ≡ true → {p : ℕ} {d : Cursor} (H : List A → B) → ((x : A) (xs : List A) (r : List Token) → from text c.at ≡ item x ++ r → G (x ∷ xs) ≡ H xs)
+      pub cross_more : c.more ≡ true → {p : ℕ} {d : Cursor} (H : List A → B) → ((x : A) (xs : List A) (r : List Token) → from text c.at ≡ item x ++ r → G (x ∷ xs) ≡ H xs)
           → Reads item text c.at p → (p ≡ 0 → ⊥) → Followed text p d → Crossing F H text at d
-      cross-more e {p} {d} H h i z f =
+      cross_more e {p} {d} H h i z f =
           record {
-            pass = pass-more w.pass e H h i f;
+            pass = pass_more w.pass e H h i f;
             beyond = λ xs r q.
                 let m = (w.pass.left xs r q).1.more e in
                 omega (arith, w.beyond xs r q, i.onward (omega (arith, z)), go m.1 r (i.complete m.0 _ m.3).1 d.more d.at refl refl);

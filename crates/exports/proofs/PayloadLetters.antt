@@ -34,22 +34,22 @@ module _ (m : List ℕ) where
     answered : {d : Decoded} → d ≡ answer_of (decoding UrlSafe m) out at → d ≡ answer_of (cond (accepted UrlSafe m) (some (bytes UrlSafe m)) none) out at
     answered e = e ∙ ap (λ (o : Option (List ℕ)). answer_of o out at) decoding_is
 
-    pub canonical-read : (n : ℕ) → Upto n ≡ answer_of (decoding UrlSafe m) out at → true ≡ accepted UrlSafe m
-    canonical-read n e = go (accepted UrlSafe m) (answered e)
+    pub canonical_read : (n : ℕ) → Upto n ≡ answer_of (decoding UrlSafe m) out at → true ≡ accepted UrlSafe m
+    canonical_read n e = go (accepted UrlSafe m) (answered e)
       where
         go : (t : Bool) → Upto n ≡ answer_of (cond t (some (bytes UrlSafe m)) none) out at → true ≡ t
         go true k = refl
         go false k = let z : ◌≡◌ {A = ℕ} 0 1 = cc in absurd (omega arith)
 
-    pub canonical-full : NoRoom ≡ answer_of (decoding UrlSafe m) out at → true ≡ accepted UrlSafe m
-    canonical-full e = go (accepted UrlSafe m) (answered e)
+    pub canonical_full : NoRoom ≡ answer_of (decoding UrlSafe m) out at → true ≡ accepted UrlSafe m
+    canonical_full e = go (accepted UrlSafe m) (answered e)
       where
         go : (t : Bool) → NoRoom ≡ answer_of (cond t (some (bytes UrlSafe m)) none) out at → true ≡ t
         go true k = refl
         go false k = let z : ◌≡◌ {A = ℕ} 0 1 = cc in absurd (omega arith)
 
-    pub canonical-refused : Refused ≡ answer_of (decoding UrlSafe m) out at → false ≡ accepted UrlSafe m
-    canonical-refused e = go (accepted UrlSafe m) (answered e)
+    pub canonical_refused : Refused ≡ answer_of (decoding UrlSafe m) out at → false ≡ accepted UrlSafe m
+    canonical_refused e = go (accepted UrlSafe m) (answered e)
       where
         fits : (t : Bool) → Refused ≡ cond t (Upto (at + length (bytes UrlSafe m))) NoRoom → false ≡ true
         fits true k = let z : ◌≡◌ {A = ℕ} 0 1 = cc in absurd (omega arith)
@@ -153,11 +153,11 @@ module _ (m : List ℕ) (i : ℕ) (pre : (accepted UrlSafe m ≡ true) × (i < l
       → out ≡ buffer_of (decoding UrlSafe (take (e - i / 3 * 4) (drop (i / 3 * 4) m))) zeros 0 → get_or out (i % 3) 0 ≡ get_or (bytes UrlSafe m) i 0
   byte_read {e} {out} came b =
       ap (λ (l : List ℕ). get_or l (i % 3) 0) b
-      ∙ ap (λ (l : List ℕ). get_or (buffer_of (decoding UrlSafe l) zeros 0) (i % 3) 0) (⊎_elim lent-four lent_rest came)
+      ∙ ap (λ (l : List ℕ). get_or (buffer_of (decoding UrlSafe l) zeros 0) (i % 3) 0) (⊎_elim lent_four lent_rest came)
       ∙ group_read
     where
-      lent-four : (4 < length m - i / 3 * 4) × (e ≡ i / 3 * 4 + 4) → take (e - i / 3 * 4) (drop (i / 3 * 4) m) ≡ take 4 (drop (i / 3 * 4) m)
-      lent-four w = let q : e - i / 3 * 4 ≡ 4 = omega (arith, w.1) in rw q
+      lent_four : (4 < length m - i / 3 * 4) × (e ≡ i / 3 * 4 + 4) → take (e - i / 3 * 4) (drop (i / 3 * 4) m) ≡ take 4 (drop (i / 3 * 4) m)
+      lent_four w = let q : e - i / 3 * 4 ≡ 4 = omega (arith, w.1) in rw q
 
       lent_rest : (length m - i / 3 * 4 ≤ 4) × (e ≡ length m) → take (e - i / 3 * 4) (drop (i / 3 * 4) m) ≡ take 4 (drop (i / 3 * 4) m)
       lent_rest w =

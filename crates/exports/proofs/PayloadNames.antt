@@ -93,28 +93,28 @@ module _ (p : List ℕ) where
     pub first_long : length first.bytes ≡ 32
     first_long = ap (λ (n : Name). length n.bytes) e ∙ name_long (field_of 1 p)
 
-    first-len : first.len ≡ length (field_of 1 p)
+    first_len : first.len ≡ length (field_of 1 p)
     unfolding name_of
-    first-len = ap (λ (n : Name). n.len) e
+    first_len = ap (λ (n : Name). n.len) e
 
-    pub names-unsized : (first.len ≡ 6 → ⊥) → payload_names p ≡ false
+    pub names_unsized : (first.len ≡ 6 → ⊥) → payload_names p ≡ false
     unfolding payload_names
-    names-unsized n = rw (ne_eqb (length (field_of 1 p)) 6 (λ q. n (first-len ∙ q)), and-false twelve, and-false begins)
+    names_unsized n = rw (ne_eqb (length (field_of 1 p)) 6 (λ q. n (first_len ∙ q)), and-false twelve, and-false begins)
 
     module _ (l : first.len ≡ 6) {b : ℕ} (q : b ≡ get_or p 0 0) (m : b ≡ separator) where
       sized : length (field_of 1 p) ≡ 6
-      sized = sym first-len ∙ l
+      sized = sym first_len ∙ l
 
-      first-starts : begins ≡ same (take 3 first.bytes) (82 ∷ 49 ∷ 45 ∷ [])
+      first_starts : begins ≡ same (take 3 first.bytes) (82 ∷ 49 ∷ 45 ∷ [])
       unfolding start
-      first-starts =
+      first_starts =
           starts p (sym q ∙ m) sized
           ∙ ap (λ (t : List ℕ). same t start) (sym (ap (λ (n : Name). take 3 n.bytes) e ∙ name_front (field_of 1 p) sized))
 
       module _ {r : Bool} (g : r ≡ same (take 3 first.bytes) (82 ∷ 49 ∷ 45 ∷ [])) where
-        pub names-unstarted : not r ≡ true → payload_names p ≡ false
+        pub names_unstarted : not r ≡ true → payload_names p ≡ false
         unfolding payload_names
-        names-unstarted t = rw (first-starts ∙ sym g ∙ not-true r t)
+        names_unstarted t = rw (first_starts ∙ sym g ∙ not-true r t)
 
         module _ (t : not r ≡ false) {id serial : Name} (i : id ≡ name_of (field_of 2 p)) (k : serial ≡ name_of (field_of 11 p)) where
           abbrev found : Settings
@@ -135,12 +135,12 @@ module _ (p : List ℕ) where
           found_is = λ j. record { csp = csp_is j; id = i j; serial = k j }
 
           module _ {v : Bool} (d : v ≡ settings_good found) where
-            pub names-bad : not v ≡ true → payload_names p ≡ false
+            pub names_bad : not v ≡ true → payload_names p ≡ false
             unfolding payload_names
-            names-bad u = rw (sym (d ∙ ap settings_good found_is) ∙ not-true v u, and-false six, and-false twelve, and-false begins)
+            names_bad u = rw (sym (d ∙ ap settings_good found_is) ∙ not-true v u, and-false six, and-false twelve, and-false begins)
 
             pub names_good : {count : ℕ} → count ≡ count_of separator p → count ≡ 12 → not v ≡ false → named_as found ≡ named_by (some p)
             unfolding payload_names
             names_good h o u =
-                rw (first-starts ∙ sym g ∙ not-false r t, eq-eqb (count_of separator p) 12 (sym h ∙ o), eq-eqb (length (field_of 1 p)) 6 sized, sym (d ∙ ap settings_good found_is) ∙ not-false v u)
+                rw (first_starts ∙ sym g ∙ not-false r t, eq-eqb (count_of separator p) 12 (sym h ∙ o), eq-eqb (length (field_of 1 p)) 6 sized, sym (d ∙ ap settings_good found_is) ∙ not-false v u)
                 (ap (λ (s : Settings). named_as s) found_is)

@@ -40,7 +40,7 @@ use Rattle.exports.proofs.GroupsBack.{groups_read, groups_exactly}
 use Rattle.exports.proofs.PairsBack.{pairs_those}
 use Rattle.exports.proofs.TakenAsSpelled.{name_bytes_lem}
 use Rattle.exports.proofs.ElementsTaken.{Surveyed, owner_parts}
-use Rattle.exports.proofs.ReadBack.{made, exported-taken, buffer-taken, exported-refused, buffer-refused, restored_is, restored-taken}
+use Rattle.exports.proofs.ReadBack.{made, exported_taken, buffer_taken, exported_refused, buffer_refused, restored_is, restored_taken}
 use Rattle.exports.proofs.PlainText.{plain_text_lem}
 use Rattle.exports.proofs.RoomEnough.{some_element}
 use Rattle.exports.proofs.Back.{export_shape}
@@ -174,7 +174,7 @@ read_exactly = record { only = only; always = always }
     always : (text key : List ℕ) (n : ℕ) (out : List ℕ) (es : List Element) → ReadsAs text key n (length out) es → (restored text key n (length out)).number ≡ 0
     always text key n out es r =
         ap (λ (x : Restored). x.number)
-        (restored-taken text key n (length out) es ((exact text es).1 r.shape) (λ rest. survey rest) r.fits r.taken)
+        (restored_taken text key n (length out) es ((exact text es).1 r.shape) (λ rest. survey rest) r.fits r.taken)
       where
         survey : (rest : ℕ) → survey_number es rest ≡ rest
         survey rest = survey_passed es rest (some_element es r.some) r.good r.receipts r.names
@@ -223,11 +223,11 @@ module _ (j key : List ℕ) (n : ℕ) (certificates out : List ℕ) where
     where
       go : (m : ℕ) → (take_over j key n).number ≡ m → (export_buffer j key n certificates out ≡ out) × ((exported j key n certificates out).length ≡ 0)
       go zero q =
-          let e = exported-taken j key n certificates out q in
+          let e = exported_taken j key n certificates out q in
           let a = refused_answer (export_of j certificates) out (λ z. h (ap (λ (x : Exported). x.number) e ∙ z)) in
-          (buffer-taken j key n certificates out q ∙ a.0, ap (λ (x : Exported). x.length) e ∙ a.1)
+          (buffer_taken j key n certificates out q ∙ a.0, ap (λ (x : Exported). x.length) e ∙ a.1)
       go (suc m) q =
-          (buffer-refused j key n certificates out (not_zero q), ap (λ (x : Exported). x.length) (exported-refused j key n certificates out (not_zero q)))
+          (buffer_refused j key n certificates out (not_zero q), ap (λ (x : Exported). x.length) (exported_refused j key n certificates out (not_zero q)))
 
 pub refused_export_changes_nothing : RefusedExportChangesNothing
 refused_export_changes_nothing =
@@ -238,7 +238,7 @@ refused_export_changes_nothing =
 
 pub refused_by_take_over : RefusedByTakeOver
 refused_by_take_over j key n certificates out h =
-    let e = exported-refused j key n certificates out h in
+    let e = exported_refused j key n certificates out h in
     (ap (λ (x : Exported). x.number) e, ap (λ (x : Exported). x.index) e)
 
 -- ---- what follows the text
@@ -396,19 +396,19 @@ written_exactly = record { always = always; short = short; other = other }
     always j key n gs out z c g h =
         let e = export_there j gs c g in
         let w = written_fits (export_text (elements_for (pairs_of j) gs)) out h in (
-          exported-taken j key n (groups_text gs) out z ∙ ap (λ (o : Option (List ℕ)). answered (answer_with 28 o out)) e ∙ ap answered w.0,
-          buffer-taken j key n (groups_text gs) out z ∙ ap (λ (o : Option (List ℕ)). bufferWith o out) e ∙ w.1,
+          exported_taken j key n (groups_text gs) out z ∙ ap (λ (o : Option (List ℕ)). answered (answer_with 28 o out)) e ∙ ap answered w.0,
+          buffer_taken j key n (groups_text gs) out z ∙ ap (λ (o : Option (List ℕ)). bufferWith o out) e ∙ w.1,
         )
 
     short : (j key : List ℕ) (n : ℕ) (gs : List Group) (out : List ℕ) → (take_over j key n).number ≡ 0 → length gs ≡ length (pairs_of j)
         → every group_good gs ≡ true → length out < length (export_text (elements_for (pairs_of j) gs))
         → exported j key n (groups_text gs) out ≡ record { number = 23; index = 0; length = 0 }
     short j key n gs out z c g h =
-        exported-taken j key n (groups_text gs) out z ∙ ap (λ (o : Option (List ℕ)). answered (answer_with 28 o out)) (export_there j gs c g)
+        exported_taken j key n (groups_text gs) out z ∙ ap (λ (o : Option (List ℕ)). answered (answer_with 28 o out)) (export_there j gs c g)
         ∙ ap answered (written_short (export_text (elements_for (pairs_of j) gs)) out h)
 
     other : (j key : List ℕ) (n : ℕ) (certificates out : List ℕ) → (take_over j key n).number ≡ 0
         → ((gs : List Group) → length gs ≡ length (pairs_of j) → every group_good gs ≡ true → certificates ≡ groups_text gs → ⊥)
         → exported j key n certificates out ≡ record { number = 28; index = 0; length = 0 }
     other j key n certificates out z h =
-        exported-taken j key n certificates out z ∙ ap (λ (o : Option (List ℕ)). answered (answer_with 28 o out)) (no_groups j certificates h)
+        exported_taken j key n certificates out z ∙ ap (λ (o : Option (List ℕ)). answered (answer_with 28 o out)) (no_groups j certificates h)

@@ -24,7 +24,7 @@ use Rattle.exports.specs.declared.strings.Part.{Part}
 use Rattle.exports.specs.declared.certificates.Quad.{Quad}
 use Rattle.exports.proofs.Lexing.{letters_inside}
 use Rattle.exports.proofs.Canonical.{by_fours, none_canonical, few_not}
-use Rattle.exports.proofs.Passing.{Passing, pass-out, pass-more, pass_end, every_no, every_yes, every_all}
+use Rattle.exports.proofs.Passing.{Passing, pass_out, pass_more, pass_end, every_no, every_yes, every_all}
 
 -- ---- the first i of four letters
 
@@ -125,26 +125,26 @@ module _ {text : List ℕ} {start at : ℕ} {q : Quad} (k : Quads text start at 
         k.same ∙ ap canonical (r.is ∙ ap (λ (x : List ℕ). x ++ content (drop q.next text) 0) t)
         ∙ fours q.bytes (content (drop q.next text) 0) r.four
 
-    pub quads-falls : length text - q.next < length text - at
-    quads-falls =
+    pub quads_falls : length text - q.next < length text - at
+    quads_falls =
         let r = k.read in
         let a = r.onward (omega arith) in
         let b = letters_inside text q.next r.letters in
         omega arith
 
     module _ {g : Bool} (e : g ≡ canonical q.bytes) where
-      pub quads-bad : g ≡ false → false ≡ canonical (content (drop start text) 0)
-      quads-bad b = sym (rw (sym e ∙ b) at whole)
+      pub quads_bad : g ≡ false → false ≡ canonical (content (drop start text) 0)
+      quads_bad b = sym (rw (sym e ∙ b) at whole)
 
       module _ (y : g ≡ true) {q' : Quad} (r : QuadRead text q.next q') where
         good : canonical q.bytes ≡ true
         good = sym e ∙ y
 
-        pub quads-last : get_or q.bytes 3 0 ≡ 61 → eqb q'.count 0 ≡ canonical (content (drop start text) 0)
-        quads-last p = sym ((rw (good, eq-eqb (get_or q.bytes 3 0) 61 p) at whole) ∙ empty_quad r)
+        pub quads_last : get_or q.bytes 3 0 ≡ 61 → eqb q'.count 0 ≡ canonical (content (drop start text) 0)
+        quads_last p = sym ((rw (good, eq-eqb (get_or q.bytes 3 0) 61 p) at whole) ∙ empty_quad r)
 
-        pub quads-more : (get_or q.bytes 3 0 ≡ 61 → ⊥) → Quads text start q.next q'
-        quads-more p = record { read = r; same = rw (good, ne_eqb (get_or q.bytes 3 0) 61 p) at whole }
+        pub quads_more : (get_or q.bytes 3 0 ≡ 61 → ⊥) → Quads text start q.next q'
+        quads_more p = record { read = r; same = rw (good, ne_eqb (get_or q.bytes 3 0) 61 p) at whole }
 
 -- ---- certificates
 
@@ -163,14 +163,14 @@ Issuers text at c = Passing string (every canonical) (every canonical) text at c
 
 module _ {text : List ℕ} {at : ℕ} {c : Cursor} {p : Part} (k : Issuers text at c) (e : c.more ≡ true) (i : PartRead text c.at p) where
   pub issuers_none : p.next ≡ 0 → (ws : List (List ℕ)) (r : List Token) → from text at ≡ strings ws ++ r → false ≡ every canonical ws
-  issuers_none z = pass-out string k e false (λ x xs r q. absurd (omega (arith, (i.reads.complete x r q).0)))
+  issuers_none z = pass_out string k e false (λ x xs r q. absurd (omega (arith, (i.reads.complete x r q).0)))
 
   module _ {b : Bool} (h : b ≡ canonical (content (drop p.start text) 0)) where
-    pub issuers-bad : b ≡ false → (ws : List (List ℕ)) (r : List Token) → from text at ≡ strings ws ++ r → false ≡ every canonical ws
-    issuers-bad f = pass-out string k e false (λ x xs r q. every_no canonical x xs (sym (certificate_is i h x r q) ∙ f))
+    pub issuers_bad : b ≡ false → (ws : List (List ℕ)) (r : List Token) → from text at ≡ strings ws ++ r → false ≡ every canonical ws
+    issuers_bad f = pass_out string k e false (λ x xs r q. every_no canonical x xs (sym (certificate_is i h x r q) ∙ f))
 
-    pub issuers-more : {d : Cursor} → b ≡ true → Followed text p.next d → Issuers text at d
-    issuers-more t f = pass-more string k e (every canonical) (λ x xs r q. every_yes canonical x xs (sym (certificate_is i h x r q) ∙ t)) i.reads f
+    pub issuers_more : {d : Cursor} → b ≡ true → Followed text p.next d → Issuers text at d
+    issuers_more t f = pass_more string k e (every canonical) (λ x xs r q. every_yes canonical x xs (sym (certificate_is i h x r q) ∙ t)) i.reads f
 
 pub issuers_end : {text : List ℕ} {at : ℕ} {c : Cursor} → Issuers text at c → c.more ≡ false → (ws : List (List ℕ)) (r : List Token) → from text at ≡ strings ws ++ r → true ≡ every canonical ws
 issuers_end k e ws r q = sym (every_all canonical) ∙ pass_end string k e ws r q

@@ -126,15 +126,15 @@ module _ (k : List ℕ) (o : Owner) (n : ℕ) (serial : Name) (e : Entry) (es : 
           → named (compact (settings_for o serial) n e) ≡ record { good = true; settings = settings_for o serial }
       go (placing.more r rs) = named_back (settings_for o serial) n e ts.lengths ts.bytes sg r.typed r.spelled
 
-  abbrev thePair : Pair
-  thePair = record { serial = serial; entries = e ∷ es }
+  abbrev the_pair : Pair
+  the_pair = record { serial = serial; entries = e ∷ es }
 
-  element_right : GoodPair (text_pair o n thePair) → GroupBytes g → ElementRight o n thePair g
+  element_right : GoodPair (text_pair o n the_pair) → GroupBytes g → ElementRight o n the_pair g
   unfolding has_receipt names_register settings_of element_for text_pair
   element_right f b =
       record {
-        plain = element_plain o n thePair g;
-        good = element_good_lem o n thePair g f b;
+        plain = element_plain o n the_pair g;
+        good = element_good_lem o n the_pair g f b;
         receipt = refl;
         names = ap (λ (x : Named). x.good) first_named;
         settings = ap (λ (x : Named). x.settings) first_named;
@@ -233,29 +233,29 @@ answer_made (some text) out z = go (leb (0 + length text) (length out)) refl z
 
 module _ (j key : List ℕ) (n : ℕ) (certificates out : List ℕ) where
   module _ (z : (take_over j key n).number ≡ 0) where
-    pub exported-taken : exported j key n certificates out ≡ answered (answer_with 28 (export_of j certificates) out)
+    pub exported_taken : exported j key n certificates out ≡ answered (answer_with 28 (export_of j certificates) out)
     unfolding exported
-    exported-taken = ifZero-yes _ _ z
+    exported_taken = ifZero-yes _ _ z
 
-    pub buffer-taken : export_buffer j key n certificates out ≡ bufferWith (export_of j certificates) out
+    pub buffer_taken : export_buffer j key n certificates out ≡ bufferWith (export_of j certificates) out
     unfolding export_buffer
-    buffer-taken = ifZero-yes _ _ z
+    buffer_taken = ifZero-yes _ _ z
 
   module _ (h : (take_over j key n).number ≡ 0 → ⊥) where
-    pub exported-refused : exported j key n certificates out ≡ not_written (take_over j key n)
+    pub exported_refused : exported j key n certificates out ≡ not_written (take_over j key n)
     unfolding exported
-    exported-refused = ifZero-no (take_over j key n).number _ _ h
+    exported_refused = ifZero-no (take_over j key n).number _ _ h
 
-    pub buffer-refused : export_buffer j key n certificates out ≡ out
+    pub buffer_refused : export_buffer j key n certificates out ≡ out
     unfolding export_buffer
-    buffer-refused = ifZero-no (take_over j key n).number _ _ h
+    buffer_refused = ifZero-no (take_over j key n).number _ _ h
 
   pub made : (exported j key n certificates out).number ≡ 0 → Made j key n certificates out
   made z = go (take_over j key n).number refl
     where
       go : (m : ℕ) → (take_over j key n).number ≡ m → Made j key n certificates out
       go zero q =
-          let e = exported-taken q in
+          let e = exported_taken q in
           let a = answer_made (export_of j certificates) out (sym (ap (λ (x : Exported). x.number) e) ∙ z) in
           record {
             accepted = q;
@@ -263,10 +263,10 @@ module _ (j key : List ℕ) (n : ℕ) (certificates out : List ℕ) where
             is = a.1;
             fits = a.2;
             long = ap (λ (x : Exported). x.length) e ∙ a.3;
-            buffer = buffer-taken q ∙ a.4;
+            buffer = buffer_taken q ∙ a.4;
           }
       go (suc m) q =
-          let e = exported-refused (λ y. omega (arith, y, q)) in
+          let e = exported_refused (λ y. omega (arith, y, q)) in
           absurd (omega (arith, z, ap (λ (x : Exported). x.number) e, q))
 
 -- ---- read
@@ -282,13 +282,13 @@ module _ (text key : List ℕ) (n size : ℕ) (es : List Element) (found : eleme
   restored_is = ap (λ (x : Option (List Element)). restored_by x key n size) found
 
   module _ (survey : (rest : ℕ) → survey_number es rest ≡ rest) (fits : length (journal_of_elements es) ≤ size) where
-    pub number-yes : elements_number es size ≡ 0
+    pub number_yes : elements_number es size ≡ 0
     unfolding elements_number ask
-    number-yes = survey _ ∙ rw (le-leb (length (journal_of_elements es)) size fits)
+    number_yes = survey _ ∙ rw (le-leb (length (journal_of_elements es)) size fits)
 
-    pub restored-taken : (take_over (journal_of_elements es) key n).number ≡ 0
+    pub restored_taken : (take_over (journal_of_elements es) key n).number ≡ 0
         → restored text key n size ≡ record { number = 0; index = 0; length = length (journal_of_elements es); state = (take_over (journal_of_elements es) key n).state }
-    restored-taken z = restored_is ∙ ifZero-yes _ _ number-yes ∙ ifZero-yes _ _ z
+    restored_taken z = restored_is ∙ ifZero-yes _ _ number_yes ∙ ifZero-yes _ _ z
 
 -- ---- the theorem
 
@@ -330,9 +330,9 @@ module _ (j key : List ℕ) (n : ℕ) (certificates : List ℕ) (v : Valid j key
         all_elements key v.owner n (start_core v.owner) [] v.pairs the_groups.groups v.good w.right w.names (valid_good v) the_groups.each_bytes
         (ap (every has_text) (sym (valid_pairs v)) ∙ each) the_groups.count
 
-    journal-back : journal_of_elements es ≡ j
+    journal_back : journal_of_elements es ≡ j
     unfolding es ps
-    journal-back = journal_of_lem elements v.some ∙ sym (valid_spelled v)
+    journal_back = journal_of_lem elements v.some ∙ sym (valid_spelled v)
 
     survey : (rest : ℕ) → survey_number es rest ≡ rest
     unfolding es ps
@@ -347,21 +347,21 @@ module _ (j key : List ℕ) (n : ℕ) (certificates : List ℕ) (v : Valid j key
 
     module _ (z : (take_over j key n).number ≡ 0) (second : List ℕ) (fits : length j ≤ length second) where
       taken : (take_over (journal_of_elements es) key n).number ≡ 0
-      taken = ap (λ (x : List ℕ). (take_over x key n).number) journal-back ∙ z
+      taken = ap (λ (x : List ℕ). (take_over x key n).number) journal_back ∙ z
 
       small : length (journal_of_elements es) ≤ length second
-      small = omega (arith, ap length journal-back, fits)
+      small = omega (arith, ap length journal_back, fits)
 
       back : restored text key n (length second) ≡ record { number = 0; index = 0; length = length j; state = (take_over j key n).state }
       back =
-          restored-taken text key n (length second) es found survey small taken
-          ∙ (λ i. record { number = 0; index = 0; length = length (journal-back i); state = (take_over (journal-back i) key n).state })
+          restored_taken text key n (length second) es found survey small taken
+          ∙ (λ i. record { number = 0; index = 0; length = length (journal_back i); state = (take_over (journal_back i) key n).state })
 
-      buffer-back : restored_buffer text key n second ≡ overwrite second 0 j
+      buffer_back : restored_buffer text key n second ≡ overwrite second 0 j
       unfolding restored_buffer
-      buffer-back =
+      buffer_back =
           ifZero-yes _ _ (ap (λ (x : Restored). x.number) back)
-          ∙ ap (overwrite second 0) (ap journal_by found ∙ journal-back)
+          ∙ ap (overwrite second 0) (ap journal_by found ∙ journal_back)
 
 pub export_reads_back : ExportReadsBack
 export_reads_back j key n certificates first second bj bc z each fits =
@@ -370,5 +370,5 @@ export_reads_back j key n certificates first second bj bc z each fits =
     let same : take (exported j key n certificates first).length (export_buffer j key n certificates first) ≡ m.text
     = (λ i. take (m.long i) (m.buffer i)) ∙ over_front first m.text m.fits in (
       ap (λ (t : List ℕ). restored t key n (length second)) same ∙ back j key n certificates v bc m.text m.is each m.accepted second fits,
-      ap (λ (t : List ℕ). restored_buffer t key n second) same ∙ buffer-back j key n certificates v bc m.text m.is each m.accepted second fits,
+      ap (λ (t : List ℕ). restored_buffer t key n second) same ∙ buffer_back j key n certificates v bc m.text m.is each m.accepted second fits,
     )

@@ -68,23 +68,23 @@ module _ (w : List ℕ) where
   unlike n q = q ∙ sym (ap (λ (t : Bool). cond t (named_by (decoding UrlSafe (middle w))) not_named) (ne_eqb (count_of dot w) 2 n))
 
   module _ {a : ℕ} (first : Next w 0 a) where
-    pub dots-0 : {r : Named} → a ≡ length w → r ≡ not_named → r ≡ named w
-    dots-0 n q = unlike (λ k. omega (arith, k, dots_none w 0 a (omega arith) first n)) q
+    pub dots_0 : {r : Named} → a ≡ length w → r ≡ not_named → r ≡ named w
+    dots_0 n q = unlike (λ k. omega (arith, k, dots_none w 0 a (omega arith) first n)) q
 
     module _ (n₁ : a ≡ length w → ⊥) {e : ℕ} (second : Next w (a + 1) e) where
       one : count_of dot w ≡ suc (count_of dot (drop (a + 1) w))
       one = dots_more w 0 a (omega arith) first n₁
 
-      pub dots-1 : {r : Named} → e ≡ length w → r ≡ not_named → r ≡ named w
-      dots-1 n q = unlike (λ k. omega (arith, k, one, dots_none w (a + 1) e (omega (arith, first.1, n₁)) second n)) q
+      pub dots_1 : {r : Named} → e ≡ length w → r ≡ not_named → r ≡ named w
+      dots_1 n q = unlike (λ k. omega (arith, k, one, dots_none w (a + 1) e (omega (arith, first.1, n₁)) second n)) q
 
       -- the middle part
-      pub middle-ordered : a + 1 ≤ e
-      middle-ordered = omega (arith, second.0, next_from dot w (a + 1))
+      pub middle_ordered : a + 1 ≤ e
+      middle_ordered = omega (arith, second.0, next_from dot w (a + 1))
 
-      middle-part : middle w ≡ part (a + 1) e w
+      middle_part : middle w ≡ part (a + 1) e w
       unfolding middle next_at
-      middle-part =
+      middle_part =
           let p : first_at dot w ≡ a = omega (arith, first.0) in
           ap (λ (k : ℕ). part (k + 1) (next_at dot w (k + 1)) w) p ∙ ap (λ (k : ℕ). part (a + 1) k w) (sym second.0)
 
@@ -92,8 +92,8 @@ module _ (w : List ℕ) where
         two : count_of dot w ≡ suc (suc (count_of dot (drop (e + 1) w)))
         two = one ∙ ap suc (dots_more w (a + 1) e (omega (arith, first.1, n₁)) second n₂)
 
-        pub dots-3 : {r : Named} → (d ≡ length w → ⊥) → r ≡ not_named → r ≡ named w
-        dots-3 n q = unlike (λ k. omega (arith, k, two, dots_more w (e + 1) d (omega (arith, second.1, n₂)) third n)) q
+        pub dots_3 : {r : Named} → (d ≡ length w → ⊥) → r ≡ not_named → r ≡ named w
+        dots_3 n q = unlike (λ k. omega (arith, k, two, dots_more w (e + 1) d (omega (arith, second.1, n₂)) third n)) q
 
         module _ (n₃ : d ≡ length w) {t : Bool} (c : t ≡ accepted UrlSafe (part (a + 1) e w)) where
           named_here : named w ≡ named_by (cond t (some (bytes UrlSafe (part (a + 1) e w))) none)
@@ -101,11 +101,11 @@ module _ (w : List ℕ) where
           named_here =
               let k : count_of dot w ≡ 2 = omega (arith, two, dots_none w (e + 1) d (omega (arith, second.1, n₂)) third n₃) in
               ap (λ (v : Bool). cond v (named_by (decoding UrlSafe (middle w))) not_named) (eq-eqb (count_of dot w) 2 k)
-              ∙ ap (λ (m : List ℕ). named_by (decoding UrlSafe m)) middle-part
+              ∙ ap (λ (m : List ℕ). named_by (decoding UrlSafe m)) middle_part
               ∙ ap named_by (decoding_is (part (a + 1) e w) ∙ ap (λ (v : Bool). cond v (some (bytes UrlSafe (part (a + 1) e w))) none) (sym c))
 
-          pub dots-foreign : {r : Named} → not t ≡ true → r ≡ not_named → r ≡ named w
-          dots-foreign n q = q ∙ sym (named_here ∙ ap (λ (v : Bool). named_by (cond v (some (bytes UrlSafe (part (a + 1) e w))) none)) (not-true t n))
+          pub dots_foreign : {r : Named} → not t ≡ true → r ≡ not_named → r ≡ named w
+          dots_foreign n q = q ∙ sym (named_here ∙ ap (λ (v : Bool). named_by (cond v (some (bytes UrlSafe (part (a + 1) e w))) none)) (not-true t n))
 
-          pub dots-good : {r : Named} → not t ≡ false → r ≡ named_by (some (bytes UrlSafe (part (a + 1) e w))) → r ≡ named w
-          dots-good n q = q ∙ sym (named_here ∙ ap (λ (v : Bool). named_by (cond v (some (bytes UrlSafe (part (a + 1) e w))) none)) (not-false t n))
+          pub dots_good : {r : Named} → not t ≡ false → r ≡ named_by (some (bytes UrlSafe (part (a + 1) e w))) → r ≡ named w
+          dots_good n q = q ∙ sym (named_here ∙ ap (λ (v : Bool). named_by (cond v (some (bytes UrlSafe (part (a + 1) e w))) none)) (not-false t n))

@@ -98,8 +98,8 @@ module _ (text key : List ℕ) (n : ℕ) (out : List ℕ) where
         surveyed : (es : List Element) → Shape text es → SurveyedAs (length out) es a
         surveyed es x = v es x (owner es x)
 
-        pub read-survey : {r : Restored} → r ≡ not_read a.number 0 → (a.number ≡ 0 → ⊥) → (r ≡ restored text key n (length out)) × (out ≡ restored_buffer text key n out)
-        read-survey e other =
+        pub read_survey : {r : Restored} → r ≡ not_read a.number 0 → (a.number ≡ 0 → ⊥) → (r ≡ restored text key n (length out)) × (out ≡ restored_buffer text key n out)
+        read_survey e other =
             let f = found in
             refused a.number 0 e (numbered f.0 a.number f.1 (sym (surveyed f.0 f.2).number) other) other refl
 

@@ -226,16 +226,16 @@ module _ {j key : List ℕ} {n : ℕ} (v : Valid j key n) where
   pairs_good = subst GoodPairs (sym (valid_pairs v)) (valid_good v)
 
   module _ (gs : List Group) (count : length gs ≡ length (pairs_of j)) where
-    room-is : export_room (take_over j key n).state gs ≡ 8 + length (owner_text v.owner) + taking (pairs_of j) gs
+    room_is : export_room (take_over j key n).state gs ≡ 8 + length (owner_text v.owner) + taking (pairs_of j) gs
     unfolding export_room taking
-    room-is = omega (arith, state_length, state_issued, used_pairs v, journal_long)
+    room_is = omega (arith, state_length, state_issued, used_pairs v, journal_long)
 
     room_fits : length (export_text (elements_for (pairs_of j) gs)) ≤ export_room (take_over j key n).state gs
-    room_fits = omega (arith, room-is, text_long (elements_for (pairs_of j) gs), upper false (pairs_of j) gs pairs_good count, owner_size.0)
+    room_fits = omega (arith, room_is, text_long (elements_for (pairs_of j) gs), upper false (pairs_of j) gs pairs_good count, owner_size.0)
 
-    room-close : export_room (take_over j key n).state gs ≤ length (export_text (elements_for (pairs_of j) gs)) + 32 + 34 * length (pairs_of j)
-    room-close =
-        omega (arith, room-is, text_long (elements_for (pairs_of j) gs), lower (pairs_of j) gs pairs_good count, one_less (pairs_of j) gs, owner_size.1)
+    room_close : export_room (take_over j key n).state gs ≤ length (export_text (elements_for (pairs_of j) gs)) + 32 + 34 * length (pairs_of j)
+    room_close =
+        omega (arith, room_is, text_long (elements_for (pairs_of j) gs), lower (pairs_of j) gs pairs_good count, one_less (pairs_of j) gs, owner_size.1)
 
 pub export_room_is_enough : ExportRoomIsEnough
 export_room_is_enough = record { fits = fits; close = close; written = written }
@@ -246,7 +246,7 @@ export_room_is_enough = record { fits = fits; close = close; written = written }
 
     close : (j key : List ℕ) (n : ℕ) (gs : List Group) → AllBytes j → (take_over j key n).number ≡ 0 → length gs ≡ length (pairs_of j)
         → export_room (take_over j key n).state gs ≤ length (export_text (elements_for (pairs_of j) gs)) + 32 + 34 * length (pairs_of j)
-    close j key n gs b z count = room-close (accepted_valid j key n b z) gs count
+    close j key n gs b z count = room_close (accepted_valid j key n b z) gs count
 
     written : (j key : List ℕ) (n : ℕ) (gs : List Group) (out : List ℕ) → AllBytes j → (take_over j key n).number ≡ 0 → length gs ≡ length (pairs_of j)
         → every group_good gs ≡ true → export_room (take_over j key n).state gs ≤ length out → (exported j key n (groups_text gs) out).number ≡ 0

@@ -27,41 +27,41 @@ use Rattle.exports.specs.declared.walk.Cursor.{Cursor}
 use Rattle.exports.specs.declared.retaking.Ran.{Ran}
 use Rattle.exports.proofs.Lexical.{lexed}
 use Rattle.exports.proofs.EntryLying.{part_entry}
-use Rattle.exports.proofs.Passing.{Crossing, pass-out, pass-stop, cross-end, cross-more}
+use Rattle.exports.proofs.Passing.{Crossing, pass_out, pass_stop, cross_end, cross_more}
 
 -- ---- the strings of an array
 
 module _ (k : List (List ℕ)) (start st : State) {text : List ℕ} {at : ℕ} {c : Cursor} (w : Crossing string (run_texts k start) (run_texts k st) text at c) where
   pub texts_end : c.more ≡ false → TextsRan k start text at (record { number = 0; state = st; next = c.at })
   unfolding run_texts
-  texts_end e = record { inside = w.pass.inside; is = λ ws r q. let x = cross-end string w e ws r q in (x.0, λ z. (x.1, x.2)) }
+  texts_end e = record { inside = w.pass.inside; is = λ ws r q. let x = cross_end string w e ws r q in (x.0, λ z. (x.1, x.2)) }
 
   module _ (e : c.more ≡ true) {p : Part} (pr : PartRead text c.at p) where
     pub texts_none : p.next ≡ 0 → TextsRan k start text at (record { number = 0; state = st; next = 0 })
     texts_none z =
         record {
           inside = omega arith;
-          is = λ ws r q. absurd (pass-stop string w.pass e (λ x t s. omega (arith, (pr.reads.complete x t s).0)) ws r q);
+          is = λ ws r q. absurd (pass_stop string w.pass e (λ x t s. omega (arith, (pr.reads.complete x t s).0)) ws r q);
         }
 
     module _ (z : p.next ≡ 0 → ⊥) {s : Checked} (is : s ≡ entry_checked k st (take (p.start + p.length - p.start) (drop p.start text))) where
       its : (x : List ℕ) (r : List Token) → from text c.at ≡ string x ++ r → s ≡ entry_checked k st x
       its x r q = is ∙ part_entry k st pr z x r q
 
-      one-refused : (s.number ≡ 0 → ⊥) → (x : List ℕ) (xs : List (List ℕ)) (r : List Token) → from text c.at ≡ string x ++ r
+      one_refused : (s.number ≡ 0 → ⊥) → (x : List ℕ) (xs : List (List ℕ)) (r : List Token) → from text c.at ≡ string x ++ r
           → run_texts k st (x ∷ xs) ≡ record { number = s.number; state = st }
       unfolding run_texts
-      one-refused h x xs r q = rw (← its x r q) (ifZero-no s.number _ _ h)
+      one_refused h x xs r q = rw (← its x r q) (ifZero-no s.number _ _ h)
 
       one_more : s.number ≡ 0 → (x : List ℕ) (xs : List (List ℕ)) (r : List Token) → from text c.at ≡ string x ++ r → run_texts k st (x ∷ xs) ≡ run_texts k s.state xs
       unfolding run_texts
       one_more h x xs r q = rw (← its x r q) (ifZero-yes _ _ h)
 
-      pub texts-refused : (s.number ≡ 0 → ⊥) → TextsRan k start text at (record { number = s.number; state = st; next = 0 })
-      texts-refused h = record { inside = omega arith; is = λ ws r q. (pass-out string w.pass e _ (one-refused h) ws r q, λ n. absurd (h n)) }
+      pub texts_refused : (s.number ≡ 0 → ⊥) → TextsRan k start text at (record { number = s.number; state = st; next = 0 })
+      texts_refused h = record { inside = omega arith; is = λ ws r q. (pass_out string w.pass e _ (one_refused h) ws r q, λ n. absurd (h n)) }
 
-      pub texts-more : s.number ≡ 0 → {d : Cursor} → Followed text p.next d → Crossing string (run_texts k start) (run_texts k s.state) text at d
-      texts-more h f = cross-more string w e (run_texts k s.state) (one_more h) pr.reads z f
+      pub texts_more : s.number ≡ 0 → {d : Cursor} → Followed text p.next d → Crossing string (run_texts k start) (run_texts k s.state) text at d
+      texts_more h f = cross_more string w e (run_texts k s.state) (one_more h) pr.reads z f
 
 -- ---- one element
 
@@ -85,21 +85,21 @@ module _ (k : List (List ℕ)) (st : State) (text : List ℕ) (at : ℕ) {first 
   pair_first f t = record { is = λ x rest q. let y = t.is x.receipts rest q in (rw f y.0, y.1) }
 
   module _ (f : first ≡ false) {s : Checked} (p : PairStarted st text at s) where
-    later-is : (x : Element) (rest : List Token) → from text at ≡ strings x.receipts ++ rest → after_serial k st x.receipts s ≡ run_pair k first st (pair_of x)
+    later_is : (x : Element) (rest : List Token) → from text at ≡ strings x.receipts ++ rest → after_serial k st x.receipts s ≡ run_pair k first st (pair_of x)
     unfolding run_pair pair_of after_serial
-    later-is x rest q = rw f (ap (after_serial k st x.receipts) (p.is x rest q))
+    later_is x rest q = rw f (ap (after_serial k st x.receipts) (p.is x rest q))
 
-    pub pair-refused : (s.number ≡ 0 → ⊥) → PairRan k first st text at (record { number = s.number; state = st; next = 0 })
+    pub pair_refused : (s.number ≡ 0 → ⊥) → PairRan k first st text at (record { number = s.number; state = st; next = 0 })
     unfolding after_serial
-    pair-refused h = record { is = λ x rest q. (sym (ifZero-no s.number _ _ h) ∙ later-is x rest q, λ z. absurd (h z)) }
+    pair_refused h = record { is = λ x rest q. (sym (ifZero-no s.number _ _ h) ∙ later_is x rest q, λ z. absurd (h z)) }
 
-    pub pair-later : {r : Ran} → s.number ≡ 0 → TextsRan k s.state text at r → PairRan k first st text at r
+    pub pair_later : {r : Ran} → s.number ≡ 0 → TextsRan k s.state text at r → PairRan k first st text at r
     unfolding after_serial
-    pair-later h t =
+    pair_later h t =
         record {
           is = λ x rest q.
               let y = t.is x.receipts rest q in
-              (y.0 ∙ (sym (ifZero-yes _ _ h) ∙ later-is x rest q), y.1);
+              (y.0 ∙ (sym (ifZero-yes _ _ h) ∙ later_is x rest q), y.1);
         }
 
 -- the receipts after the serial, or without it in the first element
@@ -108,7 +108,7 @@ pub pair_ran : (k : List (List ℕ)) {first : Bool} {st st' : State} {text : Lis
     → TextsRan k st' text at r → PairRan k first st text at r
 pair_ran k {first} {st} {st'} {text} {at} {r} w t =
     ⊎_elim
-    (λ x. pair-later k st text at x.0 x.2 x.3 (subst (λ (u : State). TextsRan k u text at r) x.4 t))
+    (λ x. pair_later k st text at x.0 x.2 x.3 (subst (λ (u : State). TextsRan k u text at r) x.4 t))
     (λ x. pair_first k st text at x.0 (subst (λ (u : State). TextsRan k u text at r) x.1 t))
     w
 
@@ -135,8 +135,8 @@ module _ (k : List (List ℕ)) (first : Bool) (st : State) {text : List ℕ} {at
     pairs_more w ws rest q = rw (← its_pair w rest q) (ifZero-yes _ _ n)
 
     -- e is the place after the element
-    pub pairs-after : {e : ℕ} → ElementEnded text r.next e → (w : Written) (rest : List Token) → from text at ≡ written w ++ rest → (at < e) × (from text e ≡ rest)
-    pairs-after g w rest q =
+    pub pairs_after : {e : ℕ} → ElementEnded text r.next e → (w : Written) (rest : List Token) → from text at ≡ written w ++ rest → (at < e) × (from text e ≡ rest)
+    pairs_after g w rest q =
         let x = f.is w rest q in
         let y = (h.is w.element x.1 x.2).1 n in
         let z = g.is x.1 rest x.3 y.1 in

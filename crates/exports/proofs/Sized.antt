@@ -95,26 +95,26 @@ module _ (s : List ℕ) (at : ℕ) where
   }
 
   module _ (b : AllBytes s) {v : ℕ} (e : number_at s at 2 ≡ Is v) where
-    length-is : v ≡ length_at s at
+    length_is : v ≡ length_at s at
     unfolding length_at
-    length-is = (count_found s at 2 (omega arith) b e).0
+    length_is = (count_found s at 2 (omega arith) b e).0
 
     pub sized_room : at + 2 ≤ length s
     sized_room = (number_found s at 2 e).room
 
     -- none: the text is not all there
-    pub sized-cut : length s < at + 2 + v → SizedRead s at 0
-    sized-cut h = record {
+    pub sized_cut : length s < at + 2 + v → SizedRead s at 0
+    sized_cut h = record {
       inside = omega arith;
       onward = λ k. absurd (omega arith);
       sound = λ k. absurd (omega arith);
-      complete = λ t rest g q. absurd (omega (arith, room_there t rest q, length_there t rest g q, length-is));
+      complete = λ t rest g q. absurd (omega (arith, room_there t rest q, length_there t rest g q, length_is));
     }
 
     module _ (h : at + 2 + v ≤ length s) where
       here : there s at ≡ true
       unfolding there
-      here = rw (le-leb (at + 2) (length s) sized_room, le-leb (at + 2 + length_at s at) (length s) (omega (arith, h, length-is)))
+      here = rw (le-leb (at + 2) (length s) sized_room, le-leb (at + 2 + length_at s at) (length s) (omega (arith, h, length_is)))
 
       long : length (text_at s at) ≡ length_at s at
       long = length_text s b at here
@@ -123,8 +123,8 @@ module _ (s : List ℕ) (at : ℕ) where
       unfolding text_at
       part = ap (λ (n : ℕ). take n (drop (at + 2) s)) (sym long)
 
-      pub sized-whole : {r : ℕ} → r ≡ at + 2 + v → SizedRead s at r
-      sized-whole {r} p = record {
+      pub sized_whole : {r : ℕ} → r ≡ at + 2 + v → SizedRead s at r
+      sized_whole {r} p = record {
         inside = omega (arith, p);
         onward = λ k. omega (arith, p);
         sound = λ k. (text_at s at, lt_short _ (text_short s b at here), is, part, ends);
@@ -132,7 +132,7 @@ module _ (s : List ℕ) (at : ℕ) where
       }
         where
           ends : r ≡ at + 2 + length (text_at s at)
-          ends = omega (arith, p, long, length-is)
+          ends = omega (arith, p, long, length_is)
 
           is : drop at s ≡ entry_text (text_at s at) ++ drop r s
           is =
@@ -140,7 +140,7 @@ module _ (s : List ℕ) (at : ℕ) where
               there_entry s b at here ∙ ap (λ (n : ℕ). entry_text (text_at s at) ++ drop n s) k
 
           at_end_lem : (t rest : List ℕ) → short t ≡ true → drop at s ≡ entry_text t ++ rest → r ≡ at + 2 + length t
-          at_end_lem t rest g q = omega (arith, p, length_there t rest g q, length-is)
+          at_end_lem t rest g q = omega (arith, p, length_there t rest g q, length_is)
 
 -- ---- texts one after the other: `i` of `count` texts from a place on are passed
 
@@ -179,9 +179,9 @@ module _ (s : List ℕ) (from count : ℕ) where
     first_left rest l [] e = absurd (omega (arith, l.many, ap length e))
     first_left rest l (w ∷ ws) e = (w, ws, refl)
 
-    split-left : (rest : List ℕ) → Left count i (drop p s) rest → (w : List ℕ) × (ws : List (List ℕ)) × (suc i + length ws ≡ count) × (short w ≡ true)
+    split_left : (rest : List ℕ) → Left count i (drop p s) rest → (w : List ℕ) × (ws : List (List ℕ)) × (suc i + length ws ≡ count) × (short w ≡ true)
         × (every short ws ≡ true) × (drop p s ≡ entry_text w ++ (sized_texts ws ++ rest))
-    split-left rest l =
+    split_left rest l =
         let f = first_left rest l l.texts refl in
         let w = f.0 in
         let ws = f.1 in
@@ -198,12 +198,12 @@ module _ (s : List ℕ) (from count : ℕ) where
     -- no text: there are not so many
     pub texts_none : q ≡ 0 → (ts : List (List ℕ)) (rest : List ℕ) → length ts ≡ count → every short ts ≡ true → drop from s ≡ sized_texts ts ++ rest → ⊥
     texts_none z ts rest e g h =
-        let x = split-left rest (t.left ts rest e g h) in
+        let x = split_left rest (t.left ts rest e g h) in
         let y = r.complete x.0 (sized_texts x.1 ++ rest) x.3 x.5 in
         omega (arith, y.0, z)
 
-    pub texts-more : 0 < q → Texts s from count q (i + 1)
-    texts-more z =
+    pub texts_more : 0 < q → Texts s from count q (i + 1)
+    texts_more z =
         let o = r.sound z in
         record {
           inside = r.inside;
@@ -217,7 +217,7 @@ module _ (s : List ℕ) (from count : ℕ) where
               ∙ sym (append_assoc (sized_texts t.done) (entry_text o.0) (drop q s))
               ∙ ap (λ (l : List ℕ). l ++ drop q s) (sym (sized_append t.done (o.0 ∷ []) ∙ ap (λ (l : List ℕ). sized_texts t.done ++ l) (sized_cons o.0 [] ∙ ap (λ (l : List ℕ). entry_text o.0 ++ l) sized_nil ∙ append-nil (entry_text o.0))));
           left = λ ts rest e g h.
-              let x = split-left rest (t.left ts rest e g h) in
+              let x = split_left rest (t.left ts rest e g h) in
               let y = r.complete x.0 (sized_texts x.1 ++ rest) x.3 x.5 in
               record { texts = x.1; many = omega (arith, x.2); brief = x.4; is = y.1 };
         }
@@ -279,36 +279,36 @@ module _ (s : List ℕ) (at : ℕ) where
     opened : drop at s ≡ get_or s at 0 ∷ drop (at + 1) s
     opened = drop-cons s at 0 h ∙ ap (λ (n : ℕ). get_or s at 0 ∷ drop n s) (sym (add-one at))
 
-    pub group-many : (g : Group) (rest : List ℕ) → drop at s ≡ group_text g ++ rest → get_or s at 0 ≡ length (all g)
-    group-many g rest q = ap (λ (l : List ℕ). get_or l 0 0) (sym opened ∙ q ∙ ap (λ (l : List ℕ). l ++ rest) (group_is g))
+    pub group_many : (g : Group) (rest : List ℕ) → drop at s ≡ group_text g ++ rest → get_or s at 0 ≡ length (all g)
+    group_many g rest q = ap (λ (l : List ℕ). get_or l 0 0) (sym opened ∙ q ∙ ap (λ (l : List ℕ). l ++ rest) (group_is g))
 
-    pub group-tail : (g : Group) (rest : List ℕ) → drop at s ≡ group_text g ++ rest → drop (at + 1) s ≡ sized_texts (all g) ++ rest
-    group-tail g rest q = ap (drop 1) (sym opened ∙ q ∙ ap (λ (l : List ℕ). l ++ rest) (group_is g))
+    pub group_tail : (g : Group) (rest : List ℕ) → drop at s ≡ group_text g ++ rest → drop (at + 1) s ≡ sized_texts (all g) ++ rest
+    group_tail g rest q = ap (drop 1) (sym opened ∙ q ∙ ap (λ (l : List ℕ). l ++ rest) (group_is g))
 
-    pub group-zero : get_or s at 0 ≡ 0 → GroupRead s at 0
-    group-zero z = record {
+    pub group_zero : get_or s at 0 ≡ 0 → GroupRead s at 0
+    group_zero z = record {
       inside = omega arith;
       onward = λ k. absurd (omega arith);
       sound = λ k. absurd (omega arith);
-      complete = λ g rest e q. absurd (omega (arith, z, group-many g rest q));
+      complete = λ g rest e q. absurd (omega (arith, z, group_many g rest q));
     }
 
     module _ {count p i : ℕ} (c : count ≡ get_or s at 0) (t : Texts s (at + 1) count p i) where
-      pub group-cut : i < count → {q : ℕ} → SizedRead s p q → q ≡ 0 → GroupRead s at 0
-      group-cut m r z = record {
+      pub group_cut : i < count → {q : ℕ} → SizedRead s p q → q ≡ 0 → GroupRead s at 0
+      group_cut m r z = record {
         inside = omega arith;
         onward = λ k. absurd (omega arith);
         sound = λ k. absurd (omega arith);
         complete = λ g rest e q.
-            absurd (texts_none s (at + 1) count t m r z (all g) rest (sym (group-many g rest q) ∙ sym c) (good_texts g e) (group-tail g rest q));
+            absurd (texts_none s (at + 1) count t m r z (all g) rest (sym (group_many g rest q) ∙ sym c) (good_texts g e) (group_tail g rest q));
       }
 
-      pub group-whole : 0 < count → count < 256 → count ≤ i → GroupRead s at p
-      group-whole some few m = record {
+      pub group_whole : 0 < count → count < 256 → count ≤ i → GroupRead s at p
+      group_whole some few m = record {
         inside = t.inside;
         onward = λ k. omega (arith, t.onward);
         sound = λ k. found t.done (omega (arith, t.many, t.few)) t.brief t.sound;
-        complete = λ g rest e q. (omega (arith, t.onward), texts_end s (at + 1) count t m (all g) rest (sym (group-many g rest q) ∙ sym c) (good_texts g e) (group-tail g rest q));
+        complete = λ g rest e q. (omega (arith, t.onward), texts_end s (at + 1) count t m (all g) rest (sym (group_many g rest q) ∙ sym c) (good_texts g e) (group_tail g rest q));
       }
         where
           found : (ds : List (List ℕ)) → length ds ≡ count → every short ds ≡ true → drop (at + 1) s ≡ sized_texts ds ++ drop p s
@@ -375,8 +375,8 @@ module _ (s : List ℕ) (k : ℕ) where
         let y = r.complete x.0 (groups_text x.1) x.3 x.5 in
         omega (arith, y.0, z)
 
-    pub passed-more : 0 < q → Passed s k q (i + 1)
-    passed-more z =
+    pub passed_more : 0 < q → Passed s k q (i + 1)
+    passed_more z =
         let o = r.sound z in
         record {
           inside = r.inside;
@@ -395,8 +395,8 @@ module _ (s : List ℕ) (k : ℕ) where
               record { groups = x.1; many = omega (arith, x.2); good = x.4; is = y.1 };
         }
 
-    pub groups-cut : q ≡ 0 → (false ≡ true) ↔ GroupsThere k s
-    groups-cut z = (λ e. true-is-not-false e, λ g. absurd (passed_none z g))
+    pub groups_cut : q ≡ 0 → (false ≡ true) ↔ GroupsThere k s
+    groups_cut z = (λ e. true-is-not-false e, λ g. absurd (passed_none z g))
 
   pub groups_whole : {p i : ℕ} → Passed s k p i → k ≤ i → (eqb p (length s) ≡ true) ↔ GroupsThere k s
   groups_whole {p} {i} t m = (

@@ -40,7 +40,7 @@ use Rattle.exports.proofs.Arrays.{string_opens}
 use Rattle.exports.proofs.Objects.{written_opens}
 use Rattle.exports.proofs.NamedRaw.{named_raw, named_small}
 use Rattle.exports.proofs.Putting.{onward, moved_moved, moved_still}
-use Rattle.exports.proofs.Passing.{Passing, left_start, pass_start, pass-out, pass-more, pass_end, some_begun, some_written, of_elements}
+use Rattle.exports.proofs.Passing.{Passing, left_start, pass_start, pass_out, pass_more, pass_end, some_begun, some_written, of_elements}
 
 -- ---- a text has an element
 
@@ -102,18 +102,18 @@ module _ {room : ℕ} {text : List ℕ} {at : ℕ} {p : End} {b : Bool} {n : ℕ
 
   module _ (m : c.more ≡ true) {s : Part} (i : PartRead text c.at s) where
     -- there is a string, so it was read
-    pub measure-refused : (o : End) (a : Measured) → s.next ≡ 0 → (ws : List (List ℕ)) (r : List Token) → from text at ≡ strings ws ++ r → a ≡ measured room o ws
-    measure-refused o a z ws r e =
+    pub measure_refused : (o : End) (a : Measured) → s.next ≡ 0 → (ws : List (List ℕ)) (r : List Token) → from text at ≡ strings ws ++ r → a ≡ measured room o ws
+    measure_refused o a z ws r e =
         let l = (k.pass.left ws r e).1.more m in
         absurd (omega (arith, z, (i.reads.complete l.0 _ l.3).0))
 
-    pub measure-more : {b' : Bool} {u v : End} {d : Cursor} → (s.next ≡ 0 → ⊥) → b' ≡ (b && leb s.length 65535) → u ≡ moved room q 2 → v ≡ moved room u s.length
+    pub measure_more : {b' : Bool} {u v : End} {d : Cursor} → (s.next ≡ 0 → ⊥) → b' ≡ (b && leb s.length 65535) → u ≡ moved room q 2 → v ≡ moved room u s.length
         → Followed text s.next d → Measures room text at p b' (n + 1) v d
-    measure-more {b'} {u} {v} z x y w f =
+    measure_more {b'} {u} {v} z x y w f =
         let pos : 0 < s.next = omega (arith, z) in
         let e : v ≡ moved room (moved room q 2) s.length = w ∙ ap (λ (t : End). moved room t s.length) y in
         record {
-          pass = pass-more string k.pass m (measuring room b' (n + 1) v)
+          pass = pass_more string k.pass m (measuring room b' (n + 1) v)
               (λ w₁ ws r t. measuring_next room b n q w₁ ws ∙ sym ((λ j. measuring room (x j) (n + 1) (e j) ws) ∙ ap (λ (a : ℕ). measuring room (b && leb a 65535) (n + 1) (moved room (moved room q 2) a) ws) (i.long w₁ r t)))
               i.reads f;
           small = λ t. omega (arith, k.small m, i.reads.onward pos, f.onward (f.more t).0);
@@ -138,12 +138,12 @@ module _ {text : List ℕ} {at : ℕ} {c : Cursor} {n : Named} (b : Begun text a
       (λ ws r q. e ∙ sym nothing_named ∙ ap (λ (x : List (List ℕ)). named (first_of x)) (sym ((left_start string string_opens b ws r q).ended m).0), small_none e)
 
   module _ (m : c.more ≡ true) {p : Part} (i : PartRead text c.at p) where
-    pub named-refused : p.next ≡ 0 → n ≡ not_named → NamesFirst text at n
-    named-refused z e =
+    pub named_refused : p.next ≡ 0 → n ≡ not_named → NamesFirst text at n
+    named_refused z e =
         (λ ws r q. let l = (left_start string string_opens b ws r q).more m in absurd (omega (arith, (i.reads.complete l.0 _ l.3).0)), small_none e)
 
-    pub named-first : n ≡ named (raw_of text p) → NamesFirst text at n
-    named-first e = (
+    pub named_first : n ≡ named (raw_of text p) → NamesFirst text at n
+    named_first e = (
       λ ws r q.
           let l = (left_start string string_opens b ws r q).more m in
           e ∙ named_raw (i.spells l.0 _ l.3) ∙ ap (λ (x : List (List ℕ)). named (first_of x)) (sym l.2),
@@ -252,17 +252,17 @@ module _ {room : ℕ} {text : List ℕ} (s₀ s : Survey) {c : Cursor} (k : Surv
   survey_end e = of_elements (surveyed room s₀) k.group (λ ws r q. pass_end written k.pass e ws r q)
 
   module _ (m : c.more ≡ true) {e : Places} (i : ElementRead text c.at e) where
-    pub survey-refused : e.next ≡ 0 → (es : List Element) → Shape text es → s ≡ surveyed room s₀ es
+    pub survey_refused : e.next ≡ 0 → (es : List Element) → Shape text es → s ≡ surveyed room s₀ es
     unfolding surveying
-    survey-refused z = of_elements (surveyed room s₀) k.group (pass-out written k.pass m s (λ x xs r q. absurd (omega (arith, (i.reads.complete x r q).0))))
+    survey_refused z = of_elements (surveyed room s₀) k.group (pass_out written k.pass m s (λ x xs r q. absurd (omega (arith, (i.reads.complete x r q).0))))
 
-    pub survey-more : {s' : Survey} {d : Cursor} → ((x : Element) → Placed text e x → s' ≡ asked room s x) → Followed text e.next d → SurveyPass room text s₀ s' d
+    pub survey_more : {s' : Survey} {d : Cursor} → ((x : Element) → Placed text e x → s' ≡ asked room s x) → Followed text e.next d → SurveyPass room text s₀ s' d
     unfolding surveying surveyed elements
-    survey-more {s'} {d} h f =
+    survey_more {s'} {d} h f =
         record {
           place = k.place;
           group = k.group;
-          pass = pass-more written k.pass m (surveying room s') (λ x xs r q. ap (λ (t : Survey). surveyed room t (elements xs)) (sym (h x.element (i.found x r q)))) i.reads f;
+          pass = pass_more written k.pass m (surveying room s') (λ x xs r q. ap (λ (t : Survey). surveyed room t (elements xs)) (sym (h x.element (i.found x r q)))) i.reads f;
         }
 
 pub places_inside : {text : List ℕ} {at : ℕ} {e : Places} → ElementRead text at e → PlacesInside text e
@@ -334,9 +334,9 @@ all_asked_lem {room} {n = n} {p = p} t a b f g =
 
 module _ {room : ℕ} {text : List ℕ} {n : Named} {s : Survey} {m : Bool} (k : AllAsked room text n s m) where
   module _ (es : List Element) (x : Shape text es) (o : n ≡ owner_named es) where
-    all-is : s ≡ record { good = every element_good es; some = every has_receipt es; named = every names_register es; end = moved room start (length (journal_of_elements es)) }
+    all_is : s ≡ record { good = every element_good es; some = every has_receipt es; named = every names_register es; end = moved room start (length (journal_of_elements es)) }
     unfolding journal_of_elements journal_spelled
-    all-is =
+    all_is =
         let len = n.settings.id.len in
         let y = owner_text (owner_of es) in
         let z = pairs_spelled (map pair_of es) in
@@ -352,12 +352,12 @@ module _ {room : ℕ} {text : List ℕ} {n : Named} {s : Survey} {m : Bool} (k :
     number_is : survey_answer m s ≡ elements_number es room
     unfolding survey_answer elements_number survey_number
     number_is =
-        (λ i. survey_answer (k.some es x i) (all-is i))
+        (λ i. survey_answer (k.some es x i) (all_is i))
         ∙ ap (λ (t : Bool). ask (some_of es && every element_good es) 28 (ask (every has_receipt es) 29 (ask (every names_register es) 28 (ask t 23 0)))) (start_fits room (length (journal_of_elements es)))
 
-    length-is : s.end.fits ≡ true → s.end.at ≡ length (journal_of_elements es)
-    length-is f =
-        let e = ap (λ (q : Survey). q.end) all-is in
+    length_is : s.end.fits ≡ true → s.end.at ≡ length (journal_of_elements es)
+    length_is f =
+        let e = ap (λ (q : Survey). q.end) all_is in
         ap (λ (q : End). q.at) e ∙ omega (arith, (onward room start (length (journal_of_elements es)) (sym (ap (λ (q : End). q.fits) e) ∙ f)).at)
 
   pub number_given : {number : ℕ} → number ≡ survey_answer m s → (es : List Element) → Shape text es → n ≡ owner_named es
@@ -370,5 +370,5 @@ module _ {room : ℕ} {text : List ℕ} {n : Named} {s : Survey} {m : Bool} (k :
             let a = ask_zero (m && s.good) 27 _ (sym e ∙ z) in
             let b = ask_zero s.some 28 _ a.1 in
             let c = ask_zero s.named 27 _ b.1 in
-            length-is es x o (ask_zero s.end.fits 22 0 c.1).0;
+            length_is es x o (ask_zero s.end.fits 22 0 c.1).0;
       }

@@ -29,14 +29,14 @@ use Rattle.journal.specs.Valid.{Owner, settings_for, owner_text}
 use Rattle.journal.specs.declared.state.State.{State}
 use Rattle.journal.specs.declared.checking.Checked.{Checked}
 use Rattle.journal.proofs.Answers.{sound-yes, settings-three}
-use Rattle.journal.proofs.Heads.{length_head, read-count-at, read-settings, head_good_lem}
+use Rattle.journal.proofs.Heads.{length_head, read_count_at, read_settings, head_good_lem}
 use Rattle.journal.proofs.Accepting.{fresh_length, fresh_place, fresh_section, head_pair}
 use Rattle.journal.proofs.Registers.{empty_work}
 use Rattle.journal.proofs.ReadBySteps.{fresh_sound}
 use Rattle.journal.proofs.Places.{length_entry, text_at_lem, there_at}
 use Rattle.journal.proofs.Sections.{length_start}
-use Rattle.journal.proofs.Starting.{serial-read, count-read, start-there}
-use Rattle.journal.proofs.Stepping.{full_yes, full_no, step-entry, end_none, end_start, idle, answer_zero, answer_no}
+use Rattle.journal.proofs.Starting.{serial_read, count_read, start_there_lem}
+use Rattle.journal.proofs.Stepping.{full_yes, full_no, step_entry, end_none, end_start, idle, answer_zero, answer_no}
 use Rattle.journal.proofs.PartSteps.{Ready, ready_step, turn, stuck}
 use Rattle.exports.specs.Text.{every}
 use Rattle.exports.specs.Spelled.{short, sized_texts, TextPair, pair_spelled, pairs_spelled, journal_spelled, GoodPair, GoodPairs, also}
@@ -187,13 +187,13 @@ module _ (k : List (List ℕ)) (j : List ℕ) (fits : length j < 184467440737095
         ap (λ (m : ℕ). checked m st (text_at j st.length)) (ask_yes 15 (text_number k st (text_at j st.length)) there_is)
         ∙ ap (λ (x : List ℕ). checked (text_number k st x) st x) text_is
 
-    entry-long : length j ≡ st.length + (length (entry_text w) + length more)
-    entry-long = left_long j st (entry_text w ++ more) a ∙ ap (λ (n : ℕ). st.length + n) (length-append (entry_text w) more)
+    entry_long : length j ≡ st.length + (length (entry_text w) + length more)
+    entry_long = left_long j st (entry_text w ++ more) a ∙ ap (λ (n : ℕ). st.length + n) (length-append (entry_text w) more)
 
     entry_ready_lem : entry_ready st w ≡ true
     unfolding entry_ready
     entry_ready_lem =
-        let l = entry-long in
+        let l = entry_long in
         rw (sound-yes st a.ready.alone, le-leb (st.length + length (entry_text w)) 18446744073709551615 (omega arith))
 
     checked_is : entry_checked k st w ≡ text_checked k st w
@@ -202,64 +202,64 @@ module _ (k : List (List ℕ)) (j : List ℕ) (fits : length j < 184467440737095
 
     module _ (less : st.since < count_at j st.place 4) where
       entry_step : one_step k st j ≡ entry_checked k st w
-      entry_step = step-entry k st j (full_no st j less) ∙ (place_is ∙ sym checked_is)
+      entry_step = step_entry k st j (full_no st j less) ∙ (place_is ∙ sym checked_is)
 
       -- after it
       module _ (z : (entry_checked k st w).number ≡ 0) where
         x : State
         x = (entry_checked k st w).state
 
-        x-is : x ≡ after st w
+        x_is : x ≡ after st w
         unfolding x text_checked
-        x-is =
+        x_is =
             ap (λ (c : Checked). c.state) checked_is
             ∙ checked_case (text_number k st w) st w (sym (ap (λ (c : Checked). c.number) checked_is) ∙ z)
 
-        after-fields : ((after st w).length ≡ st.length + length (entry_text w)) × ((after st w).since ≡ st.since + 1) × ((after st w).place ≡ st.place)
+        after_fields : ((after st w).length ≡ st.length + length (entry_text w)) × ((after st w).since ≡ st.since + 1) × ((after st w).place ≡ st.place)
         unfolding after next
-        after-fields = (refl, refl, refl)
+        after_fields = (refl, refl, refl)
 
         pub entry_at : At j (entry_checked k st w).state more
         unfolding x
         entry_at =
-            further j st (entry_checked k st w).state (entry_text w) more a (ap (λ (y : State). y.length) x-is ∙ after-fields.0)
+            further j st (entry_checked k st w).state (entry_text w) more a (ap (λ (y : State). y.length) x_is ∙ after_fields.0)
             (subst (λ (c : Checked). Ready c.state j) entry_step (ready_step k j st (ap (λ (c : Checked). c.number) entry_step ∙ z) a.ready))
 
-        pub entry-since : (entry_checked k st w).state.since ≡ st.since + 1
+        pub entry_since : (entry_checked k st w).state.since ≡ st.since + 1
         unfolding x
-        entry-since = ap (λ (y : State). y.since) x-is ∙ after-fields.1
+        entry_since = ap (λ (y : State). y.since) x_is ∙ after_fields.1
 
         pub entry_place : (entry_checked k st w).state.place ≡ st.place
         unfolding x
-        entry_place = ap (λ (y : State). y.place) x-is ∙ after-fields.2
+        entry_place = ap (λ (y : State). y.place) x_is ∙ after_fields.2
 
   -- ---- the start of a pair
 
   module _ (st : State) (s : Name) (c : ℕ) (more : List ℕ) (typed : length s.bytes ≡ 32) (good : serial_good s ≡ true) (few : c < 4294967296) (a : At j st (pair_start s c ++ more)) where
-    start-long : length j ≡ st.length + (8 + s.len + length more)
-    start-long =
+    start_long : length j ≡ st.length + (8 + s.len + length more)
+    start_long =
         left_long j st (pair_start s c ++ more) a
         ∙ ap (λ (n : ℕ). st.length + n) (length-append (pair_start s c) more ∙ ap (λ (n : ℕ). n + length more) (length_start s typed good c))
 
     start_is : start_there j st.length ≡ true
     start_is =
         ap (λ (l : List ℕ). start_there l st.length) a.whole
-        ∙ start-there s (serial_typed s typed good) good a.pre c more st.length a.long few
+        ∙ start_there_lem s (serial_typed s typed good) good a.pre c more st.length a.long few
 
     serial_is : serial_at j st.length ≡ s
     serial_is =
         ap (λ (l : List ℕ). serial_at l st.length) a.whole
-        ∙ serial-read s (serial_typed s typed good) good a.pre c more st.length a.long few
+        ∙ serial_read s (serial_typed s typed good) good a.pre c more st.length a.long few
 
     count_is : count_at j (st.length + 4 + s.len) 4 ≡ c
     count_is =
         ap (λ (l : List ℕ). count_at l (st.length + 4 + s.len) 4) a.whole
-        ∙ count-read s (serial_typed s typed good) good a.pre c more st.length a.long few
+        ∙ count_read s (serial_typed s typed good) good a.pre c more st.length a.long few
 
     serial_ready_lem : serial_ready st s ≡ true
     unfolding serial_ready
     serial_ready_lem =
-        let l = start-long in
+        let l = start_long in
         rw (sound-yes st a.ready.alone, le-leb (st.length + 8 + s.len) 18446744073709551615 (omega arith))
 
     number_is : start_number st j ≡ serial_number st s
@@ -272,33 +272,33 @@ module _ (k : List (List ℕ)) (j : List ℕ) (fits : length j < 184467440737095
       start_step : one_step k st j ≡ serial_checked st s
       unfolding start_checked serial_checked
       start_step =
-          end_start k st j (full_yes st j (omega (arith, ends))) (omega (arith, start-long))
+          end_start k st j (full_yes st j (omega (arith, ends))) (omega (arith, start_long))
           ∙ (ap (λ (m : ℕ). ifZero m (stopped 0 (renewed st (serial_at j st.length))) (stopped m st)) number_is
           ∙ (ap (λ (x : Name). ifZero (serial_number st s) (stopped 0 (renewed st x)) (stopped (serial_number st s) st)) serial_is
           ∙ sym (ap (λ (t : Bool). cond t (ifZero (serial_number st s) (stopped 0 (renewed st s)) (stopped (serial_number st s) st)) (stopped 6 st)) serial_ready_lem)))
 
       module _ (z : (serial_checked st s).number ≡ 0) where
-        start-state : (serial_checked st s).state ≡ renewed st s
+        start_state : (serial_checked st s).state ≡ renewed st s
         unfolding serial_checked
-        start-state =
+        start_state =
             let q : serial_checked st s ≡ ifZero (serial_number st s) (stopped 0 (renewed st s)) (stopped (serial_number st s) st) =
             ap (λ (t : Bool). cond t (ifZero (serial_number st s) (stopped 0 (renewed st s)) (stopped (serial_number st s) st)) (stopped 6 st)) serial_ready_lem in
             ap (λ (y : Checked). y.state) q ∙ started_case (serial_number st s) (renewed st s) st (sym (ap (λ (y : Checked). y.number) q) ∙ z)
 
-        renewed-fields : ((renewed st s).length ≡ st.length + 8 + s.len) × ((renewed st s).since ≡ 0) × ((renewed st s).place ≡ st.length + 4 + s.len)
+        renewed_fields : ((renewed st s).length ≡ st.length + 8 + s.len) × ((renewed st s).since ≡ 0) × ((renewed st s).place ≡ st.length + 4 + s.len)
         unfolding renewed
-        renewed-fields = (refl, refl, refl)
+        renewed_fields = (refl, refl, refl)
 
         pub start_at : At j (serial_checked st s).state more
         start_at =
             further j st (serial_checked st s).state (pair_start s c) more a
-            (ap (λ (y : State). y.length) start-state ∙ omega (arith, renewed-fields.0, length_start s typed good c))
+            (ap (λ (y : State). y.length) start_state ∙ omega (arith, renewed_fields.0, length_start s typed good c))
             (subst (λ (y : Checked). Ready y.state j) start_step (ready_step k j st (ap (λ (y : Checked). y.number) start_step ∙ z) a.ready))
 
         pub start_count : count_at j (serial_checked st s).state.place 4 ≡ (serial_checked st s).state.since + c
         start_count =
-            ap (λ (y : State). count_at j y.place 4) start-state
-            ∙ (ap (λ (m : ℕ). count_at j m 4) renewed-fields.2 ∙ (count_is ∙ omega (arith, renewed-fields.1, ap (λ (y : State). y.since) start-state)))
+            ap (λ (y : State). count_at j y.place 4) start_state
+            ∙ (ap (λ (m : ℕ). count_at j m 4) renewed_fields.2 ∙ (count_is ∙ omega (arith, renewed_fields.1, ap (λ (y : State). y.since) start_state)))
 
   -- ---- the texts of a pair, and then what goes on
 
@@ -322,7 +322,7 @@ module _ (k : List (List ℕ)) (j : List ℕ) (fits : length j < 184467440737095
   texts_run [] rest F on st n a s c h =
       on st n (left_is j (texts_none rest) a) (c ∙ omega arith) h ∙ ap last_answer (sym (then_none k F st))
   texts_run (w ∷ ws) rest F on st zero a s c h =
-      absurd (omega (arith, h, entry-long st w (sized_texts ws ++ rest) (every_cons w ws s).0 (left_is j (texts_cons w ws rest) a), length_entry w))
+      absurd (omega (arith, h, entry_long st w (sized_texts ws ++ rest) (every_cons w ws s).0 (left_is j (texts_cons w ws rest) a), length_entry w))
   texts_run (w ∷ ws) rest F on st (suc n) a s c h =
       go (entry_checked k st w).number refl (λ x. texts_run ws rest F on x n)
     where
@@ -346,9 +346,9 @@ module _ (k : List (List ℕ)) (j : List ℕ) (fits : length j < 184467440737095
           let x = (entry_checked k st w).state in
           let e = entry_at st w (sized_texts ws ++ rest) sh b less z in
           let p = entry_place st w (sized_texts ws ++ rest) sh b less z in
-          let i = entry-since st w (sized_texts ws ++ rest) sh b less z in
+          let i = entry_since st w (sized_texts ws ++ rest) sh b less z in
           let l = left_long j x (sized_texts ws ++ rest) e in
-          let l₂ = entry-long st w (sized_texts ws ++ rest) sh b in
+          let l₂ = entry_long st w (sized_texts ws ++ rest) sh b in
           on_step n st (entry_checked k st w) step z
           ∙ (rec x e (every_cons w ws s).1 (ap (λ (m : ℕ). count_at j m 4) p ∙ omega (arith, c, i)) (omega (arith, h, l, l₂, length_entry w))
           ∙ ap (λ (r : Step). last_answer (then F r)) (sym (texts_on k st w ws z)))
@@ -364,7 +364,7 @@ module _ (k : List (List ℕ)) (j : List ℕ) (fits : length j < 184467440737095
       ap last_answer (idle k j n st (end_none k st j (full_yes st j (omega (arith, c))) (omega (arith, l))))
       ∙ (answer_zero st ∙ sym (ap last_answer (run_none k st) ∙ answer_yes st))
   pairs_run (p ∷ ps) (also g gs) st zero a c h =
-      absurd (omega (arith, h, start-long st p.serial (length p.texts) (sized_texts p.texts ++ pairs_spelled ps) g.long g.good g.few (left_is j (pairs_cons p ps) a)))
+      absurd (omega (arith, h, start_long st p.serial (length p.texts) (sized_texts p.texts ++ pairs_spelled ps) g.long g.good g.few (left_is j (pairs_cons p ps) a)))
   pairs_run (p ∷ ps) (also g gs) st (suc n) a c h =
       go (serial_checked st p.serial).number refl (texts_run p.texts (pairs_spelled ps) (λ x. run_pairs k false x ps) (pairs_run ps gs))
     where
@@ -386,7 +386,7 @@ module _ (k : List (List ℕ)) (j : List ℕ) (fits : length j < 184467440737095
           let e = start_at st p.serial (length p.texts) (sized_texts p.texts ++ pairs_spelled ps) g.long g.good g.few b c z in
           let q = start_count st p.serial (length p.texts) (sized_texts p.texts ++ pairs_spelled ps) g.long g.good g.few b c z in
           let l = left_long j x (sized_texts p.texts ++ pairs_spelled ps) e in
-          let l₂ = start-long st p.serial (length p.texts) (sized_texts p.texts ++ pairs_spelled ps) g.long g.good g.few b in
+          let l₂ = start_long st p.serial (length p.texts) (sized_texts p.texts ++ pairs_spelled ps) g.long g.good g.few b in
           let l₃ = length-append (sized_texts p.texts) (pairs_spelled ps) in
           on_step n st (serial_checked st p.serial) step z
           ∙ (rec x n e g.short q (omega (arith, h, l, l₂))
@@ -442,7 +442,7 @@ module _ (o : Owner) (p : TextPair) (ps : List TextPair) (g : GoodParts o (p ∷
   head_is = ap head_good journal_is ∙ head_good_lem (settings_for o p.serial) typed_first.lengths good_first (length p.texts) (first_pair g.pairs).few (sized_texts p.texts ++ pairs_spelled ps)
 
   settings_are : head_settings (journal_spelled o (p ∷ ps)) ≡ settings_for o p.serial
-  settings_are = ap head_settings journal_is ∙ read-settings (settings_for o p.serial) typed_first.lengths good_first (length p.texts) (first_pair g.pairs).few (sized_texts p.texts ++ pairs_spelled ps)
+  settings_are = ap head_settings journal_is ∙ read_settings (settings_for o p.serial) typed_first.lengths good_first (length p.texts) (first_pair g.pairs).few (sized_texts p.texts ++ pairs_spelled ps)
 
   module _ (key : List ℕ) (n : ℕ) where
     width_no : width_good n ≡ false → take_over (journal_spelled o (p ∷ ps)) key n ≡ refused 4 0
@@ -464,8 +464,8 @@ module _ (o : Owner) (p : TextPair) (ps : List TextPair) (g : GoodParts o (p ∷
           ifZero-yes _ _ head_zero
           ∙ ap (λ (s : Settings). last_answer (steps (key_schedule key) (length (journal_spelled o (p ∷ ps))) (fresh s n key) (journal_spelled o (p ∷ ps)))) settings_are
 
-      start-here : At (journal_spelled o (p ∷ ps)) (fresh (settings_for o p.serial) n key) (sized_texts p.texts ++ pairs_spelled ps)
-      start-here =
+      start_here : At (journal_spelled o (p ∷ ps)) (fresh (settings_for o p.serial) n key) (sized_texts p.texts ++ pairs_spelled ps)
+      start_here =
           let s = settings_for o p.serial in
           let t = sized_texts p.texts ++ pairs_spelled ps in
           let l = length_head s typed_first.lengths good_first (length p.texts) in
@@ -485,7 +485,7 @@ module _ (o : Owner) (p : TextPair) (ps : List TextPair) (g : GoodParts o (p ∷
       first_count : count_at (journal_spelled o (p ∷ ps)) (fresh (settings_for o p.serial) n key).place 4 ≡ (fresh (settings_for o p.serial) n key).since + length p.texts
       first_count =
           (λ i. count_at (journal_is i) (fresh_place o key n p.serial i) 4)
-          ∙ (read-count-at (settings_for o p.serial) typed_first.lengths good_first (length p.texts) (first_pair g.pairs).few (sized_texts p.texts ++ pairs_spelled ps)
+          ∙ (read_count_at (settings_for o p.serial) typed_first.lengths good_first (length p.texts) (first_pair g.pairs).few (sized_texts p.texts ++ pairs_spelled ps)
           ∙ omega (arith, fresh_section o key n p.serial))
 
       first_run : (k : List (List ℕ)) (st : State) → run_pairs k true st (p ∷ ps) ≡ then (λ y. run_pairs k false y ps) (run_texts k st p.texts)
@@ -499,7 +499,7 @@ module _ (o : Owner) (p : TextPair) (ps : List TextPair) (g : GoodParts o (p ∷
           let st = fresh (settings_for o p.serial) n key in
           taken_is
           ∙ (texts_run k j g.fits p.texts (pairs_spelled ps) (λ y. run_pairs k false y ps) (pairs_run k j g.fits ps (later_pairs g.pairs))
-          st (length j) start-here (first_pair g.pairs).short first_count (omega arith)
+          st (length j) start_here (first_pair g.pairs).short first_count (omega arith)
           ∙ ap last_answer (sym (first_run k st)))
 
 pub read_is_taken_over : ReadIsTakenOver

@@ -12,7 +12,7 @@ use Rattle.exports.specs.Lexer.{wrong, after_byte, content, lex, lex_in}
 use Rattle.exports.specs.Shape.{string}
 use Rattle.exports.specs.Places.{from, Skipped, Next, token_at, Reads, one, Keyed, name_number, Begun, Followed}
 use Rattle.exports.specs.declared.lexer.Found.{Found}
-use Rattle.exports.proofs.Lexing.{no_truth, mark_above, next_end, next-mark, next_other, quote}
+use Rattle.exports.proofs.Lexing.{no_truth, mark_above, next_end, next_mark, next_other, quote}
 
 pub nil_cons : {X A : Type 0} {x : A} {xs : List A} → [] ≡ x ∷ xs → X
 nil_cons p = let z : ◌≡◌ {A = ℕ} 0 1 = cc in absurd (omega arith)
@@ -193,15 +193,15 @@ module _ {text : List ℕ} {at p b : ℕ} (s : Skipped text at p) (m : is_mark b
   expect_end e = read_no_mark (next_end s refl e) b (λ z. mark_above b m (sym z))
 
   module _ (h : p ≡ length text → ⊥) where
-    pub expect-found : get_or text p 0 ≡ b → Reads (one b) text at (p + 1)
-    expect-found e = read_mark (next-mark s h b e (mark_no_quote b m) m) b m refl
+    pub expect_found : get_or text p 0 ≡ b → Reads (one b) text at (p + 1)
+    expect_found e = read_mark (next_mark s h b e (mark_no_quote b m) m) b m refl
 
-    pub expect-other : (get_or text p 0 ≡ b → ⊥) → Reads (one b) text at 0
-    expect-other n = go (eqb (get_or text p 0) 34) (is_mark (get_or text p 0)) refl refl
+    pub expect_other : (get_or text p 0 ≡ b → ⊥) → Reads (one b) text at 0
+    expect_other n = go (eqb (get_or text p 0) 34) (is_mark (get_or text p 0)) refl refl
       where
         go : (t u : Bool) → eqb (get_or text p 0) 34 ≡ t → is_mark (get_or text p 0) ≡ u → Reads (one b) text at 0
         go true u i j = no_mark (λ rest q. quoted_no_mark b m (drop (p + 1) text) 0 _ (sym (quote s h (eqb-true _ 34 i)) ∙ q))
-        go false true i j = read_no_mark (next-mark s h _ refl (eqb-false _ 34 i) j) b n
+        go false true i j = read_no_mark (next_mark s h _ refl (eqb-false _ 34 i) j) b n
         go false false i j = read_no_mark (next_other s h refl _ refl (eqb-false _ 34 i) j) b (mark_no_wrong b m)
 
 -- ---- from an array's place on

@@ -52,7 +52,7 @@ use Rattle.journal.proofs.Placing as placing
 use Rattle.journal.proofs.Passing.{right_here, text_is, under, run_pairs, renewed_length, typed_for, good_for}
 use Rattle.journal.proofs.Accepting.{Work, blank, valid_work, valid_taken}
 use Rattle.journal.proofs.Pairs.{wider, empty_pair, all_wider, all_empty_lem, last_placed, journal_longer, journal_open, pairs_longer, pair_long, no_pairs, length_owner, Open, open_of}
-use Rattle.journal.proofs.Registers.{Holds, holds_open, entry_in, call_state, change_state, issue-holds, issue-length, change-holds, counter_sum, opening_holds, opening_length, run_zeroed}
+use Rattle.journal.proofs.Registers.{Holds, holds_open, entry_in, call_state, change_state, issue_holds, issue_length, change_holds, counter_sum, opening_holds, opening_length, run_zeroed}
 
 -- ---- the signature of an entry, as a slice
 
@@ -169,13 +169,13 @@ bounds k n c (x ∷ xs) (placing.more h hs) b =
 zero_fits : (n : ℕ) → width_good n ≡ true → counter_fits n (pos 0) ≡ true
 zero_fits n w =
     let p : 0 < n = omega (arith, (width_true n w).least) in
-    fits_wide n (pos 0) w ∙ below_fits n (pos 0) (half-some n p)
+    fits_wide n (pos 0) w ∙ below_fits n (pos 0) (half_some n p)
   where
     power : (k : ℕ) → 0 < 256 ^ k
     power k = let h : 0 ≤ k = omega arith in omega (arith, pow-le-pow_right {n = 256} (lit< tt) h)
 
-    half-some : (k : ℕ) → 0 < k → 0 < half k
-    half-some k p = omega (arith, half_twice k p, power k)
+    half_some : (k : ℕ) → 0 < k → 0 < half k
+    half_some k p = omega (arith, half_twice k p, power k)
 
 start_bounds : (n : ℕ) (o : Owner) → width_good n ≡ true → Bounds n (start_core o)
 unfolding start_core
@@ -346,10 +346,10 @@ module _ (k : List ℕ) (n : ℕ) (o : Owner) (kb : AllBytes k) (g : Register) (
   pub one_holds : Holds k n o (call g (issue (order_of e))) (ps ++ (wider p e ∷ []))
   one_holds =
       subst (λ (x : Entry). Holds k n o (call g (issue (order_of e))) (ps ++ (wider p x ∷ []))) one_entry
-      (issue-holds k n o g ps p h (order_of e) one_zero (subst (RightAt g.state) (sym one_entry) right_at))
+      (issue_holds k n o g ps p h (order_of e) one_zero (subst (RightAt g.state) (sym one_entry) right_at))
 
   pub one_long : length (call g (issue (order_of e))).buf ≡ length g.buf
-  one_long = issue-length k n o g ps p h (order_of e) one_zero
+  one_long = issue_length k n o g ps p h (order_of e) one_zero
 
   pub one_length : (call g (issue (order_of e))).state.length ≡ g.state.length + length (entry_text (compact (settings_for o p.serial) n e))
   one_length =
@@ -399,7 +399,7 @@ again_pairs k n o kb (q ∷ qs) g ps p h r (placing.more b ns) l =
       few = subst (λ (us : List Name). length us < 8) (sym u) b.room;
       fits = omega (arith, pl, ql, l);
     }) in
-    let w = change-holds k n o g ps p h s z b.typed in
+    let w = change_holds k n o g ps p h s z b.typed in
     let g₁ = call g (change s) in
     let l₁ : g₁.state.length ≡ st.length + 8 + s.len = ap (λ (y : State). y.length) (change_state g s z) ∙ renewed_length st s in
     let rs = right_split k n (core_of_pairs n o xs) (placed_under (settings_for o s) q.entries) (all_placed o qs) r in

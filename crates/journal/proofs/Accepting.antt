@@ -31,7 +31,7 @@ use Rattle.journal.specs.declared.state.TakenOver.{TakenOver}
 use Rattle.journal.specs.declared.checking.Checked.{Checked}
 use Rattle.journal.specs.declared.checking.Step.{Step}
 use Rattle.journal.proofs.Places.{length_entry, there_entry}
-use Rattle.journal.proofs.Heads.{length_head, read-settings, head_good_lem, good_head, read_typed, read_few, read_back, count_of, read-count-at, read_place_is, read_length}
+use Rattle.journal.proofs.Heads.{length_head, read_settings, head_good_lem, good_head, read_typed, read_few, read_back, count_of, read_count_at, read_place_is, read_length}
 use Rattle.journal.proofs.Check.{RightAt, text_in, step, passes_right, after_passed, bytes_text, step_length}
 use Rattle.journal.proofs.Stepping.{after_within, full_true, full_false, Starts, Case, an_entry, at_end_lem, a_start, step_case, end_none, full_yes, idle, answer_zero}
 use Rattle.journal.proofs.Starting.{StartAt, start_at}
@@ -327,7 +327,7 @@ takes_head o k n s m rest w g t h few =
     let sf = settings_for o s in
     let l = (typed_for o s g t).lengths in
     let y = good_for o s g h in
-    rw (w, head_good_lem sf l y m few rest, read-settings sf l y m few rest)
+    rw (w, head_good_lem sf l y m few rest, read_settings sf l y m few rest)
 
 takes_first : (o : Owner) (k : List ℕ) (n : ℕ) (p : Pair) (ps : List Pair) → width_good n ≡ true → GoodOwner o → AllRight k n (start_core o) (all_placed o (p ∷ ps)) → Begun [] p
     → Names (p.serial ∷ []) ps → take_over (journal_text o n (p ∷ ps)) k n ≡ accepted (run_pairs (blank o k n) (p ∷ ps))
@@ -347,7 +347,7 @@ takes_first o k n p ps w g h b ns =
     let q : j ≡ pre ++ (texts sf n es ++ (pair_texts o n ps ++ [])) = ap (λ (l : List ℕ). pre ++ (texts sf n es ++ l)) (sym (append-nil (pair_texts o n ps))) in
     let count : count_at j st.place 4 ≡ st.since + length es =
     ap (λ (x : ℕ). count_at j x 4) (fresh_place o k n s)
-    ∙ (read-count-at sf (typed_for o s g b.typed).lengths (good_for o s g b.good) (length es) b.few t ∙ omega (arith, fresh_section o k n s)) in
+    ∙ (read_count_at sf (typed_for o s g b.typed).lengths (good_for o s g b.good) (length es) b.few t ∙ omega (arith, fresh_section o k n s)) in
     let r = passed_pairs ps es m pre j [] (fresh_at o k n s g b.typed b.good) (lh ∙ sym (fresh_length o k n s)) h ns q count in
     let st' = run_pairs (run st es) ps in
     let e : steps (key_schedule k) (length j) st j ≡ record { number = 0; state = st' } =

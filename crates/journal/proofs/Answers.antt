@@ -29,7 +29,7 @@ use Rattle.receipt.specs.declared.entry.Entry.{Entry}
 use Rattle.receipt.specs.declared.entry.Signature.{Signature}
 use Rattle.primitives.proofs.Rows.{both, true-is-not-false, ask_zero}
 use Rattle.receipt.proofs.Names.{good_sized}
-use Rattle.receipt.proofs.Chains.{length_chain, bytes_chain, length-encrypted, bytes-encrypted, after-encrypted, decrypt-back}
+use Rattle.receipt.proofs.Chains.{length_chain, bytes_chain, length_encrypted, bytes_encrypted, after_encrypted, decrypt_back}
 use Rattle.journal.specs.Head.{head, entry_text}
 use Rattle.primitives.specs.Questions.{ask, ifZero}
 use Rattle.journal.specs.Changing.{change_number}
@@ -212,8 +212,8 @@ module _ (st : State) (d : Details) where
       go : (t : Bool) → Eight (cond t (encrypted_counter (key_schedule st.key) (settings_now st).id d.number st.width (new_counter st d).counter) (replicate 8 0))
       go true =
           record {
-            long = length-encrypted (key_schedule st.key) (settings_now st).id d.number st.width (new_counter st d).counter;
-            bytes = bytes-encrypted (key_schedule st.key) (settings_now st).id d.number st.width (new_counter st d).counter (schedule_bytes b);
+            long = length_encrypted (key_schedule st.key) (settings_now st).id d.number st.width (new_counter st d).counter;
+            bytes = bytes_encrypted (key_schedule st.key) (settings_now st).id d.number st.width (new_counter st d).counter (schedule_bytes b);
           }
       go false = record { long = refl; bytes = bytes_replicate 8 (omega arith) }
 
@@ -222,7 +222,7 @@ module _ (st : State) (d : Details) where
   counter-good = go d.kind
     where
       go : (k : Kind) → counter_good st.width k (cond (standard k) (encrypted_counter (key_schedule st.key) (settings_now st).id d.number st.width (new_counter st d).counter) (replicate 8 0)) ≡ true
-      go Standard = after_counter st.width _ (after-encrypted (key_schedule st.key) (settings_now st).id d.number st.width (new_counter st d).counter)
+      go Standard = after_counter st.width _ (after_encrypted (key_schedule st.key) (settings_now st).id d.number st.width (new_counter st d).counter)
       go Cancellation = none_counter st.width Cancellation refl
       go Training = none_counter st.width Training refl
 
@@ -233,7 +233,7 @@ module _ (st : State) (d : Details) where
       let z = (new_counter st d).counter in
       let e : z ≡ st.counter +ℤ counted d = ap (λ (a : After). a.counter) (new_is st d f) in
       ap (λ (x : Kind). decrypted_counter (key_schedule st.key) (settings_now st).id d.number st.width (cond (standard x) (encrypted_counter (key_schedule st.key) (settings_now st).id d.number st.width z) (replicate 8 0))) k
-      ∙ decrypt-back (key_schedule st.key) (settings_now st).id d.number st.width z (ap (counter_fits st.width) e ∙ (new_fits st d f).fits)
+      ∙ decrypt_back (key_schedule st.key) (settings_now st).id d.number st.width z (ap (counter_fits st.width) e ∙ (new_fits st d f).fits)
       ∙ e
 
 -- the entry of a call can be spelled once 6 to 12 are answered yes

@@ -39,10 +39,10 @@ use Rattle.journal.specs.declared.state.State.{State}
 use Rattle.journal.specs.declared.checking.Checked.{Checked}
 use Rattle.journal.specs.declared.state.TakenOver.{TakenOver}
 use Rattle.journal.proofs.Places.{length_entry, there_at, text_at_lem, there_entry, text_short}
-use Rattle.journal.proofs.Starting.{start_at, serial-read, start-there}
+use Rattle.journal.proofs.Starting.{start_at, serial_read, start_there_lem}
 use Rattle.journal.proofs.ReadBySteps.{checked_is, step_is_its_entry, step_is_its_start}
 use Rattle.journal.proofs.Check.{above_true, above_yes, new_yes, new_fits, right_yes, right_fits, right_true}
-use Rattle.journal.proofs.Stepping.{full_yes, full_no, end_none, start-refused, entry-refused}
+use Rattle.journal.proofs.Stepping.{full_yes, full_no, end_none, start_refused, entry_refused}
 use Rattle.journal.proofs.FirstNo.{bool_no}
 use Rattle.journal.proofs.Asking.{sound_means, means_sound, sound_in, in_sound, starts, started, renew_asked}
 
@@ -211,8 +211,8 @@ module _ (j : List ℕ) (at : ℕ) (h : at ≤ length j) where
   pair_at : (serial : Name) (k : ℕ) (more : List ℕ) → StartThere (drop at j) serial k more → (start_there j at ≡ true) × (serial_at j at ≡ serial)
   pair_at serial k more x =
       let q = whole (pair_start serial k ++ more) x.bytes in (
-        ap (λ (l : List ℕ). start_there l at) q ∙ start-there serial x.typed x.good before k more at long x.few,
-        ap (λ (l : List ℕ). serial_at l at) q ∙ serial-read serial x.typed x.good before k more at long x.few,
+        ap (λ (l : List ℕ). start_there l at) q ∙ start_there_lem serial x.typed x.good before k more at long x.few,
+        ap (λ (l : List ℕ). serial_at l at) q ∙ serial_read serial x.typed x.good before k more at long x.few,
       )
 
 there_is : (j : List ℕ) (at : ℕ) → AllBytes j → there j at ≡ true → EntryThere (drop at j) (text_at j at) (drop (at + length (entry_text (text_at j at))) j)
@@ -237,7 +237,7 @@ step_is_asked st j t b small =
       six = λ h. step_six k st j (bool_no (sound st (length j)) (λ e. h (sound_in st t (length j) e)));
       cut = λ s l h.
           let z = number_15 k st j (bool_no (there j st.length) (λ e. h _ _ (there_is j st.length b e))) in
-          checked_is k st j (in_sound st t (length j) s) ∙ (entry-refused k st j (full_no st j l) (λ q. omega (arith, z, q)) ∙ ap (λ (n : ℕ). stopped n st) z);
+          checked_is k st j (in_sound st t (length j) s) ∙ (entry_refused k st j (full_no st j l) (λ q. omega (arith, z, q)) ∙ ap (λ (n : ℕ). stopped n st) z);
       entry = λ s l text more x.
           let w = entry_at j st.length s.within text more x in
           step_is_its_entry k st j small (in_sound st t (length j) s) (full_no st j l) w.0 ∙ ap (entry_checked k st) w.1;
@@ -245,7 +245,7 @@ step_is_asked st j t b small =
       left = λ s l h n.
           let z = number_21 k st j (bool_no (start_there j st.length) (λ e. n _ _ _ (start_is j st.length b e))) in
           checked_is k st j (in_sound st t (length j) s)
-          ∙ (start-refused k st j (full_yes st j l) h (λ q. omega (arith, z, q)) ∙ ap (λ (m : ℕ). stopped m st) z);
+          ∙ (start_refused k st j (full_yes st j l) h (λ q. omega (arith, z, q)) ∙ ap (λ (m : ℕ). stopped m st) z);
       start = λ s l serial c more x.
           let w = pair_at j st.length s.within serial c more x in
           step_is_its_start k st j small (in_sound st t (length j) s) (full_yes st j l) w.0 ∙ ap (serial_checked st) w.1;

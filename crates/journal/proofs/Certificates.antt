@@ -40,7 +40,7 @@ use Rattle.journal.proofs.Serials.{used_added, same_name_is, same_name_refl, use
 use Rattle.journal.proofs.Sections.{length_start}
 use Rattle.journal.proofs.Answers.{Changeable, change-zero}
 use Rattle.journal.proofs.Touching.{outside}
-use Rattle.journal.proofs.Heads.{length_head, read-settings, read-count-at, head_good_lem}
+use Rattle.journal.proofs.Heads.{length_head, read_settings, read_count_at, head_good_lem}
 use Rattle.journal.proofs.Check.{step, step_length}
 use Rattle.journal.proofs.Stepping.{full_yes, full_no, Case, end_none, end_start}
 use Rattle.journal.proofs.Placing.{Core, start_core, AllRight, Begun, Names, length_serials}
@@ -92,13 +92,13 @@ pub one_in : (s : Name) (ns : List Name) → OneOf s ns → is_in s ns ≡ true
 unfolding is_in
 one_in s ns x = ap (is_in s) x.is ∙ go x.before
   where
-    or-true : (t : Bool) → t || true ≡ true
-    or-true true = refl
-    or-true false = refl
+    or_true : (t : Bool) → t || true ≡ true
+    or_true true = refl
+    or_true false = refl
 
     go : (before : List Name) → is_in s (before ++ (s ∷ x.later)) ≡ true
     go [] = rw (same_name_refl s)
-    go (n ∷ before) = ap (λ (t : Bool). same_name s n || t) (go before) ∙ or-true (same_name s n)
+    go (n ∷ before) = ap (λ (t : Bool). same_name s n || t) (go before) ∙ or_true (same_name s n)
 
 -- a row of these questions gives each number only at its own question
 row_6 : (a b c d e : Bool) → ask a 6 (ask b 3 (ask (not c) 30 (ask d 31 (ask e 13 0)))) ≡ 6 → a ≡ false
@@ -265,22 +265,22 @@ module _ (st : State) (serial : Name) (buf : List ℕ) (long : length serial.byt
     unfolding change_buffer
     buffer_is = ifZero-yes (overwrite buf st.length (pair_start serial 0)) buf z
 
-    start-long : length (pair_start serial 0) ≡ 8 + serial.len
-    start-long = length_start serial long (answered st serial (length buf) z).good 0
+    start_long : length (pair_start serial 0) ≡ 8 + serial.len
+    start_long = length_start serial long (answered st serial (length buf) z).good 0
 
-    room-is : st.length + length (pair_start serial 0) ≤ length buf
-    room-is = omega (arith, start-long, (answered st serial (length buf) z).fits)
+    room_is : st.length + length (pair_start serial 0) ≤ length buf
+    room_is = omega (arith, start_long, (answered st serial (length buf) z).fits)
 
     appends : take (changed st serial (length buf)).state.length (change_buffer st serial buf) ≡ take st.length buf ++ pair_start serial 0
     appends =
-        let l : (changed st serial (length buf)).state.length ≡ st.length + length (pair_start serial 0) = new_length st serial (length buf) z ∙ omega (arith, start-long) in
+        let l : (changed st serial (length buf)).state.length ≡ st.length + length (pair_start serial 0) = new_length st serial (length buf) z ∙ omega (arith, start_long) in
         (λ i. take (l i) (buffer_is i))
         ∙ (take-add st.length (length (pair_start serial 0)) (overwrite buf st.length (pair_start serial 0))
-        ∙ (λ i. before_over buf st.length (pair_start serial 0) (omega (arith, room-is)) i ++ read_over buf st.length (pair_start serial 0) room-is i))
+        ∙ (λ i. before_over buf st.length (pair_start serial 0) (omega (arith, room_is)) i ++ read_over buf st.length (pair_start serial 0) room_is i))
 
     touches : (i : ℕ) → (st.length ≤ i → i < st.length + 8 + serial.len → ⊥) → get_or (change_buffer st serial buf) i 0 ≡ get_or buf i 0
     touches i h =
-        ap (λ (l : List ℕ). get_or l i 0) buffer_is ∙ outside buf st.length (pair_start serial 0) i room-is (λ a b. h a (omega (arith, b, start-long)))
+        ap (λ (l : List ℕ). get_or l i 0) buffer_is ∙ outside buf st.length (pair_start serial 0) i room_is (λ a b. h a (omega (arith, b, start_long)))
 
 pub change_appends : ChangeAppends
 change_appends st serial buf long z = appends st serial buf long z
@@ -436,13 +436,13 @@ one_pair o key n p j w g r b e =
     let q : j ≡ pre ++ t = e ∙ (journal_head o n p [] ∙ ap (λ (l : List ℕ). pre ++ l) (append-nil t)) in
     let ts = (typed_for o s g b.typed).lengths in
     let gs = good_for o s g b.good in
-    let hs : head_settings j ≡ sf = ap head_settings q ∙ read-settings sf ts gs (length es) b.few t in
+    let hs : head_settings j ≡ sf = ap head_settings q ∙ read_settings sf ts gs (length es) b.few t in
     let hg : head_good j ≡ true = ap head_good q ∙ head_good_lem sf ts gs (length es) b.few t in
     let lh = length_head sf ts gs (length es) in
     let d = length j - length es in
     let z : length es + d ≡ length j = omega (arith, ap length q, length-append pre t, entries_size sf n es) in
     let c : count_at j st.place 4 ≡ st.since + length es =
-    (λ i. count_at (q i) (fresh_place o key n s i) 4) ∙ (read-count-at sf ts gs (length es) b.few t ∙ omega (arith, fresh_section o key n s)) in
+    (λ i. count_at (q i) (fresh_place o key n s i) 4) ∙ (read_count_at sf ts gs (length es) b.few t ∙ omega (arith, fresh_section o key n s)) in
     let r₁ : AllRight key n (start_core o) (placed_under sf es) = subst (AllRight key n (start_core o)) (append-nil (placed_under sf es)) r in
     ap (λ (x : TakenOver). x.number) (before_good j key n (head_zero j n w hg))
     ∙ (answer_number (steps_before (key_schedule key) (length j) (fresh (head_settings j) n key) j)

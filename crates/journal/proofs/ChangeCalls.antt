@@ -48,28 +48,28 @@ module _ (st : State) (s : Name) (room : ℕ) where
   change_unsound h = sym (ask_no 6 _ h)
 
   module _ (a : sound st room ≡ true) where
-    pub change-bad : serial_good s ≡ false → 3 ≡ change_number st s room
+    pub change_bad : serial_good s ≡ false → 3 ≡ change_number st s room
     unfolding change_number
-    change-bad h = sym (ask_yes 6 _ a ∙ ask_no 3 _ h)
+    change_bad h = sym (ask_yes 6 _ a ∙ ask_no 3 _ h)
 
     module _ (g : serial_good s ≡ true) {k : ℕ} (e : k ≡ renew_number st s 0) where
       number_is : change_number st s room ≡ renew_number st s (ask (leb (st.length + (8 + s.len)) room) 13 0)
       unfolding change_number
       number_is = ask_yes 6 _ a ∙ ask_yes 3 _ g
 
-      pub change-serial : (k ≡ 0 → ⊥) → k ≡ change_number st s room
-      change-serial h =
+      pub change_serial : (k ≡ 0 → ⊥) → k ≡ change_number st s room
+      change_serial h =
           e ∙ sym (number_is ∙ (serial_then st s (ask (leb (st.length + (8 + s.len)) room) 13 0) ∙ ifZero-no (renew_number st s 0) _ _ (λ z. h (e ∙ z))))
 
       module _ (z : k ≡ 0) where
-        number-left : change_number st s room ≡ ask (leb (st.length + (8 + s.len)) room) 13 0
-        number-left = let p = serial-zero st s 0 (sym e ∙ z) in number_is ∙ serial-yes st s _ p.0 p.1
+        number_left : change_number st s room ≡ ask (leb (st.length + (8 + s.len)) room) 13 0
+        number_left = let p = serial-zero st s 0 (sym e ∙ z) in number_is ∙ serial-yes st s _ p.0 p.1
 
-        pub change-full : leb (st.length + (8 + s.len)) room ≡ false → 13 ≡ change_number st s room
-        change-full h = sym (number-left ∙ ask_no 13 0 h)
+        pub change_full : leb (st.length + (8 + s.len)) room ≡ false → 13 ≡ change_number st s room
+        change_full h = sym (number_left ∙ ask_no 13 0 h)
 
-        pub change-none : leb (st.length + (8 + s.len)) room ≡ true → 0 ≡ change_number st s room
-        change-none h = sym (number-left ∙ ask_yes 13 0 h)
+        pub change_none : leb (st.length + (8 + s.len)) room ≡ true → 0 ≡ change_number st s room
+        change_none h = sym (number_left ∙ ask_yes 13 0 h)
 
 -- ---- the call
 
@@ -87,16 +87,16 @@ module _ (st : State) (s : Name) (b : List ℕ) {k : ℕ} (e : k ≡ change_numb
     asked = change-zero st s (length b) (sym e ∙ z)
 
     -- what the start of the pair asks for, and the state after it
-    pub change-room : (serial_good s ≡ true) × (st.length + 8 + s.len ≤ length b)
-    change-room = (asked.good, omega (arith, asked.fits))
+    pub change_room : (serial_good s ≡ true) × (st.length + 8 + s.len ≤ length b)
+    change_room = (asked.good, omega (arith, asked.fits))
 
-    pub change-serials : (serials_good st.serials ≡ true) × (length (used st.serials) < 8)
-    change-serials = (asked.sound.serials, asked.few)
+    pub change_serials : (serials_good st.serials ≡ true) × (length (used st.serials) < 8)
+    change_serials = (asked.sound.serials, asked.few)
 
-    pub change-done : {x : State} {b₁ : List ℕ} → b₁ ≡ overwrite b st.length (pair_start s 0) → x ≡ renewed st s
+    pub change_done : {x : State} {b₁ : List ℕ} → b₁ ≡ overwrite b st.length (pair_start s 0) → x ≡ renewed st s
         → (record { number = 0; state = x } ≡ changed st s (length b)) × (b₁ ≡ change_buffer st s b)
     unfolding changed change_buffer
-    change-done w q =
+    change_done w q =
         let m : change_number st s (length b) ≡ 0 = sym e ∙ z in (
           (λ i. record { number = sym m i; state = (q ∙ sym (ifZero-yes (renewed st s) st m)) i }),
           w ∙ sym (ifZero-yes (overwrite b st.length (pair_start s 0)) b m),

@@ -24,7 +24,7 @@ use Rattle.receipt.specs.declared.payload.PayloadFields.{PayloadFields}
 use Rattle.receipt.specs.declared.entry.Entry.{Entry}
 use Rattle.receipt.specs.declared.entry.Found.{Found}
 use Rattle.primitives.proofs.Rows.{both, ask_zero}
-use Rattle.receipt.proofs.Counting.{Added, after-yes, after_fits}
+use Rattle.receipt.proofs.Counting.{Added, after_yes, after_fits}
 use Rattle.receipt.proofs.ExactEntry.{back, compact_short, exact}
 use Rattle.journal.specs.Head.{entry_text, length_at, text_at}
 use Rattle.receipt.specs.Settings.{TypedSettings}
@@ -81,7 +81,7 @@ module _ (st : State) (d : Details) where
   pub new_yes : amounts_good d.amounts ≡ true → counter_fits st.width (st.counter +ℤ counted d) ≡ true
       → new_counter st d ≡ record { fits = true; counter = st.counter +ℤ counted d }
   unfolding new_counter
-  new_yes g f = after-yes st.width st.counter d g f
+  new_yes g f = after_yes st.width st.counter d g f
 
   pub new_fits : (new_counter st d).fits ≡ true → Added st.width st.counter d
   unfolding new_counter

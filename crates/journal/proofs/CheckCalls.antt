@@ -117,15 +117,15 @@ module _ (k : List (List ℕ)) (st : State) (f : PayloadFields) {a : After} (e :
     fits : (new_counter st f.details).fits ≡ true
     fits = ap (λ (x : After). x.fits) (sym new_is) ∙ h
 
-    pub counter-other : standard f.details.kind ≡ false → true ≡ counter_right k st f
+    pub counter_other : standard f.details.kind ≡ false → true ≡ counter_right k st f
     unfolding counter_right
-    counter-other q = and_yes _ _ _ fits (sym (rw q))
+    counter_other q = and_yes _ _ _ fits (sym (rw q))
 
-    pub counter-standard : {t : Bool} → standard f.details.kind ≡ true → SFits w64 a.counter
+    pub counter_standard : {t : Bool} → standard f.details.kind ≡ true → SFits w64 a.counter
         → t ≡ equal (decrypted_counter k st.id f.details.number st.width f.counter) (to_z w64 (of_z w64 a.counter))
         → t ≡ counter_right k st f
     unfolding counter_right
-    counter-standard s g q =
+    counter_standard s g q =
         and_yes _ _ _ fits
         (q ∙ ap (equal _) (to_z-of_z g) ∙ (λ i. equal (decrypted_counter k st.id f.details.number st.width f.counter) (new_is i).counter) ∙ sym (rw s))
 
@@ -158,16 +158,16 @@ module _ (k : List (List ℕ)) (st : State) (text : List ℕ) {r : Found} (e : r
       q ∙ (ap (λ (m : ℕ). stopped m st) (sym n) ∙ sym (ifZero-no (text_number k st text) _ _ (λ z. omega (arith, n, z))))
 
   module _ (h : r.ok ≡ true) {n : ℕ} (q : n ≡ context_number k st r.entry.fields) where
-    pub text-refused : {c : Checked} → (n ≡ 0 → ⊥) → c ≡ stopped n st → c ≡ text_checked k st text
+    pub text_refused : {c : Checked} → (n ≡ 0 → ⊥) → c ≡ stopped n st → c ≡ text_checked k st text
     unfolding text_checked checked
-    text-refused g p =
+    text_refused g p =
         let m : text_number k st text ≡ n = number_is h ∙ sym q in
         p ∙ (ap (λ (x : ℕ). stopped x st) (sym m) ∙ sym (ifZero-no (text_number k st text) _ _ (λ z. g (sym m ∙ z))))
 
-    pub text-passed : {x : State} → n ≡ 0 → x ≡ next st r.entry.fields.details text
+    pub text_passed : {x : State} → n ≡ 0 → x ≡ next st r.entry.fields.details text
         → record { number = 0; found = r; state = x } ≡ text_checked k st text
     unfolding text_checked checked after
-    text-passed z p =
+    text_passed z p =
         let m : text_number k st text ≡ 0 = number_is h ∙ (sym q ∙ z) in
         (λ i. record { number = 0; found = found_is i; state = (p ∙ ap (λ (y : Found). next st y.entry.fields.details text) found_is) i })
         ∙ sym (ifZero-yes _ _ m)
@@ -187,14 +187,14 @@ module _ (st : State) (j : List ℕ) where
       q ∙ (ap (λ (m : ℕ). stopped m st) (sym n) ∙ sym (ifZero-no k _ _ (λ z. omega (arith, n, z))))
 
   module _ (h : start_there j st.length ≡ true) {s : Name} (e : s ≡ serial_at j st.length) {n : ℕ} (q : n ≡ renew_number st s 0) where
-    start-number : start_number st j ≡ n
+    start_number_lem : start_number st j ≡ n
     unfolding start_number
-    start-number = ask_yes 21 _ h ∙ (ap (λ (x : Name). renew_number st x 0) (sym e) ∙ sym q)
+    start_number_lem = ask_yes 21 _ h ∙ (ap (λ (x : Name). renew_number st x 0) (sym e) ∙ sym q)
 
-    pub start-stopped : {c : Checked} → (n ≡ 0 → ⊥) → c ≡ stopped n st → c ≡ start_checked st j
+    pub start_stopped : {c : Checked} → (n ≡ 0 → ⊥) → c ≡ stopped n st → c ≡ start_checked st j
     unfolding start_checked
-    start-stopped g p =
-        p ∙ (ap (λ (m : ℕ). stopped m st) (sym start-number) ∙ sym (ifZero-no (start_number st j) _ _ (λ z. g (sym start-number ∙ z))))
+    start_stopped g p =
+        p ∙ (ap (λ (m : ℕ). stopped m st) (sym start_number_lem) ∙ sym (ifZero-no (start_number st j) _ _ (λ z. g (sym start_number_lem ∙ z))))
 
     module _ (z : n ≡ 0) where
       -- one more serial fits the state and the journal
@@ -203,9 +203,9 @@ module _ (st : State) (j : List ℕ) where
           let w = (start_within j st.length h).0 in
           ((serial-zero st s 0 (sym q ∙ z)).1, omega (arith, w, ap (λ (x : Name). x.len) e))
 
-      pub start-made : {x : State} {c : Checked} → x ≡ renewed st s → c ≡ stopped 0 x → c ≡ start_checked st j
+      pub start_made : {x : State} {c : Checked} → x ≡ renewed st s → c ≡ stopped 0 x → c ≡ start_checked st j
       unfolding start_checked
-      start-made f p = p ∙ (ap (stopped 0) (f ∙ ap (renewed st) e) ∙ sym (ifZero-yes _ _ (start-number ∙ z)))
+      start_made f p = p ∙ (ap (stopped 0) (f ∙ ap (renewed st) e) ∙ sym (ifZero-yes _ _ (start_number_lem ∙ z)))
 
   pub none_left : {c : Checked} → length j ≤ st.length → c ≡ stopped 0 st → c ≡ end_checked st j
   unfolding end_checked
@@ -238,24 +238,24 @@ module _ (k : List (List ℕ)) (st : State) (j : List ℕ) where
     state_of_lem : (one_step k st j).state ≡ c.state
     state_of_lem = ap (λ (x : Checked). x.state) (sym e)
 
-    pub turn-no : (left : ℕ) → 0 < left → (c.number ≡ 0 → ⊥) → steps k left st j ≡ record { number = c.number; state = st }
+    pub turn_no : (left : ℕ) → 0 < left → (c.number ≡ 0 → ⊥) → steps k left st j ≡ record { number = c.number; state = st }
     unfolding steps
-    turn-no left some h =
+    turn_no left some h =
         let l : left ≡ suc (left - 1) = omega arith in
         ap (λ (m : ℕ). steps k m st j) l
         ∙ (ifZero-no (one_step k st j).number _ _ (λ z. h (sym number_of ∙ z)) ∙ (λ i. record { number = number_of i; state = st }))
 
     module _ (z : c.number ≡ 0) where
-      pub turn-stays : (left : ℕ) → c.state.length ≡ st.length → steps k left st j ≡ record { number = 0; state = st }
-      turn-stays left l = stays k j left st (number_of ∙ z) (ap (λ (x : State). x.length) state_of_lem ∙ l)
+      pub turn_stays : (left : ℕ) → c.state.length ≡ st.length → steps k left st j ≡ record { number = 0; state = st }
+      turn_stays left l = stays k j left st (number_of ∙ z) (ap (λ (x : State). x.length) state_of_lem ∙ l)
 
-      pub turn-yes : (left : ℕ) → 0 < left → steps k left st j ≡ steps k (left - 1) c.state j
-      turn-yes left some =
+      pub turn_yes : (left : ℕ) → 0 < left → steps k left st j ≡ steps k (left - 1) c.state j
+      turn_yes left some =
           let l : left ≡ suc (left - 1) = omega arith in
           ap (λ (m : ℕ). steps k m st j) l ∙ passed_step k j (left - 1) st (number_of ∙ z) state_of_lem
 
-      pub turn-steady : Steady st j → Steady c.state j
-      turn-steady s = subst (λ (x : State). Steady x j) state_of_lem (steady_step k st j (number_of ∙ z) s)
+      pub turn_steady : Steady st j → Steady c.state j
+      turn_steady s = subst (λ (x : State). Steady x j) state_of_lem (steady_step k st j (number_of ∙ z) s)
 
 -- ---- the journal
 
@@ -290,16 +290,16 @@ module _ (j key : List ℕ) (n : ℕ) where
   head_width w = rw w
 
   module _ (w : width_good n ≡ true) where
-    pub head-bad : head_good j ≡ false → check_head j key n ≡ refused 14 0
+    pub head_bad : head_good j ≡ false → check_head j key n ≡ refused 14 0
     unfolding check_head head_number ask ifZero
-    head-bad h = rw (w, h)
+    head_bad h = rw (w, h)
 
     head_good_lem : head_good j ≡ true → check_head j key n ≡ accepted (fresh (head_settings j) n key)
     unfolding check_head head_number ask ifZero
     head_good_lem h = rw (w, h)
 
-    pub head-fresh : {s : Settings} {st : State} {r : TakenOver} → head_good j ≡ true → s ≡ head_settings j → st ≡ fresh s n key → r ≡ accepted st → r ≡ check_head j key n
-    head-fresh h p q e = e ∙ (ap accepted (q ∙ ap (λ (y : Settings). fresh y n key) p) ∙ sym (head_good_lem h))
+    pub head_fresh : {s : Settings} {st : State} {r : TakenOver} → head_good j ≡ true → s ≡ head_settings j → st ≡ fresh s n key → r ≡ accepted st → r ≡ check_head j key n
+    head_fresh h p q e = e ∙ (ap accepted (q ∙ ap (λ (y : Settings). fresh y n key) p) ∙ sym (head_good_lem h))
 
   -- ---- the whole journal
 
@@ -343,32 +343,32 @@ module _ (j key : List ℕ) (n : ℕ) where
             let s = stopped_at (λ y. omega (arith, y, q)) in
             absurd (omega (arith, z, ap (λ (t : TakenOver). t.number) (e ∙ s.head), refused_number (head_number j n) 0, q))
 
-    pub head-stopped : (f.number ≡ 0 → ⊥) → Stopped
-    head-stopped h =
+    pub head_stopped : (f.number ≡ 0 → ⊥) → Stopped
+    head_stopped h =
         stopped_at (λ q. h (ap (λ (t : TakenOver). t.number) (e ∙ (passed q).head) ∙ accepted_zero (fresh (head_settings j) n key)))
 
-    pub over-refused : (f.number ≡ 0 → ⊥) → f ≡ take_over j key n
-    over-refused h = let s = head-stopped h in e ∙ (s.head ∙ sym s.whole)
+    pub over_refused : (f.number ≡ 0 → ⊥) → f ≡ take_over j key n
+    over_refused h = let s = head_stopped h in e ∙ (s.head ∙ sym s.whole)
 
     module _ (z : f.number ≡ 0) where
-      pub state-fresh : f.state ≡ fresh (head_settings j) n key
+      pub state_fresh : f.state ≡ fresh (head_settings j) n key
       unfolding accepted
-      state-fresh = ap (λ (t : TakenOver). t.state) (e ∙ (head_passed z).head)
+      state_fresh = ap (λ (t : TakenOver). t.state) (e ∙ (head_passed z).head)
 
-      key-fresh : (fresh (head_settings j) n key).key ≡ key
+      key_fresh : (fresh (head_settings j) n key).key ≡ key
       unfolding fresh
-      key-fresh = refl
+      key_fresh = refl
 
-      pub over-read : {x : Step} {r : TakenOver} → x ≡ steps (key_schedule f.state.key) (length j) f.state j → r ≡ last_answer x → r ≡ take_over j key n
-      over-read ex er =
-          let k : f.state.key ≡ key = ap (λ (y : State). y.key) state-fresh ∙ key-fresh in
-          er ∙ (ap last_answer (ex ∙ (λ i. steps (key_schedule (k i)) (length j) (state-fresh i) j)) ∙ sym (head_passed z).whole)
+      pub over_read : {x : Step} {r : TakenOver} → x ≡ steps (key_schedule f.state.key) (length j) f.state j → r ≡ last_answer x → r ≡ take_over j key n
+      over_read ex er =
+          let k : f.state.key ≡ key = ap (λ (y : State). y.key) state_fresh ∙ key_fresh in
+          er ∙ (ap last_answer (ex ∙ (λ i. steps (key_schedule (k i)) (length j) (state_fresh i) j)) ∙ sym (head_passed z).whole)
 
-      pub over-steady : AllBytes j → Steady f.state j
-      over-steady b =
+      pub over_steady : AllBytes j → Steady f.state j
+      over_steady b =
           let g = (head_passed z).good in
           let h = good_head j b g in
-          subst (λ (x : State). Steady x j) (sym state-fresh) (fresh_steady (head_settings j) j key n h.good (omega (arith, h.room, read_length j b g)))
+          subst (λ (x : State). Steady x j) (sym state_fresh) (fresh_steady (head_settings j) j key n h.good (omega (arith, h.room, read_length j b g)))
 
 -- ---- steps for other readers
 
@@ -456,19 +456,19 @@ module _ (st : State) (s : Name) where
   serial_asked h q = q ∙ sym (rw h)
 
   module _ (h : serial_ready st s ≡ true) where
-    pub serial-bad : {c : Checked} → serial_good s ≡ false → c ≡ stopped 21 st → c ≡ serial_checked st s
+    pub serial_bad : {c : Checked} → serial_good s ≡ false → c ≡ stopped 21 st → c ≡ serial_checked st s
     unfolding serial_checked serial_number ask ifZero
-    serial-bad g q = q ∙ sym (rw (h, g))
+    serial_bad g q = q ∙ sym (rw (h, g))
 
     module _ {n : ℕ} (g : serial_good s ≡ true) (e : n ≡ renew_number st s 0) where
-      serial-number-is : serial_number st s ≡ n
+      serial_number_is : serial_number st s ≡ n
       unfolding serial_number ask
-      serial-number-is = rw g (sym e)
+      serial_number_is = rw g (sym e)
 
-      pub serial-stopped : {c : Checked} → (n ≡ 0 → ⊥) → c ≡ stopped n st → c ≡ serial_checked st s
+      pub serial_stopped : {c : Checked} → (n ≡ 0 → ⊥) → c ≡ stopped n st → c ≡ serial_checked st s
       unfolding serial_checked
-      serial-stopped z q =
-          q ∙ (ap (λ (m : ℕ). stopped m st) (sym serial-number-is) ∙ sym (rw h (ifZero-no (serial_number st s) _ _ (λ y. z (sym serial-number-is ∙ y)))))
+      serial_stopped z q =
+          q ∙ (ap (λ (m : ℕ). stopped m st) (sym serial_number_is) ∙ sym (rw h (ifZero-no (serial_number st s) _ _ (λ y. z (sym serial_number_is ∙ y)))))
 
       module _ (z : n ≡ 0) where
         pub serial_fits : (serials_good st.serials ≡ true) × (length (used st.serials) < 8) × (st.length + 8 + s.len < 18446744073709551616)
@@ -477,6 +477,6 @@ module _ (st : State) (s : Name) where
             let p = both _ _ h in
             ((sound-true st p.0).serials, (serial-zero st s 0 (sym e ∙ z)).1, omega (arith, leb-true (st.length + 8 + s.len) 18446744073709551615 p.1))
 
-        pub serial-made : {x : State} {c : Checked} → x ≡ renewed st s → c ≡ stopped 0 x → c ≡ serial_checked st s
+        pub serial_made : {x : State} {c : Checked} → x ≡ renewed st s → c ≡ stopped 0 x → c ≡ serial_checked st s
         unfolding serial_checked
-        serial-made f q = q ∙ (ap (stopped 0) f ∙ sym (rw h (ifZero-yes _ _ (serial-number-is ∙ z))))
+        serial_made f q = q ∙ (ap (stopped 0) f ∙ sym (rw h (ifZero-yes _ _ (serial_number_is ∙ z))))

@@ -33,8 +33,8 @@ use Rattle.journal.proofs.WrittenIsAccepted.{written_is_accepted}
 module _ {j key : List ℕ} {n limit : ℕ} (v : ValidWithin limit j key n) (other : ℕ)
     (h : (before : List Placed) (x : Placed) (later : List Placed) → all_placed v.owner v.pairs ≡ before ++ (x ∷ later) → amounts_within other x.entry.fields.details.amounts ≡ true) where
   -- a journal that is valid under one limit is under any that its amounts keep
-  unfoldable valid-other : ValidWithin other j key n
-  valid-other =
+  unfoldable valid_other : ValidWithin other j key n
+  valid_other =
       record {
         width = v.width;
         owner = v.owner;
@@ -57,7 +57,7 @@ module _ {j key : List ℕ} {n limit : ℕ} (v : ValidWithin limit j key n) (oth
       }
 
 pub only_the_limit_moved : OnlyTheLimitMoved
-only_the_limit_moved limit j key n v h = valid-other v limit h
+only_the_limit_moved limit j key n v h = valid_other v limit h
 
 -- ---- question 9
 
@@ -95,10 +95,10 @@ nine limit st d sig room z =
 
 module _ (limit : ℕ) (lower : limit ≤ amount_limit) where
   stays : (j key : List ℕ) (n : ℕ) (v : ValidWithin limit j key n) → StaysAccepted limit j key n v
-  unfolding valid-other
+  unfolding valid_other
   stays j key n v =
       let w : Valid j key n =
-      valid-other v amount_limit
+      valid_other v amount_limit
       (λ before x later q. amounts_other limit amount_limit lower x.entry.fields.details.amounts (spellable_amounts limit x.settings n x.entry (v.each before x later q).spelled)) in
       record { valid = w; owner = refl; pairs = refl; taken = state_of_journal j key n w }
 
@@ -127,8 +127,8 @@ module _ (limit : ℕ) (lower : limit ≤ amount_limit) where
         let p = same g.state c.details c.signature g.buf h in
         λ i. record { state = (sym p.0 i).state; buf = sym p.1 i }
 
-    call-refused : number ≡ 9 → call_within limit g (issue c) ≡ g
-    call-refused e = refused_within limit g c (λ z. omega arith)
+    call_refused : number ≡ 9 → call_within limit g (issue c) ≡ g
+    call_refused e = refused_within limit g c (λ z. omega arith)
 
   -- a Change has no limit
   change_same : (g : Register) (s : Name) → call_within limit g (change s) ≡ call g (change s)
@@ -172,7 +172,7 @@ module _ (limit : ℕ) (lower : limit ≤ amount_limit) where
     where
       go : (b : Bool) → eqb (number g c) 9 ≡ b → Kept (call_within limit g (issue c)) cs → Kept g (issue c ∷ cs)
       go true e k =
-          let q = call-refused g c (eqb-true (number g c) 9 e) in
+          let q = call_refused g c (eqb-true (number g c) 9 e) in
           record { those = k.those; typed = k.typed; kept = k.kept ∙ ap (λ (r : Register). calls r k.those) q }
       go false e k =
           let q = call_stays g c (eqb-false (number g c) 9 e) in

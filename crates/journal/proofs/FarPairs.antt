@@ -30,7 +30,7 @@ use Rattle.journal.specs.Demands.{before_count}
 use Rattle.journal.specs.declared.state.State.{State}
 use Rattle.journal.specs.declared.checking.Checked.{Checked}
 use Rattle.journal.proofs.Sections.{length_start}
-use Rattle.journal.proofs.Heads.{length_head, head_good_lem, read-settings, read-count-at}
+use Rattle.journal.proofs.Heads.{length_head, head_good_lem, read_settings, read_count_at}
 use Rattle.journal.proofs.Starting.{StartAt}
 use Rattle.journal.proofs.Check.{step}
 use Rattle.journal.proofs.Stepping.{passed_step, refused_step, answer_no}
@@ -183,12 +183,12 @@ reach_first j key n o p m rest f b =
     let lh = length_head sf ts gs m in
     let r : AllRight key n (start_core o) (placed_under sf es) = subst (AllRight key n (start_core o)) (last_placed o [] p) f.work.right in
     let c : count_at j st.place 4 ≡ m =
-    (λ i. count_at (q i) (fresh_place o key n s i) 4) ∙ read-count-at sf ts gs m f.few t in
+    (λ i. count_at (q i) (fresh_place o key n s i) 4) ∙ read_count_at sf ts gs m f.few t in
     record {
       settings = sf;
       width = f.work.width;
       good = ap head_good q ∙ head_good_lem sf ts gs m f.few t;
-      read = ap head_settings q ∙ read-settings sf ts gs m f.few t;
+      read = ap head_settings q ∙ read_settings sf ts gs m f.few t;
       taken = ap (λ (l : List ℕ). take_over l key n) q ∙ (takes_head o key n s m t f.work.width g b.typed b.good f.few ∙ ap (λ (l : List ℕ). last_answer (steps (key_schedule key) (length l) st l)) (sym q));
       fuel = length es;
       counted = omega arith;
@@ -219,7 +219,7 @@ reach_later j key n o x qs p m rest f bx nx ns b =
     let st = fresh sx n key in
     let lh = length_head sx ts gs n₀ in
     let c : count_at j st.place 4 ≡ st.since + n₀ =
-    (λ i. count_at (q i) (fresh_place o key n x.serial i) 4) ∙ (read-count-at sx ts gs n₀ bx.few u ∙ omega (arith, fresh_section o key n x.serial)) in
+    (λ i. count_at (q i) (fresh_place o key n x.serial i) 4) ∙ (read_count_at sx ts gs n₀ bx.few u ∙ omega (arith, fresh_section o key n x.serial)) in
     let hs = right_split key n (start_core o) (all_placed o (x ∷ qs)) (placed_under sf es) (subst (AllRight key n (start_core o)) (last_placed o (x ∷ qs) p) f.work.right) in
     let w : (i : ℕ) → _ = λ (i : ℕ). passed_pairs qs x.entries i pre j tail (fresh_at o key n x.serial g bx.typed bx.good) (lh ∙ sym (fresh_length o key n x.serial)) hs.0 nx q c in
     let st₂ = run_pairs (blank o key n) (x ∷ qs) in
@@ -240,7 +240,7 @@ reach_later j key n o x qs p m rest f bx nx ns b =
       settings = sx;
       width = f.work.width;
       good = ap head_good q ∙ head_good_lem sx ts gs n₀ bx.few u;
-      read = ap head_settings q ∙ read-settings sx ts gs n₀ bx.few u;
+      read = ap head_settings q ∙ read_settings sx ts gs n₀ bx.few u;
       taken = ap (λ (l : List ℕ). take_over l key n) q ∙ (takes_head o key n x.serial n₀ u f.work.width g bx.typed bx.good bx.few ∙ ap (λ (l : List ℕ). last_answer (steps (key_schedule key) (length l) st l)) (sym q));
       fuel = n₀ + (steps_of qs + suc (length es));
       counted = omega arith;

@@ -40,9 +40,9 @@ use Rattle.journal.specs.declared.checking.Checked.{Checked}
 use Rattle.journal.specs.declared.checking.Step.{Step}
 use Rattle.journal.proofs.Places.{text_at_lem, there_at, there_entry, text_short}
 use Rattle.journal.proofs.Heads.{head_good_lem, good_head, read_typed, read_few, read_back, count_of}
-use Rattle.journal.proofs.Starting.{StartAt, start_at, serial-read, start-there}
+use Rattle.journal.proofs.Starting.{StartAt, start_at, serial_read, start_there_lem}
 use Rattle.journal.proofs.Check.{first_yes, first_true, above_yes, above_true, new_yes, new_fits, right_yes, right_fits, right_true, bytes_text, step, schedule_of}
-use Rattle.journal.proofs.Stepping.{full_yes, full_no, full_true, full_false, end_none, entry-passed, entry-refused, start-passed, start-refused, Case, an_entry, at_end_lem, a_start, step_case, idle, refused_step, passed_step}
+use Rattle.journal.proofs.Stepping.{full_yes, full_no, full_true, full_false, end_none, entry_passed, entry_refused, start_passed, start_refused, Case, an_entry, at_end_lem, a_start, step_case, idle, refused_step, passed_step}
 use Rattle.journal.proofs.Placing.{in_place, places_out, out_places, length_serials, names_length}
 use Rattle.journal.proofs.Passing.{typed_for, at_settings, at_schedule, number_of, state_of_lem}
 use Rattle.journal.proofs.Accepting.{entry_at, blank, answer_number, owner_in}
@@ -94,7 +94,7 @@ module _ (j key : List ℕ) (n : ℕ) (o : Owner) (ps : List Pair) (p : Pair) (m
     not_full = full_no st j (omega (arith, s.open_at.since, s.count))
 
     entry_step : (x : ℕ) → entry_number (key_schedule key) st j ≡ suc x → one_step (key_schedule key) st j ≡ stopped (suc x) st
-    entry_step x z = entry-refused (key_schedule key) st j not_full (λ q. omega (arith, z, q)) ∙ ap (λ (y : ℕ). stopped y st) z
+    entry_step x z = entry_refused (key_schedule key) st j not_full (λ q. omega (arith, z, q)) ∙ ap (λ (y : ℕ). stopped y st) z
 
   there_yes : (text more : List ℕ) → EntryThere rest text more → (there j st.length ≡ true) × (text_at j st.length ≡ text)
   there_yes text more x =
@@ -113,17 +113,17 @@ module _ (j key : List ℕ) (n : ℕ) (o : Owner) (ps : List Pair) (p : Pair) (m
   -- ---- 17 to 20
 
   module _ (e : Entry) where
-    above-is : number_above st e.fields.details ≡ true → Above xs e
-    above-is q = subst (λ (x : ℕ). x < e.fields.details.number) s.last (above_true st e.fields.details q)
+    above_is : number_above st e.fields.details ≡ true → Above xs e
+    above_is q = subst (λ (x : ℕ). x < e.fields.details.number) s.last (above_true st e.fields.details q)
 
-    is-above : Above xs e → number_above st e.fields.details ≡ true
-    is-above h = above_yes st e.fields.details (subst (λ (x : ℕ). x < e.fields.details.number) (sym s.last) h)
+    is_above : Above xs e → number_above st e.fields.details ≡ true
+    is_above h = above_yes st e.fields.details (subst (λ (x : ℕ). x < e.fields.details.number) (sym s.last) h)
 
     start_is : first_good st e.fields.details ≡ true → StartFirst xs e
     start_is q z = first_true st e.fields.details q (s.issued ∙ z)
 
-    is-start : StartFirst xs e → first_good st e.fields.details ≡ true
-    is-start h = first_yes st e.fields.details (λ z. h (sym s.issued ∙ z))
+    is_start : StartFirst xs e → first_good st e.fields.details ≡ true
+    is_start h = first_yes st e.fields.details (λ z. h (sym s.issued ∙ z))
 
     chain_is : same e.fields.chain st.chain ≡ true → Chained o n xs e
     chain_is q = same_true _ _ q ∙ s.chain
@@ -159,16 +159,16 @@ module _ (j key : List ℕ) (n : ℕ) (o : Owner) (ps : List Pair) (p : Pair) (m
     unfolding entry_number ask
     entry_text_lem = let t = there_yes text more x in rw (t.0, t.1)
 
-    text-found : (e : Entry) → Spells sf n text e → found st text ≡ record { ok = true; entry = e }
-    text-found e y = found_is text ∙ (ap (read_entry sf n) y.is ∙ back sf n e typed.lengths typed.bytes y.typed y.spelled)
+    text_found : (e : Entry) → Spells sf n text e → found st text ≡ record { ok = true; entry = e }
+    text_found e y = found_is text ∙ (ap (read_entry sf n) y.is ∙ back sf n e typed.lengths typed.bytes y.typed y.spelled)
 
-    fields-text : (e : Entry) → Spells sf n text e → text_number (key_schedule key) st text ≡ context_number (key_schedule key) st e.fields
+    fields_text : (e : Entry) → Spells sf n text e → text_number (key_schedule key) st text ≡ context_number (key_schedule key) st e.fields
     unfolding text_number ask
-    fields-text e y = rw (text-found e y)
+    fields_text e y = rw (text_found e y)
 
-    spelled-no : ((e : Entry) → Spells sf n text e → ⊥) → text_number (key_schedule key) st text ≡ 16
+    spelled_no : ((e : Entry) → Spells sf n text e → ⊥) → text_number (key_schedule key) st text ≡ 16
     unfolding text_number ask
-    spelled-no h =
+    spelled_no h =
         let bt : AllBytes text = subst AllBytes (there_yes text more x).1 (bytes_text j st.length b) in
         rw (bool_no (found st text).ok (λ t.
         let w = (exact sf n text typed.lengths typed.bytes bt).0 (ap (λ (r : Found). r.ok) (sym (found_is text)) ∙ t) in
@@ -184,8 +184,8 @@ module _ (j key : List ℕ) (n : ℕ) (o : Owner) (ps : List Pair) (p : Pair) (m
   used_is = s.open_at.at.base.serials
 
   module _ (last : length p.entries ≡ m) where
-    is-full : full st j ≡ true
-    is-full = full_yes st j (omega (arith, s.open_at.since, s.count))
+    is_full : full st j ≡ true
+    is_full = full_yes st j (omega (arith, s.open_at.since, s.count))
 
     some_left : (rest ≡ [] → ⊥) → st.length < length j
     some_left h = go rest refl
@@ -198,13 +198,13 @@ module _ (j key : List ℕ) (n : ℕ) (o : Owner) (ps : List Pair) (p : Pair) (m
     none_left e = omega (arith, ap length s.whole, length-append s.pre rest, s.long, ap length e)
 
     start_step : (rest ≡ [] → ⊥) → (x : ℕ) → start_number st j ≡ suc x → one_step (key_schedule key) st j ≡ stopped (suc x) st
-    start_step h x z = start-refused (key_schedule key) st j is-full (some_left h) (λ q. omega (arith, z, q)) ∙ ap (λ (y : ℕ). stopped y st) z
+    start_step h x z = start_refused (key_schedule key) st j is_full (some_left h) (λ q. omega (arith, z, q)) ∙ ap (λ (y : ℕ). stopped y st) z
 
   start_read : (serial : Name) (k : ℕ) (more : List ℕ) → StartThere rest serial k more → (start_there j st.length ≡ true) × (serial_at j st.length ≡ serial)
   start_read serial k more x =
       let q : j ≡ s.pre ++ (pair_start serial k ++ more) = s.whole ∙ ap (λ (l : List ℕ). s.pre ++ l) x.bytes in (
-        ap (λ (l : List ℕ). start_there l st.length) q ∙ start-there serial x.typed x.good s.pre k more st.length s.long x.few,
-        ap (λ (l : List ℕ). serial_at l st.length) q ∙ serial-read serial x.typed x.good s.pre k more st.length s.long x.few,
+        ap (λ (l : List ℕ). start_there l st.length) q ∙ start_there_lem serial x.typed x.good s.pre k more st.length s.long x.few,
+        ap (λ (l : List ℕ). serial_at l st.length) q ∙ serial_read serial x.typed x.good s.pre k more st.length s.long x.few,
       )
 
   read_start : start_there j st.length ≡ true
@@ -234,18 +234,18 @@ module _ (st : State) (k : List (List ℕ)) (e : Entry) where
   fields_17 q = rw q
 
   module _ (a : number_above st e.fields.details ≡ true) where
-    fields-18 : first_good st e.fields.details ≡ false → context_number k st e.fields ≡ 18
+    fields_18 : first_good st e.fields.details ≡ false → context_number k st e.fields ≡ 18
     unfolding context_number ask
-    fields-18 q = rw (a, q)
+    fields_18 q = rw (a, q)
 
     module _ (g : first_good st e.fields.details ≡ true) where
-      fields-19 : same e.fields.chain st.chain ≡ false → context_number k st e.fields ≡ 19
+      fields_19 : same e.fields.chain st.chain ≡ false → context_number k st e.fields ≡ 19
       unfolding context_number ask
-      fields-19 q = rw (a, g, q)
+      fields_19 q = rw (a, g, q)
 
-      fields-20 : same e.fields.chain st.chain ≡ true → counter_right k st e.fields ≡ false → context_number k st e.fields ≡ 20
+      fields_20 : same e.fields.chain st.chain ≡ true → counter_right k st e.fields ≡ false → context_number k st e.fields ≡ 20
       unfolding context_number ask
-      fields-20 c q = rw (a, g, c, q)
+      fields_20 c q = rw (a, g, c, q)
 
 module _ (j key : List ℕ) (n : ℕ) (b : AllBytes j) where
   -- the next entry is there and spelled
@@ -253,62 +253,62 @@ module _ (j key : List ℕ) (n : ℕ) (b : AllBytes j) where
     far : Far j key n o ps p x.count x.rest
     far = far_of x.so_far_lem
 
-    next-no : (y : ℕ) → context_number (key_schedule key) (state_there o key n ps p) e.fields ≡ suc y → take_over j key n ≡ refused (suc y) (index o ps p)
-    next-no y z =
+    next_no : (y : ℕ) → context_number (key_schedule key) (state_there o key n ps p) e.fields ≡ suc y → take_over j key n ≡ refused (suc y) (index o ps p)
+    next_no y z =
         refuse y far
         (entry_step j key n o ps p x.count x.rest b far x.left y
         (entry_text_lem j key n o ps p x.count x.rest b far x.text x.more x.there
-        ∙ (fields-text j key n o ps p x.count x.rest b far x.text x.more x.there e x.spells ∙ z)))
+        ∙ (fields_text j key n o ps p x.count x.rest b far x.text x.more x.there e x.spells ∙ z)))
 
     above_of : number_above (state_there o key n ps p) e.fields.details ≡ true → Above (so_far o ps p) e
-    above_of = above-is j key n o ps p x.count x.rest b far e
+    above_of = above_is j key n o ps p x.count x.rest b far e
 
-    of-above : Above (so_far o ps p) e → number_above (state_there o key n ps p) e.fields.details ≡ true
-    of-above = is-above j key n o ps p x.count x.rest b far e
+    of_above : Above (so_far o ps p) e → number_above (state_there o key n ps p) e.fields.details ≡ true
+    of_above = is_above j key n o ps p x.count x.rest b far e
 
     start_of : first_good (state_there o key n ps p) e.fields.details ≡ true → StartFirst (so_far o ps p) e
     start_of = start_is j key n o ps p x.count x.rest b far e
 
-    of-start : StartFirst (so_far o ps p) e → first_good (state_there o key n ps p) e.fields.details ≡ true
-    of-start = is-start j key n o ps p x.count x.rest b far e
+    of_start : StartFirst (so_far o ps p) e → first_good (state_there o key n ps p) e.fields.details ≡ true
+    of_start = is_start j key n o ps p x.count x.rest b far e
 
-    chain-of : same e.fields.chain (state_there o key n ps p).chain ≡ true → Chained o n (so_far o ps p) e
-    chain-of = chain_is j key n o ps p x.count x.rest b far e
+    chain_of_lem : same e.fields.chain (state_there o key n ps p).chain ≡ true → Chained o n (so_far o ps p) e
+    chain_of_lem = chain_is j key n o ps p x.count x.rest b far e
 
-    of-chain : Chained o n (so_far o ps p) e → same e.fields.chain (state_there o key n ps p).chain ≡ true
-    of-chain = is_chain j key n o ps p x.count x.rest b far e
+    of_chain : Chained o n (so_far o ps p) e → same e.fields.chain (state_there o key n ps p).chain ≡ true
+    of_chain = is_chain j key n o ps p x.count x.rest b far e
 
-    counter-of : counter_right (key_schedule key) (state_there o key n ps p) e.fields ≡ true → CountedAfter (settings_for o p.serial) key n (so_far o ps p) e
-    counter-of = counter_is j key n o ps p x.count x.rest b far e
+    counter_of : counter_right (key_schedule key) (state_there o key n ps p) e.fields ≡ true → CountedAfter (settings_for o p.serial) key n (so_far o ps p) e
+    counter_of = counter_is j key n o ps p x.count x.rest b far e
 
-    of-counter : CountedAfter (settings_for o p.serial) key n (so_far o ps p) e → counter_right (key_schedule key) (state_there o key n ps p) e.fields ≡ true
-    of-counter = is_counter j key n o ps p x.count x.rest b far e x.spells.spelled
+    of_counter : CountedAfter (settings_for o p.serial) key n (so_far o ps p) e → counter_right (key_schedule key) (state_there o key n ps p) e.fields ≡ true
+    of_counter = is_counter j key n o ps p x.count x.rest b far e x.spells.spelled
 
-    answer-17 : (Above (so_far o ps p) e → ⊥) → take_over j key n ≡ refused 17 (index o ps p)
-    answer-17 h = next-no 16 (fields_17 (state_there o key n ps p) (key_schedule key) e (bool_no _ (λ q. h (above_of q))))
+    answer_17 : (Above (so_far o ps p) e → ⊥) → take_over j key n ≡ refused 17 (index o ps p)
+    answer_17 h = next_no 16 (fields_17 (state_there o key n ps p) (key_schedule key) e (bool_no _ (λ q. h (above_of q))))
 
-    answer-18 : Above (so_far o ps p) e → (StartFirst (so_far o ps p) e → ⊥) → take_over j key n ≡ refused 18 (index o ps p)
-    answer-18 a h = next-no 17 (fields-18 (state_there o key n ps p) (key_schedule key) e (of-above a) (bool_no _ (λ q. h (start_of q))))
+    answer_18 : Above (so_far o ps p) e → (StartFirst (so_far o ps p) e → ⊥) → take_over j key n ≡ refused 18 (index o ps p)
+    answer_18 a h = next_no 17 (fields_18 (state_there o key n ps p) (key_schedule key) e (of_above a) (bool_no _ (λ q. h (start_of q))))
 
-    answer-19 : Above (so_far o ps p) e → StartFirst (so_far o ps p) e → (Chained o n (so_far o ps p) e → ⊥) → take_over j key n ≡ refused 19 (index o ps p)
-    answer-19 a g h = next-no 18 (fields-19 (state_there o key n ps p) (key_schedule key) e (of-above a) (of-start g) (bool_no _ (λ q. h (chain-of q))))
+    answer_19 : Above (so_far o ps p) e → StartFirst (so_far o ps p) e → (Chained o n (so_far o ps p) e → ⊥) → take_over j key n ≡ refused 19 (index o ps p)
+    answer_19 a g h = next_no 18 (fields_19 (state_there o key n ps p) (key_schedule key) e (of_above a) (of_start g) (bool_no _ (λ q. h (chain_of_lem q))))
 
-    answer-20 : Above (so_far o ps p) e → StartFirst (so_far o ps p) e → Chained o n (so_far o ps p) e → (CountedAfter (settings_for o p.serial) key n (so_far o ps p) e → ⊥)
+    answer_20 : Above (so_far o ps p) e → StartFirst (so_far o ps p) e → Chained o n (so_far o ps p) e → (CountedAfter (settings_for o p.serial) key n (so_far o ps p) e → ⊥)
         → take_over j key n ≡ refused 20 (index o ps p)
-    answer-20 a g c h = next-no 19 (fields-20 (state_there o key n ps p) (key_schedule key) e (of-above a) (of-start g) (of-chain c) (bool_no _ (λ q. h (counter-of q))))
+    answer_20 a g c h = next_no 19 (fields_20 (state_there o key n ps p) (key_schedule key) e (of_above a) (of_start g) (of_chain c) (bool_no _ (λ q. h (counter_of q))))
 
     -- 17 to 20, asked
-    fields-no : (y : ℕ) → context_number (key_schedule key) (state_there o key n ps p) e.fields ≡ suc y → NoAt j key n (suc y) (index o ps p)
+    fields_no : (y : ℕ) → context_number (key_schedule key) (state_there o key n ps p) e.fields ≡ suc y → NoAt j key n (suc y) (index o ps p)
     unfolding context_number
-    fields-no y z =
+    fields_no y z =
         ask-case _ _ _ _ z
-        (λ q w. subst (λ (a : ℕ). NoAt j key n a (index o ps p)) w (not_above x (λ h. true-is-not-false (sym q ∙ of-above h))))
+        (λ q w. subst (λ (a : ℕ). NoAt j key n a (index o ps p)) w (not_above x (λ h. true-is-not-false (sym q ∙ of_above h))))
         (λ q₁ z₁. ask-case _ _ _ _ z₁
-        (λ q w. subst (λ (a : ℕ). NoAt j key n a (index o ps p)) w (not_start x (above_of q₁) (λ h. true-is-not-false (sym q ∙ of-start h))))
+        (λ q w. subst (λ (a : ℕ). NoAt j key n a (index o ps p)) w (not_start x (above_of q₁) (λ h. true-is-not-false (sym q ∙ of_start h))))
         (λ q₂ z₂. ask-case _ _ _ _ z₂
-        (λ q w. subst (λ (a : ℕ). NoAt j key n a (index o ps p)) w (not_chained x (above_of q₁) (start_of q₂) (λ h. true-is-not-false (sym q ∙ of-chain h))))
+        (λ q w. subst (λ (a : ℕ). NoAt j key n a (index o ps p)) w (not_chained x (above_of q₁) (start_of q₂) (λ h. true-is-not-false (sym q ∙ of_chain h))))
         (λ q₃ z₃. ask-case _ _ _ _ z₃
-        (λ q w. subst (λ (a : ℕ). NoAt j key n a (index o ps p)) w (not_counted x (above_of q₁) (start_of q₂) (chain-of q₃) (λ h. true-is-not-false (sym q ∙ of-counter h))))
+        (λ q w. subst (λ (a : ℕ). NoAt j key n a (index o ps p)) w (not_counted x (above_of q₁) (start_of q₂) (chain_of_lem q₃) (λ h. true-is-not-false (sym q ∙ of_counter h))))
         (λ q₄ z₄. absurd (omega arith)))))
 
   -- ---- an entry that is refused
@@ -317,15 +317,15 @@ module _ (j key : List ℕ) (n : ℕ) (b : AllBytes j) where
     text : List ℕ
     text = text_at j (state_there o key n ps p).length
 
-    entry-asks : (y : ℕ) → entry_number (key_schedule key) (state_there o key n ps p) j ≡ suc y
+    entry_asks : (y : ℕ) → entry_number (key_schedule key) (state_there o key n ps p) j ≡ suc y
         → ask (there j (state_there o key n ps p).length) 15 (ask (found (state_there o key n ps p) text).ok 16 (context_number (key_schedule key) (state_there o key n ps p) (found (state_there o key n ps p) text).entry.fields)) ≡ suc y
     unfolding entry_number text_number text
-    entry-asks y z = z
+    entry_asks y z = z
 
-    entry-no : (y : ℕ) → entry_number (key_schedule key) (state_there o key n ps p) j ≡ suc y → NoAt j key n (suc y) (index o ps p)
+    entry_no : (y : ℕ) → entry_number (key_schedule key) (state_there o key n ps p) j ≡ suc y → NoAt j key n (suc y) (index o ps p)
     unfolding text
-    entry-no y z =
-        ask-case _ _ _ _ (entry-asks y z)
+    entry_no y z =
+        ask-case _ _ _ _ (entry_asks y z)
         (λ q w. subst (λ (a : ℕ). NoAt j key n a (index o ps p)) w
         (not_there (so_far_of f) less (λ t more x. true-is-not-false (sym q ∙ (there_yes j key n o ps p m rest b f t more x).0))))
         (λ q₁ z₁.
@@ -336,12 +336,12 @@ module _ (j key : List ℕ) (n : ℕ) (b : AllBytes j) where
         ask-case _ _ _ _ z₁
         (λ q w. subst (λ (a : ℕ). NoAt j key n a (index o ps p)) w
         (not_spelled (so_far_of f) less x
-        (λ e y. true-is-not-false (sym q ∙ ap (λ (r : Found). r.ok) (text-found j key n o ps p m rest b f text _ x e y)))))
+        (λ e y. true-is-not-false (sym q ∙ ap (λ (r : Found). r.ok) (text_found j key n o ps p m rest b f text _ x e y)))))
         (λ q₂ z₂.
         let ex = exact sf' n text ty.lengths ty.bytes (bytes_text j st'.length b) in
         let w = ex.0 (ap (λ (r : Found). r.ok) (sym (found_is j key n o ps p m rest b f text)) ∙ q₂) in
         let fo : found st' text ≡ record { ok = true; entry = w.entry } = found_is j key n o ps p m rest b f text ∙ ex.1 w in
-        fields-no
+        fields_no
         (record {
           count = m;
           rest = rest;
@@ -390,35 +390,35 @@ module _ (j key : List ℕ) (n : ℕ) (b : AllBytes j) where
       (r.0 ∙ ap (λ (a : ℕ). stopped a (state_there o key n ps p)) i, subst (λ (a : ℕ). NoAt j key n a (index o ps p)) i r.1)
 
   module _ (o : Owner) (ps : List Pair) (p : Pair) (m : ℕ) (rest : List ℕ) (f : Far j key n o ps p m rest) (y : ℕ) (z : (one_step (key_schedule key) (state_there o key n ps p) j).number ≡ suc y) where
-    entry-side : length p.entries < m → StepNo o ps p y
-    entry-side less = go (entry_number (key_schedule key) (state_there o key n ps p) j) refl
+    entry_side : length p.entries < m → StepNo o ps p y
+    entry_side less = go (entry_number (key_schedule key) (state_there o key n ps p) j) refl
       where
         go : (x : ℕ) → entry_number (key_schedule key) (state_there o key n ps p) j ≡ x → StepNo o ps p y
-        go zero e = absurd (omega (arith, z, ap (λ (c : Checked). c.number) (entry-passed (key_schedule key) (state_there o key n ps p) j (not_full j key n o ps p m rest b f less) e)))
-        go (suc x) e = same_number o ps p x y z (entry_step j key n o ps p m rest b f less x e, entry-no o ps p m rest f less x e)
+        go zero e = absurd (omega (arith, z, ap (λ (c : Checked). c.number) (entry_passed (key_schedule key) (state_there o key n ps p) j (not_full j key n o ps p m rest b f less) e)))
+        go (suc x) e = same_number o ps p x y z (entry_step j key n o ps p m rest b f less x e, entry_no o ps p m rest f less x e)
 
-    start-side : (last : length p.entries ≡ m) → StepNo o ps p y
-    start-side last = ends rest refl
+    start_side : (last : length p.entries ≡ m) → StepNo o ps p y
+    start_side last = ends rest refl
       where
         far' : Far j key n o ps p (length p.entries) rest
         far' = subst (λ (a : ℕ). Far j key n o ps p a rest) (sym last) f
 
         starts : (rest ≡ [] → ⊥) → (x : ℕ) → start_number (state_there o key n ps p) j ≡ x → StepNo o ps p y
         starts left zero e =
-            absurd (omega (arith, z, ap (λ (c : Checked). c.number) (start-passed (key_schedule key) (state_there o key n ps p) j (is-full j key n o ps p m rest b f last) (some_left j key n o ps p m rest b f last left) e), number_of 0 (renewed (state_there o key n ps p) (serial_at j (state_there o key n ps p).length))))
+            absurd (omega (arith, z, ap (λ (c : Checked). c.number) (start_passed (key_schedule key) (state_there o key n ps p) j (is_full j key n o ps p m rest b f last) (some_left j key n o ps p m rest b f last left) e), number_of 0 (renewed (state_there o key n ps p) (serial_at j (state_there o key n ps p).length))))
         starts left (suc x) e = same_number o ps p x y z (start_step j key n o ps p m rest b f last left x e, start_no o ps p rest far' left x e)
 
         ends : (r : List ℕ) → rest ≡ r → StepNo o ps p y
         ends [] e =
-            absurd (omega (arith, z, ap (λ (c : Checked). c.number) (end_none (key_schedule key) (state_there o key n ps p) j (is-full j key n o ps p m rest b f last) (none_left j key n o ps p m rest b f last e)), number_of 0 (state_there o key n ps p)))
+            absurd (omega (arith, z, ap (λ (c : Checked). c.number) (end_none (key_schedule key) (state_there o key n ps p) j (is_full j key n o ps p m rest b f last) (none_left j key n o ps p m rest b f last e)), number_of 0 (state_there o key n ps p)))
         ends (x ∷ xs) e = starts (λ h. let l = ap length (sym e ∙ h) in absurd (omega arith)) (start_number (state_there o key n ps p) j) refl
 
-    step-no : StepNo o ps p y
-    step-no = go (ltb (length p.entries) m) refl
+    step_no : StepNo o ps p y
+    step_no = go (ltb (length p.entries) m) refl
       where
         go : (t : Bool) → ltb (length p.entries) m ≡ t → StepNo o ps p y
-        go true e = entry-side (ltb-true _ _ e)
-        go false e = start-side (omega (arith, ltb-false (length p.entries) m e, f.within))
+        go true e = entry_side (ltb-true _ _ e)
+        go false e = start_side (omega (arith, ltb-false (length p.entries) m e, f.within))
 
   -- ---- the first refusal of many steps
 
@@ -440,7 +440,7 @@ module _ (j key : List ℕ) (n : ℕ) (b : AllBytes j) where
           → ((ps' : List Pair) (p' : Pair) (m' : ℕ) (rest' : List ℕ) → Far j key n o ps' p' m' rest' → ((steps (key_schedule key) i (state_there o key n ps' p') j).number ≡ 0 → ⊥)
           → Refusal (steps (key_schedule key) i (state_there o key n ps' p') j))
           → Refusal (steps (key_schedule key) (suc i) (state_there o key n ps p) j)
-      go (suc y) z rec = refused_there o ps p m rest f i y (step-no o ps p m rest f y z)
+      go (suc y) z rec = refused_there o ps p m rest f i y (step_no o ps p m rest f y z)
       go zero z rec = on (step_case (key_schedule key) (state_there o key n ps p) j z)
         where
           move : (ps' : List Pair) (p' : Pair) (m' : ℕ) (rest' : List ℕ) → Far j key n o ps' p' m' rest' → (one_step (key_schedule key) (state_there o key n ps p) j).state ≡ state_there o key n ps' p'
@@ -530,11 +530,11 @@ module _ (j key : List ℕ) (n : ℕ) (b : AllBytes j) where
   answer y i (not_there {o} {ps} {p} {k} {rest} c less h) =
       refuse 14 (far_of c) (entry_step j key n o ps p k rest b (far_of c) less 14 (there_no j key n o ps p k rest b (far_of c) h))
   answer y i (not_spelled {o} {ps} {p} {k} {rest} {text} {more} c less x h) =
-      refuse 15 (far_of c) (entry_step j key n o ps p k rest b (far_of c) less 15 (entry_text_lem j key n o ps p k rest b (far_of c) text more x ∙ spelled-no j key n o ps p k rest b (far_of c) text more x h))
-  answer y i (not_above x h) = answer-17 x h
-  answer y i (not_start x a h) = answer-18 x a h
-  answer y i (not_chained x a g h) = answer-19 x a g h
-  answer y i (not_counted x a g c h) = answer-20 x a g c h
+      refuse 15 (far_of c) (entry_step j key n o ps p k rest b (far_of c) less 15 (entry_text_lem j key n o ps p k rest b (far_of c) text more x ∙ spelled_no j key n o ps p k rest b (far_of c) text more x h))
+  answer y i (not_above x h) = answer_17 x h
+  answer y i (not_start x a h) = answer_18 x a h
+  answer y i (not_chained x a g h) = answer_19 x a g h
+  answer y i (not_counted x a g c h) = answer_20 x a g c h
   answer y i (no_start {o} {ps} {p} {rest} x h) = full_no_start 20 x (start_none j key n o ps p (length p.entries) rest b (far_of x.so_far_lem) h)
   answer y i (used_before {o} {ps} {p} {rest} {serial} {k} {more} x t h) =
       full_no_start 29 x

@@ -79,74 +79,74 @@ module _ (s : Settings) (t : SettingsLengths s) (g : settings_good s ≡ true) w
     unfolding head
     fourth = append_assoc (front s) (bytes_of 4 k) more
 
-    read-three : count_at (head s k ++ more) 0 4 ≡ 3
-    read-three =
+    read_three : count_at (head s k ++ more) 0 4 ≡ 3
+    read_three =
         ap (λ (j : List ℕ). count_at j 0 4) first
         ∙ section_count [] s.csp (section (name_text s.id) ++ (section (name_text s.serial) ++ rest)) 0 refl (omega (arith, t.csp)) ∙ t.csp
 
-    read-csp : section_text (head s k ++ more) 0 ≡ s.csp
-    read-csp =
+    read_csp : section_text (head s k ++ more) 0 ≡ s.csp
+    read_csp =
         ap (λ (j : List ℕ). section_text j 0) first
         ∙ section_text_lem [] s.csp (section (name_text s.id) ++ (section (name_text s.serial) ++ rest)) 0 refl (omega (arith, t.csp))
 
-    read-id : section_text (head s k ++ more) 7 ≡ name_text s.id
-    read-id =
+    read_id : section_text (head s k ++ more) 7 ≡ name_text s.id
+    read_id =
         ap (λ (j : List ℕ). section_text j 7) second
         ∙ section_text_lem (section s.csp) (name_text s.id) (section (name_text s.serial) ++ rest) 7 csp_end (omega (arith, id_long, names.id.most))
 
-    read-serial-place : serial_place (head s k ++ more) ≡ 11 + s.id.len
+    read_serial_place : serial_place (head s k ++ more) ≡ 11 + s.id.len
     unfolding serial_place
-    read-serial-place =
+    read_serial_place =
         ap (λ (j : List ℕ). section_end j 7) second
         ∙ section_end_lem (section s.csp) (name_text s.id) (section (name_text s.serial) ++ rest) 7 csp_end (omega (arith, id_long, names.id.most))
         ∙ omega (arith, id_long)
 
-    serial-short : length (name_text s.serial) < 4294967296
-    serial-short = omega (arith, serial_long, names.serial.most)
+    serial_short : length (name_text s.serial) < 4294967296
+    serial_short = omega (arith, serial_long, names.serial.most)
 
-    read-serial : section_text (head s k ++ more) (serial_place (head s k ++ more)) ≡ name_text s.serial
-    read-serial =
-        ap (section_text (head s k ++ more)) read-serial-place ∙ ap (λ (j : List ℕ). section_text j (11 + s.id.len)) third
-        ∙ section_text_lem (section s.csp ++ section (name_text s.id)) (name_text s.serial) rest (11 + s.id.len) id_end_lem serial-short
+    read_serial : section_text (head s k ++ more) (serial_place (head s k ++ more)) ≡ name_text s.serial
+    read_serial =
+        ap (section_text (head s k ++ more)) read_serial_place ∙ ap (λ (j : List ℕ). section_text j (11 + s.id.len)) third
+        ∙ section_text_lem (section s.csp ++ section (name_text s.id)) (name_text s.serial) rest (11 + s.id.len) id_end_lem serial_short
 
-    pub read-place : count_place_in (head s k ++ more) ≡ count_place s
+    pub read_place : count_place_in (head s k ++ more) ≡ count_place s
     unfolding count_place_in count_place head_length
-    read-place =
-        ap (section_end (head s k ++ more)) read-serial-place ∙ ap (λ (j : List ℕ). section_end j (11 + s.id.len)) third
-        ∙ section_end_lem (section s.csp ++ section (name_text s.id)) (name_text s.serial) rest (11 + s.id.len) id_end_lem serial-short
+    read_place =
+        ap (section_end (head s k ++ more)) read_serial_place ∙ ap (λ (j : List ℕ). section_end j (11 + s.id.len)) third
+        ∙ section_end_lem (section s.csp ++ section (name_text s.id)) (name_text s.serial) rest (11 + s.id.len) id_end_lem serial_short
         ∙ omega (arith, serial_long)
 
     -- at the place that the settings say
-    pub read-count-at : count_at (head s k ++ more) (count_place s) 4 ≡ k
-    read-count-at = ap (λ (j : List ℕ). count_at j (count_place s) 4) fourth ∙ count_in (front s) more (count_place s) 4 k front_place (omega arith)
+    pub read_count_at : count_at (head s k ++ more) (count_place s) 4 ≡ k
+    read_count_at = ap (λ (j : List ℕ). count_at j (count_place s) 4) fourth ∙ count_in (front s) more (count_place s) 4 k front_place (omega arith)
 
     pub read_count : count_of (head s k ++ more) ≡ k
     unfolding count_of
-    read_count = ap (λ (p : ℕ). count_at (head s k ++ more) p 4) read-place ∙ read-count-at
+    read_count = ap (λ (p : ℕ). count_at (head s k ++ more) p 4) read_place ∙ read_count_at
 
-    pub read-settings : head_settings (head s k ++ more) ≡ s
+    pub read_settings : head_settings (head s k ++ more) ≡ s
     unfolding head_settings serial_at
-    read-settings =
+    read_settings =
         let a = settings_all s g in
         λ i. record {
-          csp = read-csp i;
-          id = (ap name_of read-id ∙ name_of_lem Id s.id t.id a.id) i;
-          serial = (ap name_of read-serial ∙ name_of_lem Serial s.serial t.serial a.serial) i;
+          csp = read_csp i;
+          id = (ap name_of read_id ∙ name_of_lem Id s.id t.id a.id) i;
+          serial = (ap name_of read_serial ∙ name_of_lem Serial s.serial t.serial a.serial) i;
         }
 
-    place-four : count_place_in (head s k ++ more) + 4 ≡ head_length s
+    place_four : count_place_in (head s k ++ more) + 4 ≡ head_length s
     unfolding count_place head_length
-    place-four = omega (arith, read-place)
+    place_four = omega (arith, read_place)
 
     pub head_good_lem : head_good (head s k ++ more) ≡ true
     unfolding head_good
     head_good_lem =
         let l = length-append (head s k) more in
         let m = length_head k in
-        rw (read-three, read-settings, le-leb (count_place_in (head s k ++ more) + 4) (length (head s k ++ more)) (omega (arith, place-four))) g
+        rw (read_three, read_settings, le-leb (count_place_in (head s k ++ more) + 4) (length (head s k ++ more)) (omega (arith, place_four))) g
 
-    pub after-head : drop (head_length s) (head s k ++ more) ≡ more
-    after-head = drop_at (head s k) more (head_length s) (length_head k)
+    pub after_head : drop (head_length s) (head s k ++ more) ≡ more
+    after_head = drop_at (head s k) more (head_length s) (length_head k)
 
 -- ---- a good head is the head of what was read from it
 

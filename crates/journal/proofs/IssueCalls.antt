@@ -167,15 +167,15 @@ module _ (t b : List ℕ) (at : ℕ) (some : 0 < length t) where
   entry_short h = full (omega arith)
 
   module _ {r : ℕ} {b₁ : List ℕ} (w : (r ≡ place_after b (at + 2) t) × (b₁ ≡ placed b (at + 2) t)) where
-    pub entry-full : r ≡ at + 2 → (at ≡ place_after b at (entry_text t)) × (b₁ ≡ placed b at (entry_text t))
-    entry-full q =
+    pub entry_full : r ≡ at + 2 → (at ≡ place_after b at (entry_text t)) × (b₁ ≡ placed b at (entry_text t))
+    entry_full q =
         let s = stayed b t (at + 2) w some q in
         let f = full (omega (arith, s.full)) in
         (f.0, s.same ∙ f.1)
 
-    pub entry-placed : {b₂ : List ℕ} → (r ≡ at + 2 → ⊥) → b₂ ≡ placed b₁ at (bytes_of 2 (r - (at + 2))) → (r ≡ place_after b at (entry_text t)) × (b₂ ≡ placed b at (entry_text t))
+    pub entry_placed : {b₂ : List ℕ} → (r ≡ at + 2 → ⊥) → b₂ ≡ placed b₁ at (bytes_of 2 (r - (at + 2))) → (r ≡ place_after b at (entry_text t)) × (b₂ ≡ placed b at (entry_text t))
     unfolding entry_text
-    entry-placed {b₂} q v =
+    entry_placed {b₂} q v =
         let m = moved b t (at + 2) w q in
         let k = m.room in
         let n : r - (at + 2) ≡ length t = omega (arith, m.end) in
@@ -283,9 +283,9 @@ module _ (st : State) (d : Details) (sig b : List ℕ) (a : Asked st d sig (leng
         let p : entry_text (compact (settings_now st) st.width e) ≡ entry_text (text_of st d sig) = λ i. entry_text (compact (settings_now st) st.width (q i)) in
         (w.0 ∙ ap (place_after b st.length) p, w.1 ∙ ap (placed b st.length) p)
 
-    pub append-refused : r ≡ st.length → (record { number = 13; state = st } ≡ issued st d sig (length b)) × (b₁ ≡ issue_buffer st d sig b)
+    pub append_refused : r ≡ st.length → (record { number = 13; state = st } ≡ issued st d sig (length b)) × (b₁ ≡ issue_buffer st d sig b)
     unfolding issued_within issue_buffer_within
-    append-refused z =
+    append_refused z =
         let t = entry_text (text_of st d sig) in
         let some : 0 < length t = omega (arith, length_entry (text_of st d sig)) in
         let s = stayed b t st.length w' some z in
@@ -304,8 +304,8 @@ module _ (st : State) (d : Details) (sig b : List ℕ) (a : Asked st d sig (leng
           let n : r - (st.length + 2) ≡ length (text_of st d sig) = omega (arith, appended.end, length_entry (text_of st d sig)) in
           (λ i. take (n i) (drop (st.length + 2) (appended.wrote i))) ∙ entry_text_lem b (text_of st d sig) st.length appended.room
 
-      pub append-made : Made st b b₁ r
-      append-made =
+      pub append_made : Made st b b₁ r
+      append_made =
           let l = length_entry (text_of st d sig) in
           record {
             start = omega (arith, appended.end);
@@ -314,11 +314,11 @@ module _ (st : State) (d : Details) (sig b : List ℕ) (a : Asked st d sig (leng
             long = omega (arith, ap length text_is, appended.end, appended.room);
           }
 
-      pub append-done : {st₁ : State} {b₂ : List ℕ} → st₁ ≡ next st d (take (r - (st.length + 2)) (drop (st.length + 2) b₁))
+      pub append_done : {st₁ : State} {b₂ : List ℕ} → st₁ ≡ next st d (take (r - (st.length + 2)) (drop (st.length + 2) b₁))
           → b₂ ≡ overwrite b₁ st.place (bytes_of 4 (st.since + 1))
           → (record { number = 0; state = st₁ } ≡ issued st d sig (length b)) × (b₂ ≡ issue_buffer st d sig b)
       unfolding issued_within issue_buffer_within with_entry
-      append-done f g =
+      append_done f g =
           let n : issue_number st d sig (length b) ≡ 0 = number_is ∙ ask_yes 13 0 (le-leb _ _ appended.room) in (
             (λ i. record { number = sym n i; state = (f ∙ ap (next st d) text_is ∙ sym (ifZero-yes (next st d (text_of st d sig)) st n)) i }),
             g ∙ (λ i. overwrite (appended.wrote i) st.place (bytes_of 4 (st.since + 1))) ∙ sym (ifZero-yes (with_entry st (text_of st d sig) b) b n),
@@ -377,9 +377,9 @@ module _ (st : State) (d : Details) (out : List ℕ) {k : ℕ} (e : k ≡ ask (s
     asked : (sound_alone st ≡ true) × (details_number st d 0 ≡ 0)
     asked = ask_zero _ _ _ (sym e ∙ z)
 
-    prepared-as : prepared s st.width f ≡ prepared_text st d
+    prepared_as : prepared s st.width f ≡ prepared_text st d
     unfolding prepared_text entry_of signature_sized
-    prepared-as =
+    prepared_as =
         let u = settings_now st in
         let n = st.width in
         let y = spellable_asked st d [] asked.0 asked.1 none in
@@ -389,36 +389,36 @@ module _ (st : State) (d : Details) (out : List ℕ) {k : ℕ} (e : k ≡ ask (s
         none = refl
 
     w₁ : (r ≡ place_after out 0 (prepared_text st d)) × (out₁ ≡ placed out 0 (prepared_text st d))
-    w₁ = (w.0 ∙ ap (place_after out 0) prepared-as, w.1 ∙ ap (placed out 0) prepared-as)
+    w₁ = (w.0 ∙ ap (place_after out 0) prepared_as, w.1 ∙ ap (placed out 0) prepared_as)
 
-    some-text : 0 < length (prepared_text st d)
+    some_text : 0 < length (prepared_text st d)
     unfolding prepared_text
-    some-text = input_some (settings_now st) st.width (fields_of st d)
+    some_text = input_some (settings_now st) st.width (fields_of st d)
 
-    number-left : prepare_number st d (length out) ≡ ask (leb (length (prepared_text st d)) (length out)) 13 0
+    number_left : prepare_number st d (length out) ≡ ask (leb (length (prepared_text st d)) (length out)) 13 0
     unfolding prepare_number
-    number-left = ask_yes 6 _ asked.0 ∙ details_past st d refl _ asked.1
+    number_left = ask_yes 6 _ asked.0 ∙ details_past st d refl _ asked.1
 
-    pub prepare-full : r ≡ 0 → (record { number = 13; length = 0 } ≡ prepare_answer st d (length out)) × (out₁ ≡ prepare_buffer st d out)
+    pub prepare_full : r ≡ 0 → (record { number = 13; length = 0 } ≡ prepare_answer st d (length out)) × (out₁ ≡ prepare_buffer st d out)
     unfolding prepare_answer prepare_buffer
-    prepare-full o =
+    prepare_full o =
         let x = prepared_text st d in
-        let s = stayed out x 0 w₁ some-text o in
+        let s = stayed out x 0 w₁ some_text o in
         let k : length out < length x = omega (arith, s.full) in
-        let n : prepare_number st d (length out) ≡ 13 = number-left ∙ ask_no 13 0 (lt-leb _ _ k) in
+        let n : prepare_number st d (length out) ≡ 13 = number_left ∙ ask_no 13 0 (lt-leb _ _ k) in
         let m : prepare_number st d (length out) ≡ 0 → ⊥ = λ y. omega (arith, n, y) in (
           (λ i. record { number = sym n i; length = sym (ifZero-no (prepare_number st d (length out)) (length x) 0 m) i }),
           s.same ∙ sym (ifZero-no (prepare_number st d (length out)) (overwrite out 0 x) out m),
         )
 
-    pub prepare-done : (r ≡ 0 → ⊥) → (record { number = 0; length = r } ≡ prepare_answer st d (length out)) × (out₁ ≡ prepare_buffer st d out)
+    pub prepare_done : (r ≡ 0 → ⊥) → (record { number = 0; length = r } ≡ prepare_answer st d (length out)) × (out₁ ≡ prepare_buffer st d out)
     unfolding prepare_answer prepare_buffer
-    prepare-done o =
+    prepare_done o =
         let x = prepared_text st d in
         let s = moved out x 0 w₁ o in
         let k : length x ≤ length out = omega (arith, s.room) in
         let v : r ≡ length x = omega (arith, s.end) in
-        let n : prepare_number st d (length out) ≡ 0 = number-left ∙ ask_yes 13 0 (le-leb _ _ k) in (
+        let n : prepare_number st d (length out) ≡ 0 = number_left ∙ ask_yes 13 0 (le-leb _ _ k) in (
           (λ i. record { number = sym n i; length = (v ∙ sym (ifZero-yes (length x) 0 n)) i }),
           s.wrote ∙ sym (ifZero-yes (overwrite out 0 x) out n),
         )

@@ -33,10 +33,10 @@ module _ (limit : ℕ) (st : State) (d : Details) (ds : List Details) (buf : Lis
     unfolding issued_list_within
     answer_yes = ifZero-yes _ _ z
 
-    pub buffer-yes : list_buffer_within limit st (d ∷ ds) buf
+    pub buffer_yes : list_buffer_within limit st (d ∷ ds) buf
         ≡ list_buffer_within limit (issued_within limit st d [] (length buf)).state ds (issue_buffer_within limit st d [] buf)
     unfolding list_buffer_within
-    buffer-yes = ifZero-yes _ _ z
+    buffer_yes = ifZero-yes _ _ z
 
   -- it is refused
   module _ (h : issue_number_within limit st d [] (length buf) ≡ 0 → ⊥) where
@@ -44,9 +44,9 @@ module _ (limit : ℕ) (st : State) (d : Details) (ds : List Details) (buf : Lis
     unfolding issued_list_within
     answer_no = ifZero-no _ _ _ h
 
-    pub buffer-no : list_buffer_within limit st (d ∷ ds) buf ≡ buf
+    pub buffer_no : list_buffer_within limit st (d ∷ ds) buf ≡ buf
     unfolding list_buffer_within
-    buffer-no = ifZero-no _ _ _ h
+    buffer_no = ifZero-no _ _ _ h
 
 -- ---- a loop over a list: what it gives from here is what it gives from the start
 
@@ -83,8 +83,8 @@ module _ (s : State) (d : Details) (ds : List Details) (b ws : List ℕ) (one : 
         (λ j. listed (k + 1) (e j).state ds (f j)) ∙ counted_on k (issued_list (issued s d [] (length b)).state ds (issue_buffer s d [] b))
         ∙ ap (counted_from k) (sym (answer_yes _ s d ds b (sym number_is ∙ z)))
 
-    pub buffer-more : list_buffer one.state ds ws ≡ list_buffer s (d ∷ ds) b
-    buffer-more = (λ j. list_buffer (e j).state ds (f j)) ∙ sym (buffer-yes _ s d ds b (sym number_is ∙ z))
+    pub buffer_more : list_buffer one.state ds ws ≡ list_buffer s (d ∷ ds) b
+    buffer_more = (λ j. list_buffer (e j).state ds (f j)) ∙ sym (buffer_yes _ s d ds b (sym number_is ∙ z))
 
   -- it is refused: state and buffer stay
   module _ (h : one.number ≡ 0 → ⊥) where
@@ -96,10 +96,10 @@ module _ (s : State) (d : Details) (ds : List Details) (b ws : List ℕ) (one : 
         let same = issue_refused s d [] b (λ z. h (ap (λ (o : Issued). o.number) e ∙ z)) in
         (ap (λ (o : Issued). o.state) e ∙ same.0, f ∙ same.1)
 
-    pub listed-stops : (k : ℕ) → record { number = one.number; count = k; state = s } ≡ listed k s (d ∷ ds) b
-    listed-stops k =
+    pub listed_stops : (k : ℕ) → record { number = one.number; count = k; state = s } ≡ listed k s (d ∷ ds) b
+    listed_stops k =
         let m : k ≡ k + 0 = omega arith in
         (λ j. record { number = number_is j; count = m j; state = s }) ∙ ap (counted_from k) (sym (answer_no _ s d ds b refused_there))
 
-    pub buffer-stops : ws ≡ list_buffer s (d ∷ ds) b
-    buffer-stops = left_there.1 ∙ sym (buffer-no _ s d ds b refused_there)
+    pub buffer_stops : ws ≡ list_buffer s (d ∷ ds) b
+    buffer_stops = left_there.1 ∙ sym (buffer_no _ s d ds b refused_there)

@@ -17,7 +17,7 @@ use Rattle.journal.specs.Issuing.{issued, issue_buffer}
 use Rattle.journal.specs.Listing.{issued_list, list_buffer}
 use Rattle.journal.specs.declared.state.State.{State}
 use Rattle.journal.specs.declared.state.Issued.{Issued}
-use Rattle.journal.proofs.ListSteps.{listed, listed_start, listed_end, buffer_none, listed_more, buffer-more, left_there, listed-stops, buffer-stops}
+use Rattle.journal.proofs.ListSteps.{listed, listed_start, listed_end, buffer_none, listed_more, buffer_more, left_there, listed_stops, buffer_stops}
 use Rattle.journal.specs.contracts.state.State as S
 use Rattle.journal.proofs.state.State.TheLaws as S'
 
@@ -50,28 +50,28 @@ module _ {st : State} {xs : List Details} {ys : List ℕ} where
 
   module _ (t : Turn st xs ys) (l : t.i < length xs) where
     -- the list from here is its next receipt and the rest
-    list-here : listed t.i t.s (get_or xs t.i blank ∷ drop (suc t.i) xs) t.zs ≡ issued_list st xs ys
-    list-here = sym (ap (λ (ds : List Details). listed t.i t.s ds t.zs) (drop-cons xs t.i blank l)) ∙ t.list_is
+    list_here : listed t.i t.s (get_or xs t.i blank ∷ drop (suc t.i) xs) t.zs ≡ issued_list st xs ys
+    list_here = sym (ap (λ (ds : List Details). listed t.i t.s ds t.zs) (drop-cons xs t.i blank l)) ∙ t.list_is
 
-    buffer-here : list_buffer t.s (get_or xs t.i blank ∷ drop (suc t.i) xs) t.zs ≡ list_buffer st xs ys
-    buffer-here = sym (ap (λ (ds : List Details). list_buffer t.s ds t.zs) (drop-cons xs t.i blank l)) ∙ t.buffer_is
+    buffer_here : list_buffer t.s (get_or xs t.i blank ∷ drop (suc t.i) xs) t.zs ≡ list_buffer st xs ys
+    buffer_here = sym (ap (λ (ds : List Details). list_buffer t.s ds t.zs) (drop-cons xs t.i blank l)) ∙ t.buffer_is
 
     module _ (one : Issued) (ws : List ℕ) (e : one ≡ issued t.s (get_or xs t.i blank) [] (length t.zs)) (f : ws ≡ issue_buffer t.s (get_or xs t.i blank) [] t.zs) where
-      pub list-next : eqb one.number 0 ≡ true → listed (t.i + 1) one.state (drop (t.i + 1) xs) ws ≡ issued_list st xs ys
-      list-next z = (λ j. listed (t.i + 1) one.state (drop (add-one t.i j) xs) ws) ∙ listed_more t.s (get_or xs t.i blank) (drop (suc t.i) xs) t.zs ws one e f (eqb-true _ _ z) t.i ∙ list-here
+      pub list_next : eqb one.number 0 ≡ true → listed (t.i + 1) one.state (drop (t.i + 1) xs) ws ≡ issued_list st xs ys
+      list_next z = (λ j. listed (t.i + 1) one.state (drop (add-one t.i j) xs) ws) ∙ listed_more t.s (get_or xs t.i blank) (drop (suc t.i) xs) t.zs ws one e f (eqb-true _ _ z) t.i ∙ list_here
 
-      pub buffer-next : eqb one.number 0 ≡ true → list_buffer one.state (drop (t.i + 1) xs) ws ≡ list_buffer st xs ys
-      buffer-next z = (λ j. list_buffer one.state (drop (add-one t.i j) xs) ws) ∙ buffer-more t.s (get_or xs t.i blank) (drop (suc t.i) xs) t.zs ws one e f (eqb-true _ _ z) ∙ buffer-here
+      pub buffer_next : eqb one.number 0 ≡ true → list_buffer one.state (drop (t.i + 1) xs) ws ≡ list_buffer st xs ys
+      buffer_next z = (λ j. list_buffer one.state (drop (add-one t.i j) xs) ws) ∙ buffer_more t.s (get_or xs t.i blank) (drop (suc t.i) xs) t.zs ws one e f (eqb-true _ _ z) ∙ buffer_here
 
       abbrev pub goes_on : length ws ≡ length t.zs → Is S.the_row one.state (LL.vals S.the_type S'.the_laws one.state) → eqb one.number 0 ≡ true → Turn st xs ys
-      goes_on long is z = record { i = t.i + 1; s = one.state; zs = ws; within = omega (arith, l); long = long ∙ t.long; is = is; list_is = list-next z; buffer_is = buffer-next z }
+      goes_on long is z = record { i = t.i + 1; s = one.state; zs = ws; within = omega (arith, l); long = long ∙ t.long; is = is; list_is = list_next z; buffer_is = buffer_next z }
 
       -- the function returns within the loop
       pub stops : eqb one.number 0 ≡ false → (record { number = one.number; count = t.i; state = one.state } ≡ issued_list st xs ys) × (ws ≡ list_buffer st xs ys)
       stops z = (
         (λ j. record { number = one.number; count = t.i; state = (left_there t.s (get_or xs t.i blank) (drop (suc t.i) xs) t.zs ws one e f (eqb-false _ _ z)).0 j })
-            ∙ listed-stops t.s (get_or xs t.i blank) (drop (suc t.i) xs) t.zs ws one e f (eqb-false _ _ z) t.i ∙ list-here,
-        buffer-stops t.s (get_or xs t.i blank) (drop (suc t.i) xs) t.zs ws one e f (eqb-false _ _ z) ∙ buffer-here,
+            ∙ listed_stops t.s (get_or xs t.i blank) (drop (suc t.i) xs) t.zs ws one e f (eqb-false _ _ z) t.i ∙ list_here,
+        buffer_stops t.s (get_or xs t.i blank) (drop (suc t.i) xs) t.zs ws one e f (eqb-false _ _ z) ∙ buffer_here,
       )
 
   -- the loop is left

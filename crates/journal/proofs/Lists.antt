@@ -11,7 +11,7 @@ use Rattle.journal.specs.Listing.{counted_from, issued_list_within, issued_list,
 use Rattle.journal.specs.Calls.{Call, issue, issue_list, failed_order, Register, number_of, call_within, call, calls, calls_within, numbers_of, receipt_of_call, receipts_of_list}
 use Rattle.journal.specs.Lists.{single_call, single_calls, NoneRefused, FirstRefused, Ends, whole, early, ListLeaves, ListEqualsSingleCalls, EmptyListChangesNothing}
 use Rattle.journal.specs.declared.state.IssuedList.{IssuedList}
-use Rattle.journal.proofs.ListSteps.{answer_none, buffer_none, answer_yes, buffer-yes, answer_no, buffer-no}
+use Rattle.journal.proofs.ListSteps.{answer_none, buffer_none, answer_yes, buffer_yes, answer_no, buffer_no}
 
 -- ---- one receipt of a list: it is issued, or it ends the list
 
@@ -30,11 +30,11 @@ list_none limit g = refl
 module _ (limit : ℕ) (g : Register) (d : Details) (ds : List Details) where
   pub list_yes : single_number limit g d ≡ 0 → call_within limit g (issue_list (d ∷ ds)) ≡ call_within limit (call_within limit g (single_call d)) (issue_list ds)
   unfolding call_within failed_order
-  list_yes z = λ i. record { state = (answer_yes limit g.state d ds g.buf z i).state; buf = buffer-yes limit g.state d ds g.buf z i }
+  list_yes z = λ i. record { state = (answer_yes limit g.state d ds g.buf z i).state; buf = buffer_yes limit g.state d ds g.buf z i }
 
   pub list_no : (single_number limit g d ≡ 0 → ⊥) → call_within limit g (issue_list (d ∷ ds)) ≡ g
   unfolding call_within
-  list_no h = λ i. record { state = (answer_no limit g.state d ds g.buf h i).state; buf = buffer-no limit g.state d ds g.buf h i }
+  list_no h = λ i. record { state = (answer_no limit g.state d ds g.buf h i).state; buf = buffer_no limit g.state d ds g.buf h i }
 
 one_plus : (k : ℕ) → 1 + k ≡ suc k
 one_plus k = omega arith
@@ -96,7 +96,7 @@ also_listed g d ds done m z h =
           answer_yes amount_limit g.state d ds g.buf z
           ∙ ap (counted_from 1) h.answer
           ∙ (λ i. record { number = m; count = one_plus (length done) i; state = (sym (calls_first g d done) i).state });
-      buffer = buffer-yes amount_limit g.state d ds g.buf z ∙ h.buffer ∙ ap (λ (r : Register). r.buf) (sym (calls_first g d done));
+      buffer = buffer_yes amount_limit g.state d ds g.buf z ∙ h.buffer ∙ ap (λ (r : Register). r.buf) (sym (calls_first g d done));
     }
 
 all_listed : (ds : List Details) (g : Register) → NoneRefused g ds → ListLeaves g ds ds 0
@@ -116,7 +116,7 @@ first_listed [] g d later h =
     let s : single_number amount_limit g d ≡ 0 → ⊥ = λ z. r (single_number_lem g d ∙ z) in
     record {
       answer = answer_no amount_limit g.state d later g.buf s ∙ (λ i. record { number = (sym (single_number_lem g d) ∙ ap (λ (x : Register). number_of x (single_call d)) c) i; count = 0; state = (c i).state });
-      buffer = buffer-no amount_limit g.state d later g.buf s ∙ ap (λ (x : Register). x.buf) c;
+      buffer = buffer_no amount_limit g.state d later g.buf s ∙ ap (λ (x : Register). x.buf) c;
     }
 first_listed (b ∷ before) g d later h =
     let p = numbers_first g b before h.none in

@@ -21,8 +21,8 @@ use Rattle.journal.specs.Valid.{Owner, Pair, settings_for, texts, pair_texts, ow
 use Rattle.journal.specs.Demands.{OneReading}
 use Rattle.journal.proofs.Sections.{length_start}
 use Rattle.journal.proofs.Places.{text_at_lem}
-use Rattle.journal.proofs.Heads.{read-settings}
-use Rattle.journal.proofs.Starting.{serial-read, count-read}
+use Rattle.journal.proofs.Heads.{read_settings}
+use Rattle.journal.proofs.Starting.{serial_read, count_read}
 use Rattle.journal.proofs.Placing.{Core, start_core, step_core, run_core, AllRight, right_split, Begun, Names}
 use Rattle.journal.proofs.Placing as placing
 use Rattle.journal.proofs.Passing.{typed_for, good_for, pair_split}
@@ -33,8 +33,8 @@ use Rattle.journal.proofs.Accepting.{owner_in, valid_work, journal_head}
 start_one : (s t : Name) (k m : ℕ) (a b : List ℕ) → TypedName s → TypedName t → serial_good s ≡ true → serial_good t ≡ true → k < 4294967296 → m < 4294967296
     → pair_start s k ++ a ≡ pair_start t m ++ b → (s ≡ t) × (k ≡ m) × (a ≡ b)
 start_one s t k m a b ts tt gs gt fk fm e =
-    let n : s ≡ t = sym (serial-read s ts gs [] k a 0 refl fk) ∙ (ap (λ (j : List ℕ). serial_at j 0) e ∙ serial-read t tt gt [] m b 0 refl fm) in
-    let c : k ≡ m = sym (count-read s ts gs [] k a 0 refl fk) ∙ ((λ i. count_at (e i) (0 + 4 + (n i).len) 4) ∙ count-read t tt gt [] m b 0 refl fm) in
+    let n : s ≡ t = sym (serial_read s ts gs [] k a 0 refl fk) ∙ (ap (λ (j : List ℕ). serial_at j 0) e ∙ serial_read t tt gt [] m b 0 refl fm) in
+    let c : k ≡ m = sym (count_read s ts gs [] k a 0 refl fk) ∙ ((λ i. count_at (e i) (0 + 4 + (n i).len) 4) ∙ count_read t tt gt [] m b 0 refl fm) in
     (n, c, sym (drop_at (pair_start s k) a (length (pair_start s k)) refl) ∙ ((λ i. drop (length (pair_start (n i) (c i))) (e i)) ∙ drop_at (pair_start t m) b (length (pair_start t m)) refl))
 
 entry_one : (s : Settings) (n : ℕ) (e f : Entry) (a b : List ℕ) → TypedSettings s → TypedEntry e → TypedEntry f → spellable s n e ≡ true → spellable s n f ≡ true
@@ -108,7 +108,7 @@ head_is o n [] g l ns = absurd (omega arith)
 head_is o n (p ∷ ps) g l (placing.more b ns) =
     let s = p.serial in
     ap head_settings (journal_head o n p ps)
-    ∙ read-settings (settings_for o s) (typed_for o s g b.typed).lengths (good_for o s g b.good) (length p.entries) b.few (texts (settings_for o s) n p.entries ++ pair_texts o n ps)
+    ∙ read_settings (settings_for o s) (typed_for o s g b.typed).lengths (good_for o s g b.good) (length p.entries) b.few (texts (settings_for o s) n p.entries ++ pair_texts o n ps)
 
 pub valid_head : {j k : List ℕ} {n : ℕ} (v : Valid j k n) → head_settings j ≡ head_of v.owner v.pairs
 valid_head {j} {k} {n} v = ap head_settings v.bytes ∙ head_is v.owner n v.pairs v.good v.some (valid_work v).names

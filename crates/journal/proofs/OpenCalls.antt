@@ -137,15 +137,15 @@ module _ (s : Settings) (shared : Bool) (n room : ℕ) {k : ℕ} (e : k ≡ sett
   number_stops h = e ∙ sym (settings_stop s shared n (ask (leb (head_length s) room) 5 0) (λ z. h (e ∙ z)))
 
   module _ (z : k ≡ 0) where
-    pub number-good : settings_good s ≡ true
-    number-good = (settings_zero s shared n 0 (sym e ∙ z)).0
+    pub number_good : settings_good s ≡ true
+    number_good = (settings_zero s shared n 0 (sym e ∙ z)).0
 
-    number-five : open_number s shared n room ≡ ask (leb (head_length s) room) 5 0
+    number_five : open_number s shared n room ≡ ask (leb (head_length s) room) 5 0
     unfolding open_number
-    number-five = settings_pass s shared n (ask (leb (head_length s) room) 5 0) (sym e ∙ z)
+    number_five = settings_pass s shared n (ask (leb (head_length s) room) 5 0) (sym e ∙ z)
 
     pub number_short : {m : ℕ} → m ≡ head_length s → room < m → 5 ≡ open_number s shared n room
-    number_short q h = sym (number-five ∙ ask_no 5 0 (lt-leb (head_length s) room (omega (arith, q))))
+    number_short q h = sym (number_five ∙ ask_no 5 0 (lt-leb (head_length s) room (omega (arith, q))))
 
     pub number_zero : {m : ℕ} → m ≡ head_length s → m ≤ room → 0 ≡ open_number s shared n room
-    number_zero q h = sym (number-five ∙ ask_yes 5 0 (le-leb (head_length s) room (omega (arith, q))))
+    number_zero q h = sym (number_five ∙ ask_yes 5 0 (le-leb (head_length s) room (omega (arith, q))))

@@ -276,37 +276,37 @@ module _ (j key : List ℕ) (n : ℕ) (v : Valid j key n) (ps : List Pair) (p : 
         subst (λ (t : TakenOver). SameAnswer t (part_answer first reached)) (sym (parts_passed all key n b (head_passed all key n count end b (reach far)) ns))
         (checks_steps ns first all start_ready_all)
 
-    reached-zero : reached.number ≡ 0
-    reached-zero = sym (part_number first reached) ∙ (sym same.number ∙ z)
+    reached_zero : reached.number ≡ 0
+    reached_zero = sym (part_number first reached) ∙ (sym same.number ∙ z)
 
-    reached-is : check_in_parts all key n ns ≡ accepted reached.state
-    reached-is = same_accepted (check_in_parts all key n ns) reached.state (subst (SameAnswer (check_in_parts all key n ns)) (part_yes first reached reached-zero) same)
+    reached_is : check_in_parts all key n ns ≡ accepted reached.state
+    reached_is = same_accepted (check_in_parts all key n ns) reached.state (subst (SameAnswer (check_in_parts all key n ns)) (part_yes first reached reached_zero) same)
 
-    reached-key : reached.state.key ≡ key
-    reached-key = key_steps (key_schedule first.key) all (total ns) first reached-zero ∙ fresh_key all key n
+    reached_key : reached.state.key ≡ key
+    reached_key = key_steps (key_schedule first.key) all (total ns) first reached_zero ∙ fresh_key all key n
 
-    reached-ready : Ready reached.state all
-    reached-ready = ready_steps (key_schedule first.key) all (total ns) first start_ready_all reached-zero
+    reached_ready : Ready reached.state all
+    reached_ready = ready_steps (key_schedule first.key) all (total ns) first start_ready_all reached_zero
 
     -- c more steps lead to the end
     ahead : (c : ℕ) → total ns + c ≡ count → Ahead all key end c reached.state
     ahead c e =
         record {
-          begun = reached-ready;
-          same = reached-key;
+          begun = reached_ready;
+          same = reached_key;
           leads =
               ap (λ (x : List ℕ). steps (key_schedule x) c reached.state all) (sym (fresh_key all key n))
-              ∙ (sym (steps_add (key_schedule first.key) all (total ns) c first reached-zero)
+              ∙ (sym (steps_add (key_schedule first.key) all (total ns) c first reached_zero)
               ∙ (ap (λ (m : ℕ). steps (key_schedule first.key) m first all) e ∙ leads));
         }
 
-    after-ones : (m : ℕ) → check_in_parts all key n (ns ++ replicate m 1) ≡ checks_after (accepted reached.state) all (replicate m 1)
+    after_ones : (m : ℕ) → check_in_parts all key n (ns ++ replicate m 1) ≡ checks_after (accepted reached.state) all (replicate m 1)
     unfolding check_in_parts
-    after-ones m = parts_append (check_head all key n) all ns (replicate m 1) ∙ ap (λ (t : TakenOver). checks_after t all (replicate m 1)) reached-is
+    after_ones m = parts_append (check_head all key n) all ns (replicate m 1) ∙ ap (λ (t : TakenOver). checks_after t all (replicate m 1)) reached_is
 
     -- nothing follows the journal
-    found-end : (rest ≡ []) → (m : ℕ) → length j ≤ m → check_in_parts all key n (ns ++ replicate m 1) ≡ accepted end
-    found-end e m h = after-ones m ∙ go (leb (total ns) count) refl
+    found_end : (rest ≡ []) → (m : ℕ) → length j ≤ m → check_in_parts all key n (ns ++ replicate m 1) ≡ accepted end
+    found_end e m h = after_ones m ∙ go (leb (total ns) count) refl
       where
         idles : one_step (key_schedule key) end all ≡ stopped 0 end
         idles = end_none (key_schedule key) end all end_full (omega (arith, end_length, ap length e, length-append j rest))
@@ -326,8 +326,8 @@ module _ (j key : List ℕ) (n : ℕ) (v : Valid j key n) (ps : List Pair) (p : 
             ap (λ (x : State). checks_after (accepted x) all (replicate m 1)) s ∙ rests all key end end_ready end_key idles m
 
     -- bytes follow that start no pair
-    found-21 : (rest ≡ [] → ⊥) → start_there all (length j) ≡ false → (m : ℕ) → length j ≤ m → check_in_parts all key n (ns ++ replicate m 1) ≡ handed_back 21 end.issued end
-    found-21 ne bad m h = after-ones m ∙ go (leb (total ns) count) refl
+    found_21 : (rest ≡ [] → ⊥) → start_there all (length j) ≡ false → (m : ℕ) → length j ≤ m → check_in_parts all key n (ns ++ replicate m 1) ≡ handed_back 21 end.issued end
+    found_21 ne bad m h = after_ones m ∙ go (leb (total ns) count) refl
       where
         some : (l : List ℕ) → (l ≡ [] → ⊥) → 0 < length l
         some [] h = absurd (h refl)
@@ -351,7 +351,7 @@ module _ (j key : List ℕ) (n : ℕ) (v : Valid j key n) (ps : List Pair) (p : 
             let i : total ns ≡ count + suc d = omega (arith, lt) in
             let w : ◌≡◌ {A = ℕ} 21 0 → ⊥ = λ x. omega (arith, x) in
             let s : reached.number ≡ 21 = ap (λ (x : Step). x.number) (ap (λ (x : ℕ). steps (key_schedule first.key) x first all) i ∙ (leads_on (suc d) ∙ refused_step (key_schedule key) all d end w refuses)) in
-            absurd (omega (arith, s, reached-zero))
+            absurd (omega (arith, s, reached_zero))
 
 -- ---- a lost state, a lost length
 
@@ -366,8 +366,8 @@ lost_state_is_found j key n v rest b no-pair ns z m h = go v.pairs refl (valid_w
         let w = valid_work v in
         let e : take_over j key n ≡ accepted (state_there o key n ps p) = valid_taken v ∙ ap (λ (x : List Pair). accepted (run_pairs (blank o key n) x)) q in
         let s : (take_over j key n).state ≡ state_there o key n ps p = ap (λ (t : TakenOver). t.state) e ∙ accepted_state (state_there o key n ps p) in (
-          (λ r. found-end j key n v ps p q rest b ns z r m h ∙ sym e),
-          (λ r. found-21 j key n v ps p q rest b ns z r no-pair m h ∙ (λ i. handed_back 21 (sym s i).issued (sym s i))),
+          (λ r. found_end j key n v ps p q rest b ns z r m h ∙ sym e),
+          (λ r. found_21 j key n v ps p q rest b ns z r no-pair m h ∙ (λ i. handed_back 21 (sym s i).issued (sym s i))),
         )
 
     go : (ps : List Pair) → v.pairs ≡ ps → 0 < length v.pairs

@@ -24,10 +24,10 @@ use Rattle.journal.specs.declared.state.State.{State}
 use Rattle.journal.specs.declared.state.TakenOver.{TakenOver}
 use Rattle.journal.specs.declared.checking.Checked.{Checked}
 use Rattle.journal.specs.declared.checking.Step.{Step}
-use Rattle.journal.proofs.Heads.{head_good_lem, good_head, read_typed, read_few, read_back, read-settings, count_of}
+use Rattle.journal.proofs.Heads.{head_good_lem, good_head, read_typed, read_few, read_back, read_settings, count_of}
 use Rattle.journal.proofs.FirstNo.{bool_no}
-use Rattle.journal.proofs.Stepping.{end_none, entry-refused, start-refused, entry-passed, start-passed, idle, refused_step}
-use Rattle.journal.proofs.CheckCalls.{head_width, head-bad, head-fresh}
+use Rattle.journal.proofs.Stepping.{end_none, entry_refused, start_refused, entry_passed, start_passed, idle, refused_step}
+use Rattle.journal.proofs.CheckCalls.{head_width, head_bad, head_fresh}
 use Rattle.journal.proofs.OpenCalls.{open_zero}
 use Rattle.journal.proofs.ReadBySteps.{sound_here}
 use Rattle.journal.proofs.PartSteps.{Ready, ready_true, accepted_number, accepted_state, handed_state, check_ready, check_six, part_yes, part_no, part_number, handed_number, turn, stuck, no_steps}
@@ -75,12 +75,12 @@ step_six k st j e = go (full st j) (leb (length j) st.length) refl refl
     number m x q = sym (ap (λ (c : Checked). c.number) q ∙ stopped_number m x) ∙ e
 
     entry : full st j ≡ false → (m : ℕ) → entry_number k st j ≡ m → ⊥
-    entry f zero z = omega (arith, e, ap (λ (c : Checked). c.number) (entry-passed k st j f z))
-    entry f (suc m) z = entry_six k st j (number (entry_number k st j) st (entry-refused k st j f (λ q. omega (arith, q, z))))
+    entry f zero z = omega (arith, e, ap (λ (c : Checked). c.number) (entry_passed k st j f z))
+    entry f (suc m) z = entry_six k st j (number (entry_number k st j) st (entry_refused k st j f (λ q. omega (arith, q, z))))
 
     start : full st j ≡ true → st.length < length j → (m : ℕ) → start_number st j ≡ m → ⊥
-    start f l zero z = omega (arith, number 0 (renewed st (serial_at j st.length)) (start-passed k st j f l z))
-    start f l (suc m) z = start_six st j (number (start_number st j) st (start-refused k st j f l (λ q. omega (arith, q, z))))
+    start f l zero z = omega (arith, number 0 (renewed st (serial_at j st.length)) (start_passed k st j f l z))
+    start f l (suc m) z = start_six st j (number (start_number st j) st (start_refused k st j f l (λ q. omega (arith, q, z))))
 
     go : (t u : Bool) → full st j ≡ t → leb (length j) st.length ≡ u → ⊥
     go false u f q = entry f (entry_number k st j) refl
@@ -110,12 +110,12 @@ unfolding stopped
 stopped_state k st j h = go (full st j) (leb (length j) st.length) refl refl
   where
     entry : full st j ≡ false → (m : ℕ) → entry_number k st j ≡ m → (one_step k st j).state ≡ st
-    entry f zero z = absurd (h (ap (λ (c : Checked). c.number) (entry-passed k st j f z)))
-    entry f (suc m) z = ap (λ (c : Checked). c.state) (entry-refused k st j f (λ q. omega (arith, q, z)))
+    entry f zero z = absurd (h (ap (λ (c : Checked). c.number) (entry_passed k st j f z)))
+    entry f (suc m) z = ap (λ (c : Checked). c.state) (entry_refused k st j f (λ q. omega (arith, q, z)))
 
     start : full st j ≡ true → st.length < length j → (m : ℕ) → start_number st j ≡ m → (one_step k st j).state ≡ st
-    start f l zero z = absurd (h (ap (λ (c : Checked). c.number) (start-passed k st j f l z)))
-    start f l (suc m) z = ap (λ (c : Checked). c.state) (start-refused k st j f l (λ q. omega (arith, q, z)))
+    start f l zero z = absurd (h (ap (λ (c : Checked). c.number) (start_passed k st j f l z)))
+    start f l (suc m) z = ap (λ (c : Checked). c.state) (start_refused k st j f l (λ q. omega (arith, q, z)))
 
     go : (t u : Bool) → full st j ≡ t → leb (length j) st.length ≡ u → (one_step k st j).state ≡ st
     go false u f q = entry f (entry_number k st j) refl
@@ -160,7 +160,7 @@ one_step_is_check_step st j h = go (one_step k st j).number refl
 pub no_start : (k : List (List ℕ)) (st : State) (j : List ℕ) → full st j ≡ true → st.length < length j → start_there j st.length ≡ false → one_step k st j ≡ stopped 21 st
 no_start k st j f l h =
     let e = number_21 st j h in
-    start-refused k st j f l (λ z. omega (arith, z, e)) ∙ ap (λ (m : ℕ). stopped m st) e
+    start_refused k st j f l (λ z. omega (arith, z, e)) ∙ ap (λ (m : ℕ). stopped m st) e
 
 pub only_asks_21 : OnlyAsks21
 only_asks_21 st j r f = record { none_left = none; bytes_left = left }
@@ -188,16 +188,16 @@ module _ (j key : List ℕ) (n : ℕ) (b : AllBytes j) where
   good_of s k more h = ap head_good h.bytes ∙ head_good_lem s h.typed.lengths h.good k h.few more
 
   settings_of_lem : (s : Settings) (k : ℕ) (more : List ℕ) → Headed j s k more → head_settings j ≡ s
-  settings_of_lem s k more h = ap head_settings h.bytes ∙ read-settings s h.typed.lengths h.good k h.few more
+  settings_of_lem s k more h = ap head_settings h.bytes ∙ read_settings s h.typed.lengths h.good k h.few more
 
   pub fresh_headed : width_good n ≡ true → (s : Settings) (k : ℕ) (more : List ℕ) → Headed j s k more → check_head j key n ≡ accepted (fresh s n key)
-  fresh_headed w s k more h = sym (head-fresh j key n w (good_of s k more h) (sym (settings_of_lem s k more h)) refl refl)
+  fresh_headed w s k more h = sym (head_fresh j key n w (good_of s k more h) (sym (settings_of_lem s k more h)) refl refl)
 
 pub head_is_read_alone : HeadIsReadAlone
 head_is_read_alone j key n b =
     record {
       width = λ h. head_width j key n (bool_no (width_good n) h);
-      none = λ w h. head-bad j key n w (bool_no (head_good j) (λ g. h (head_settings j) (count_of j) (drop (head_length (head_settings j)) j) (headed j key n b g)));
+      none = λ w h. head_bad j key n w (bool_no (head_good j) (λ g. h (head_settings j) (count_of j) (drop (head_length (head_settings j)) j) (headed j key n b g)));
       good = λ w s k more h. fresh_headed j key n b w s k more h;
     }
 

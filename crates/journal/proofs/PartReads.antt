@@ -56,9 +56,9 @@ module _ (j i : List ℕ) (at : ℕ) (e : drop at j ≡ drop at i) where
   serial_same = ap name_of section_same
 
   module _ (l : length j ≡ length i) where
-    there-same : there j at ≡ there i at
+    there_same : there j at ≡ there i at
     unfolding there
-    there-same = λ x. leb (at + 2) (l x) && leb (at + 2 + length_same x) (l x)
+    there_same = λ x. leb (at + 2) (l x) && leb (at + 2 + length_same x) (l x)
 
     start_same : start_there j at ≡ start_there i at
     unfolding start_there
@@ -83,7 +83,7 @@ module _ (k : List (List ℕ)) (st : State) (j i : List ℕ) (a : Alike st j i) 
 
   entry_same : entry_number k st j ≡ entry_number k st i
   unfolding entry_number
-  entry_same = λ x. ask (there-same j i st.length a.rest a.long x) 15 (text_number k st (text_same j i st.length a.rest x))
+  entry_same = λ x. ask (there_same j i st.length a.rest a.long x) 15 (text_number k st (text_same j i st.length a.rest x))
 
   place_same : place_checked k st j ≡ place_checked k st i
   unfolding place_checked

@@ -162,18 +162,18 @@ module _ (k : List (List ℕ)) (j : List ℕ) where
       e : suc n + m ≡ suc (n + m)
       e = omega arith
 
-      on-on : (one_step k st j).number ≡ 0
+      on_on : (one_step k st j).number ≡ 0
           → ((one_step k st j).number ≡ 0 → (one_step k st j).state.length ≤ length j → length j < n + (one_step k st j).state.length
           → steps k (n + m) (one_step k st j).state j ≡ steps k n (one_step k st j).state j)
           → Progress st → steps k (suc (n + m)) st j ≡ steps k (suc n) st j
-      on-on z rec (on a b) = turn (n + m) st z ∙ (rec z b (omega arith) ∙ sym (turn n st z))
-      on-on z rec (over q) = idle k j (suc (n + m)) st q ∙ sym (idle k j (suc n) st q)
+      on_on z rec (on a b) = turn (n + m) st z ∙ (rec z b (omega arith) ∙ sym (turn n st z))
+      on_on z rec (over q) = idle k j (suc (n + m)) st q ∙ sym (idle k j (suc n) st q)
 
       go : (i : ℕ) → (one_step k st j).number ≡ i
           → ((one_step k st j).number ≡ 0 → (one_step k st j).state.length ≤ length j → length j < n + (one_step k st j).state.length
           → steps k (n + m) (one_step k st j).state j ≡ steps k n (one_step k st j).state j)
           → steps k (suc n + m) st j ≡ steps k (suc n) st j
-      go zero z rec = ap (λ (i : ℕ). steps k i st j) e ∙ on-on z rec (progress st z)
+      go zero z rec = ap (λ (i : ℕ). steps k i st j) e ∙ on_on z rec (progress st z)
       go (suc i) z rec = ap (λ (x : ℕ). steps k x st j) e ∙ (stuck (n + m) st z ∙ sym (stuck n st z))
 
   -- ---- steps and more steps

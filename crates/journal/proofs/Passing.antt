@@ -27,8 +27,8 @@ use Rattle.journal.proofs.Places.{text_at_lem}
 use Rattle.journal.proofs.Check.{RightAt, text_in, step, found_is, text_small, step_zero, after_is, step_counter, step_length, schedule_of}
 use Rattle.journal.proofs.Serials.{used_added, newest_added}
 use Rattle.journal.proofs.Answers.{settings-three, serial-yes}
-use Rattle.journal.proofs.Stepping.{full_yes, full_no, entry-passed, start-passed, passed_step}
-use Rattle.journal.proofs.Starting.{serial-read, count-read, start-there}
+use Rattle.journal.proofs.Stepping.{full_yes, full_no, entry_passed, start_passed, passed_step}
+use Rattle.journal.proofs.Starting.{serial_read, count_read, start_there_lem}
 use Rattle.journal.proofs.Placing.{Core, step_core, run_core, RightFor, AllRight, right_split, Startable, Names}
 use Rattle.journal.proofs.Placing as placing
 
@@ -210,7 +210,7 @@ module _ {st : State} {o : Owner} {k : List ℕ} {n : ℕ} {s : Name} {c : Core}
       let f : found st (text_at j st.length) ≡ record { ok = true; entry = e } =
       ap (λ (l : List ℕ). found st (text_at l st.length)) q₁ ∙ (ap (found st) (text_at_lem p (text_in st e) rest st.length at (text_small st e ts h)) ∙ found_is st e ts h) in
       let x : after st (text_at j st.length) ≡ step st e = ap (λ (l : List ℕ). after st (text_at l st.length)) q₁ ∙ after_is st e p rest at ts h in
-      entry-passed (key_schedule k) st j (full_no st j less) z ∙ (λ i. record { number = 0; found = f i; state = x i })
+      entry_passed (key_schedule k) st j (full_no st j less) z ∙ (λ i. record { number = 0; found = f i; state = x i })
 
 -- the start of a pair with the serial s and the count m is read
 pub start_step : {st : State} {o : Owner} {k : List ℕ} {n : ℕ} {c : Core} {us : List Name} → Base st o k n c us → (s : Name) (m : ℕ) (p rest j : List ℕ) → length p ≡ st.length
@@ -218,14 +218,14 @@ pub start_step : {st : State} {o : Owner} {k : List ℕ} {n : ℕ} {c : Core} {u
     → one_step (key_schedule k) st j ≡ stopped 0 (renewed st s)
 unfolding start_number
 start_step {st} {k = k} b s m p rest j at g q most =
-    let sr : serial_at j st.length ≡ s = ap (λ (l : List ℕ). serial_at l st.length) q ∙ serial-read s g.typed g.good p m rest st.length at g.few in
-    let th = ap (λ (l : List ℕ). start_there l st.length) q ∙ start-there s g.typed g.good p m rest st.length at g.few in
+    let sr : serial_at j st.length ≡ s = ap (λ (l : List ℕ). serial_at l st.length) q ∙ serial_read s g.typed g.good p m rest st.length at g.few in
+    let th = ap (λ (l : List ℕ). start_there l st.length) q ∙ start_there_lem s g.typed g.good p m rest st.length at g.few in
     let sz : start_number st j ≡ 0 =
     ask_yes 21 _ th ∙ serial-yes st (serial_at j st.length) 0 (rw (sr, b.serials) g.new) (rw b.serials g.room) in
     let l = length-append p (pair_start s m ++ rest) in
     let l' = length-append (pair_start s m) rest in
     let less : st.length < length j = omega (arith, ap length q, length_start s g.typed.long g.good m) in
-    start-passed (key_schedule k) st j (full_yes st j most) less sz ∙ ap (λ (y : Name). stopped 0 (renewed st y)) sr
+    start_passed (key_schedule k) st j (full_yes st j most) less sz ∙ ap (λ (y : Name). stopped 0 (renewed st y)) sr
 
 -- ---- steps
 
@@ -292,7 +292,7 @@ module _ {st : State} {o : Owner} {k : List ℕ} {n : ℕ} {c : Core} {us : List
   pub start_count : count_at j (renewed st s).place 4 ≡ (renewed st s).since + m
   start_count =
       (λ i. count_at (q i) (renewed_place st s i) 4)
-      ∙ (count-read s g.typed g.good p m rest st.length at g.few ∙ omega (arith, renewed_section st s))
+      ∙ (count_read s g.typed g.good p m rest st.length at g.few ∙ omega (arith, renewed_section st s))
 
 pub passed_pairs : {st : State} {o : Owner} {k : List ℕ} {n : ℕ} {s : Name} {c : Core} {us : List Name} (ps : List Pair) (es : List Entry) (m : ℕ) (p j rest : List ℕ)
     → At st o k n s c us → length p ≡ st.length → AllRight k n c (placed_under (settings_for o s) es ++ all_placed o ps) → Names us ps

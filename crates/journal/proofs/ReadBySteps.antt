@@ -27,12 +27,12 @@ use Rattle.journal.specs.Valid.{Owner, Pair, settings_for, texts, pair_text, pai
 use Rattle.journal.specs.Demands.{StepsReadEntries, StepIsItsEntry, StepIsItsStart, HeadIsItsSettings}
 use Rattle.journal.specs.declared.state.State.{State}
 use Rattle.journal.specs.declared.checking.Checked.{Checked}
-use Rattle.journal.proofs.Heads.{length_head, read-count-at}
+use Rattle.journal.proofs.Heads.{length_head, read_count_at}
 use Rattle.journal.proofs.Places.{length_entry}
 use Rattle.journal.proofs.Check.{RightAt, step, step_counter, step_length}
 use Rattle.journal.proofs.Serials.{used_prefix, serials_used, added_good}
 use Rattle.journal.proofs.Answers.{Sound, sound-yes}
-use Rattle.journal.proofs.Stepping.{full_yes, end_none, step-entry, start_within}
+use Rattle.journal.proofs.Stepping.{full_yes, end_none, step_entry, start_within}
 use Rattle.journal.proofs.Placing.{Core, start_core, AllRight, right_split, Begun, Names}
 use Rattle.journal.proofs.Placing as placing
 use Rattle.journal.proofs.Passing.{At, typed_for, good_for, right_here, text_is, at_next, at_renewed, at_entries, run, steps_of, entry_step, start_step, start_place, start_bytes, start_count, section_place, section_full, Through, pair_split}
@@ -201,7 +201,7 @@ read_first o k n p ps j m w g h b ns bytes fuel =
     let z : length es + (steps_of ps + d) ≡ m =
     omega (arith, fuel, ap length q, length-append pre t, length-append (texts sf n es) (pair_texts o n ps), entries_size sf n es, pairs_size o n ps) in
     let count : count_at j st.place 4 ≡ st.since + length es =
-    (λ i. count_at (q i) (fresh_place o k n s i) 4) ∙ (read-count-at sf ts.lengths gs (length es) b.few t ∙ omega (arith, fresh_section o k n s)) in
+    (λ i. count_at (q i) (fresh_place o k n s i) 4) ∙ (read_count_at sf ts.lengths gs (length es) b.few t ∙ omega (arith, fresh_section o k n s)) in
     ap (λ (i : ℕ). read_by_steps (key_schedule k) i st j) (sym z)
     ∙ read_pairs ps es d pre j (fresh_at o k n s g b.typed b.good) (fresh_sound o k n s (empty_work k n sf ts gs w)) (lh ∙ sym (fresh_length o k n s)) h ns q count
 
@@ -245,7 +245,7 @@ entry_is k st text r = rw r
 
 pub step_is_its_entry : StepIsItsEntry
 step_is_its_entry k st j b s f t =
-    checked_is k st j s ∙ (step-entry k st j f ∙ (place_text k st j t ∙ sym (entry_is k st (text_at j st.length) (ready st j b s t))))
+    checked_is k st j s ∙ (step_entry k st j f ∙ (place_text k st j t ∙ sym (entry_is k st (text_at j st.length) (ready st j b s t))))
 
 -- ---- the start of a pair, and the head
 

@@ -55,13 +55,13 @@ module _ (j : List ℕ) where
     whole_long h = short_no (omega arith)
 
     module _ {b : ℕ} (eb : b ≡ count_at j (11 + a) 4) where
-      serial-read : b ≡ serial_length j
-      serial-read = eb ∙ ap (λ (k : ℕ). count_at j (11 + k) 4) ea
+      serial_read : b ≡ serial_length j
+      serial_read = eb ∙ ap (λ (k : ℕ). count_at j (11 + k) 4) ea
 
       pub whole_is : {v : ℕ} → v ≡ count_at j 0 4 → v ≡ 3 → 19 ≤ length j → a ≤ length j - 19 → leb b (length j - 19 - a) ≡ whole
       whole_is e three h l =
           let m : length j - 19 - a ≡ length j - (19 + a) = omega arith in
-          let n : 19 + a + b ≡ count_place_in j + 4 = omega (arith, place_is, serial-read, ea) in
+          let n : 19 + a + b ≡ count_place_in j + 4 = omega (arith, place_is, serial_read, ea) in
           and_yes _ _ _ (eq-eqb (count_at j 0 4) 3 (sym e ∙ three))
           (ap (leb b) m ∙ leb_moved (19 + a) b (length j) (omega arith) ∙ ap (λ (k : ℕ). leb k (length j)) n)
 
@@ -73,9 +73,9 @@ module _ (j : List ℕ) where
     count_there = omega (arith, room)
 
     module _ {b : ℕ} (e : b ≡ section_end j at) where
-      pub section-ends : (at + 4 ≤ b) × (b ≤ length j)
+      pub section_ends : (at + 4 ≤ b) × (b ≤ length j)
       unfolding section_end
-      section-ends = (omega (arith, e), omega (arith, e, room))
+      section_ends = (omega (arith, e), omega (arith, e, room))
 
       pub serial_is : {n : Name} → n ≡ name_of (take (b - (at + 4)) (drop (at + 4) j)) → n ≡ serial_at j at
       unfolding serial_at section_text section_end
@@ -94,13 +94,13 @@ module _ (j : List ℕ) where
     start_short h = start_no (omega arith)
 
     module _ (h : at + 8 ≤ length j) {k : ℕ} (e : k ≡ count_at j at 4) where
-      pub start-long : length j - at - 8 < k → false ≡ start_there j at
-      start-long l = start_no (omega (arith, e))
+      pub start_long : length j - at - 8 < k → false ≡ start_there j at
+      start_long l = start_no (omega (arith, e))
 
       module _ (l : k ≤ length j - at - 8) where
-        pub start-room : section_end j at ≤ length j
+        pub start_room : section_end j at ≤ length j
         unfolding section_end
-        start-room = omega (arith, e)
+        start_room = omega (arith, e)
 
         pub start_is : {s : Name} {t : Bool} → s ≡ serial_at j at → t ≡ serial_good s → t ≡ start_there j at
         unfolding start_there section_end
@@ -115,45 +115,45 @@ module _ (j : List ℕ) where
   -- ---- the settings of a complete head
 
   module _ (three : count_at j 0 4 ≡ 3) (room : count_place_in j + 4 ≤ length j) where
-    pub serial-room : section_end j (serial_place j) ≤ length j
+    pub serial_room : section_end j (serial_place j) ≤ length j
     unfolding count_place_in
-    serial-room = omega (arith, room)
+    serial_room = omega (arith, room)
 
     pub id_room : section_end j 7 ≤ length j
     unfolding serial_place section_end
-    id_room = let r = serial-room in omega arith
+    id_room = let r = serial_room in omega arith
 
     module _ {a : ℕ} (ea : a ≡ section_end j 7) where
-      at-serial : a ≡ serial_place j
+      at_serial : a ≡ serial_place j
       unfolding serial_place
-      at-serial = ea
+      at_serial = ea
 
-      pub second-room : section_end j a ≤ length j
-      second-room = subst (λ (k : ℕ). section_end j k ≤ length j) (sym at-serial) serial-room
+      pub second_room : section_end j a ≤ length j
+      second_room = subst (λ (k : ℕ). section_end j k ≤ length j) (sym at_serial) serial_room
 
-      pub id-ends : (11 ≤ a) × (a ≤ length j)
+      pub id_ends : (11 ≤ a) × (a ≤ length j)
       unfolding section_end
-      id-ends = let r = id_room in (omega (arith, ea), omega (arith, ea))
+      id_ends = let r = id_room in (omega (arith, ea), omega (arith, ea))
 
       csp_is : section_text j 0 ≡ get_or j 4 0 ∷ get_or j 5 0 ∷ get_or j 6 0 ∷ []
       unfolding section_text
       csp_is =
-          let r = id-ends in
+          let r = id_ends in
           let e₁ : drop 4 j ≡ get_or j 4 0 ∷ drop 5 j = drop-cons j 4 0 (omega arith) in
           let e₂ : drop 5 j ≡ get_or j 5 0 ∷ drop 6 j = drop-cons j 5 0 (omega arith) in
           let e₃ : drop 6 j ≡ get_or j 6 0 ∷ drop 7 j = drop-cons j 6 0 (omega arith) in
           ap (λ (n : ℕ). take n (drop 4 j)) three ∙ ap (take 3) (e₁ ∙ ap (λ (l : List ℕ). get_or j 4 0 ∷ l) (e₂ ∙ ap (λ (l : List ℕ). get_or j 5 0 ∷ l) e₃))
 
-      id-text : take (a - 11) (drop 11 j) ≡ section_text j 7
+      id_text : take (a - 11) (drop 11 j) ≡ section_text j 7
       unfolding section_text section_end
-      id-text =
+      id_text =
           let k : a - 11 ≡ count_at j 7 4 = omega (arith, ea) in
           ap (λ (n : ℕ). take n (drop 11 j)) k
 
       pub settings_read : {id serial : Name} → id ≡ name_of (take (a - 11) (drop 11 j)) → serial ≡ serial_at j a
           → ◌≡◌ {A = Settings} (record { csp = get_or j 4 0 ∷ get_or j 5 0 ∷ get_or j 6 0 ∷ []; id = id; serial = serial }) (head_settings j)
       unfolding head_settings
-      settings_read ei es = λ i. record { csp = sym csp_is i; id = (ei ∙ ap name_of id-text) i; serial = (es ∙ ap (serial_at j) at-serial) i }
+      settings_read ei es = λ i. record { csp = sym csp_is i; id = (ei ∙ ap name_of id_text) i; serial = (es ∙ ap (serial_at j) at_serial) i }
 
   -- ---- question 14
 

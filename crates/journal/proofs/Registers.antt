@@ -174,78 +174,78 @@ module _ (k : List ℕ) (n : ℕ) (o : Owner) (g : Register) (ps : List Pair) (p
     text : List ℕ
     text = entry_text (compact (settings_for o p.serial) n e)
 
-    opened-pair : Open k n o ps p g.state
-    opened-pair = holds_open ps p h
+    opened_pair : Open k n o ps p g.state
+    opened_pair = holds_open ps p h
 
-    text-as : entry_text (text_in g.state (entry_in g c)) ≡ text
+    text_as : entry_text (text_in g.state (entry_in g c)) ≡ text
     unfolding text e
-    text-as = ap entry_text (text_is opened-pair.at (entry_in g c))
+    text_as = ap entry_text (text_is opened_pair.at (entry_in g c))
 
-    room-is : g.state.length + length text ≤ length g.buf
+    room_is : g.state.length + length text ≤ length g.buf
     unfolding text e entry_in text_of
-    room-is = subst (λ (l : List ℕ). g.state.length + length l ≤ length g.buf) text-as (call_answered g c z).fits
+    room_is = subst (λ (l : List ℕ). g.state.length + length l ≤ length g.buf) text_as (call_answered g c z).fits
 
-    buf-is : (call g (issue c)).buf ≡ overwrite (overwrite g.buf g.state.length text) g.state.place (bytes_of 4 (length p.entries + 1))
+    buf_is : (call g (issue c)).buf ≡ overwrite (overwrite g.buf g.state.length text) g.state.place (bytes_of 4 (length p.entries + 1))
     unfolding with_entry
-    buf-is = call_buf g c z ∙ (λ i. overwrite (overwrite g.buf g.state.length (text-as i)) g.state.place (bytes_of 4 (opened-pair.since i + 1)))
+    buf_is = call_buf g c z ∙ (λ i. overwrite (overwrite g.buf g.state.length (text_as i)) g.state.place (bytes_of 4 (opened_pair.since i + 1)))
 
-    length-is : (call g (issue c)).state.length ≡ g.state.length + length text
-    length-is = ap (λ (x : State). x.length) (call_state g c z) ∙ (step_length g.state (entry_in g c) ∙ ap (λ (l : List ℕ). g.state.length + length l) text-as)
+    length_is : (call g (issue c)).state.length ≡ g.state.length + length text
+    length_is = ap (λ (x : State). x.length) (call_state g c z) ∙ (step_length g.state (entry_in g c) ∙ ap (λ (l : List ℕ). g.state.length + length l) text_as)
 
     was : take g.state.length g.buf ≡ before_count o n ps p.serial ++ (bytes_of 4 (length p.entries) ++ texts (settings_for o p.serial) n p.entries)
     was = h.bytes ∙ journal_open o n ps p
 
     size_is : g.state.length ≡ length (before_count o n ps p.serial ++ (bytes_of 4 (length p.entries) ++ texts (settings_for o p.serial) n p.entries))
-    size_is = opened-pair.size ∙ ap length (journal_open o n ps p)
+    size_is = opened_pair.size ∙ ap length (journal_open o n ps p)
 
-    pub issue-length : length (call g (issue c)).buf ≡ length g.buf
-    issue-length =
-        ap length buf-is
+    pub issue_length : length (call g (issue c)).buf ≡ length g.buf
+    issue_length =
+        ap length buf_is
         ∙ written_length (before_count o n ps p.serial) (texts (settings_for o p.serial) n p.entries) text g.buf (length p.entries) g.state.place g.state.length
-        opened-pair.place size_is room-is was
+        opened_pair.place size_is room_is was
 
-    bytes-is : take (call g (issue c)).state.length (call g (issue c)).buf ≡ journal_text o n (ps ++ (wider p (entry_in g c) ∷ []))
+    bytes_is : take (call g (issue c)).state.length (call g (issue c)).buf ≡ journal_text o n (ps ++ (wider p (entry_in g c) ∷ []))
     unfolding text e
-    bytes-is =
+    bytes_is =
         let b = before_count o n ps p.serial in
         let t = texts (settings_for o p.serial) n p.entries in
         let lk : length (p.entries ++ (entry_in g c ∷ [])) ≡ length p.entries + 1 = length-append p.entries (entry_in g c ∷ []) in
-        (λ i. take (length-is i) (buf-is i))
-        ∙ (written_bytes b t text g.buf (length p.entries) g.state.place g.state.length opened-pair.place size_is room-is was
+        (λ i. take (length_is i) (buf_is i))
+        ∙ (written_bytes b t text g.buf (length p.entries) g.state.place g.state.length opened_pair.place size_is room_is was
         ∙ ((λ i. b ++ (bytes_of 4 (sym lk i) ++ sym (texts_snoc (settings_for o p.serial) n p.entries (entry_in g c)) i)) ∙ sym (journal_open o n ps (wider p (entry_in g c)))))
 
-    few-is : length p.entries + 1 < 4294967296 → Work k n o (ps ++ (p ∷ [])) → RightAt g.state (entry_in g c) → Work k n o (ps ++ (wider p (entry_in g c) ∷ []))
-    few-is few w ok =
+    few_is : length p.entries + 1 < 4294967296 → Work k n o (ps ++ (p ∷ [])) → RightAt g.state (entry_in g c) → Work k n o (ps ++ (wider p (entry_in g c) ∷ []))
+    few_is few w ok =
         record {
           width = w.width;
           good = w.good;
           some = some_snoc ps (wider p (entry_in g c));
           right = subst (AllRight k n (start_core o)) (sym (all_wider o ps p (entry_in g c)))
               (right_append k n (start_core o) (all_placed o (ps ++ (p ∷ []))) (under o p.serial (entry_in g c) ∷ []) w.right
-              (placing.more (right_there opened-pair.at (entry_in g c) ok) placing.none));
+              (placing.more (right_there opened_pair.at (entry_in g c) ok) placing.none));
           names = names_wider [] ps p (entry_in g c) few w.names;
         }
 
-    pub issue-holds : RightAt g.state (entry_in g c) → Holds k n o (call g (issue c)) (ps ++ (wider p (entry_in g c) ∷ []))
-    issue-holds ok =
+    pub issue_holds : RightAt g.state (entry_in g c) → Holds k n o (call g (issue c)) (ps ++ (wider p (entry_in g c) ∷ []))
+    issue_holds ok =
         let a = call_answered g c z in
-        let few : length p.entries + 1 < 4294967296 = omega (arith, a.sound.issued, a.sound.since, opened-pair.since, ok.above, ok.typed.fields.number) in
+        let few : length p.entries + 1 < 4294967296 = omega (arith, a.sound.issued, a.sound.since, opened_pair.since, ok.above, ok.typed.fields.number) in
         record {
           state = call_state g c z ∙ (ap (λ (x : State). step x (entry_in g c)) h.state ∙ sym (run_wider (blank o k n) ps p (entry_in g c)));
-          work = few-is few h.work ok;
-          bytes = bytes-is;
-          room = subst (λ (m : ℕ). m ≤ length (call g (issue c)).buf) (sym length-is) (subst (λ (m : ℕ). g.state.length + length text ≤ m) (sym issue-length) room-is);
+          work = few_is few h.work ok;
+          bytes = bytes_is;
+          room = subst (λ (m : ℕ). m ≤ length (call g (issue c)).buf) (sym length_is) (subst (λ (m : ℕ). g.state.length + length text ≤ m) (sym issue_length) room_is);
         }
 
-    pub issue-right : AllBytes k → TypedOrder c → RightAt g.state (entry_in g c)
+    pub issue_right : AllBytes k → TypedOrder c → RightAt g.state (entry_in g c)
     unfolding entry_in
-    issue-right kb tc =
-        right-call g.state c (length g.buf) (subst AllBytes (sym opened-pair.at.base.key) kb) (open_eight opened-pair) tc (call_answered g c z)
+    issue_right kb tc =
+        right-call g.state c (length g.buf) (subst AllBytes (sym opened_pair.at.base.key) kb) (open_eight opened_pair) tc (call_answered g c z)
 
   -- a Change
   module _ (s : Name) (z : change_number g.state s (length g.buf) ≡ 0) (ts : TypedName s) where
-    pub change-holds : Holds k n o (call g (change s)) ((ps ++ (p ∷ [])) ++ (empty_pair s ∷ [])) × (length (call g (change s)).buf ≡ length g.buf)
-    change-holds =
+    pub change_holds : Holds k n o (call g (change s)) ((ps ++ (p ∷ [])) ++ (empty_pair s ∷ [])) × (length (call g (change s)).buf ≡ length g.buf)
+    change_holds =
         let a = change-zero g.state s (length g.buf) z in
         let q = holds_open ps p h in
         let qs = ps ++ (p ∷ []) in
@@ -300,10 +300,10 @@ holds_list k n o kb (d ∷ ds) g ps p (also t ts) h = go (single_number amount_l
         × (length (call g (issue_list (d ∷ ds))).buf ≡ length g.buf)
     go zero e f =
         let z = single_number_lem g d ∙ e in
-        let q = f (issue-holds k n o g ps p h (failed_order d) z (issue-right k n o g ps p h (failed_order d) z kb t)) in
+        let q = f (issue_holds k n o g ps p h (failed_order d) z (issue_right k n o g ps p h (failed_order d) z kb t)) in
         let y = sym (list_yes amount_limit g d ds e) in (
           rw e (subst (λ (x : Register). Holds k n o x (ps ++ (widened (call g (single_call d)) (wider p (entry_in g (failed_order d))) ds ∷ []))) y q.0),
-          ap (λ (x : Register). length x.buf) (sym y) ∙ (q.1 ∙ issue-length k n o g ps p h (failed_order d) z),
+          ap (λ (x : Register). length x.buf) (sym y) ∙ (q.1 ∙ issue_length k n o g ps p h (failed_order d) z),
         )
     go (suc m) e f =
         let y = sym (list_no amount_limit g d ds (λ q. omega (arith, e, q))) in
@@ -333,7 +333,7 @@ holds_calls k n o kb (issue c ∷ cs) g ps p (more (issues tc) tcs) h =
         → (Holds k n o (call g (issue c)) (ps ++ (wider p (entry_in g c) ∷ [])) → Holds k n o (calls (call g (issue c)) cs) (ps ++ pairs_from (call g (issue c)) (wider p (entry_in g c)) cs))
         → Holds k n o (calls (call g (issue c)) cs)
         (ps ++ ifZero (number_of g (issue c)) (pairs_from (call g (issue c)) (wider p (entry_in g c)) cs) (pairs_from (call g (issue c)) p cs))
-    go zero e f₁ f₂ = rw e (f₂ (issue-holds k n o g ps p h c e (issue-right k n o g ps p h c e kb tc)))
+    go zero e f₁ f₂ = rw e (f₂ (issue_holds k n o g ps p h c e (issue_right k n o g ps p h c e kb tc)))
     go (suc m) e f₁ f₂ = rw e (f₁ (subst (λ (x : Register). Holds k n o x (ps ++ (p ∷ []))) (sym (issue_kept g c (λ q. omega (arith, e, q)))) h))
 holds_calls k n o kb (issue_list ds ∷ cs) g ps p (more (lists ts) tcs) h =
     holds_calls k n o kb cs (call g (issue_list ds)) ps (widened g p ds) tcs (holds_list k n o kb ds g ps p ts h).0
@@ -345,7 +345,7 @@ holds_calls k n o kb (change s ∷ cs) g ps p (more (changes ts) tcs) h =
         → Holds k n o (calls (call g (change s)) cs)
         (ps ++ ifZero (number_of g (change s)) (p ∷ pairs_from (call g (change s)) (empty_pair s) cs) (pairs_from (call g (change s)) p cs))
     go zero e f₁ f₂ =
-        rw e (subst (Holds k n o (calls (call g (change s)) cs)) (append_assoc ps (p ∷ []) (pairs_from (call g (change s)) (empty_pair s) cs)) (f₂ (change-holds k n o g ps p h s (change_is g s e) ts).0))
+        rw e (subst (Holds k n o (calls (call g (change s)) cs)) (append_assoc ps (p ∷ []) (pairs_from (call g (change s)) (empty_pair s) cs)) (f₂ (change_holds k n o g ps p h s (change_is g s e) ts).0))
     go (suc m) e f₁ f₂ = rw e (f₁ (subst (λ (x : Register). Holds k n o x (ps ++ (p ∷ []))) (sym (change_kept g s (λ q. omega (arith, e, q)))) h))
 
 -- ---- their receipts

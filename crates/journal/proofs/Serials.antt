@@ -323,16 +323,16 @@ module _ (slots : List Name) {k : ℕ} (e : k ≡ length (used slots)) where
   good_empty z = and_no _ _ (lt-leb 1 (length (used slots)) (omega (arith, e)))
 
   module _ (h : k ≡ 0 → ⊥) where
-    some-used : leb 1 (length (used slots)) ≡ true
-    some-used = le-leb 1 (length (used slots)) (omega (arith, e, h))
+    some_used : leb 1 (length (used slots)) ≡ true
+    some_used = le-leb 1 (length (used slots)) (omega (arith, e, h))
 
-    pub good-bad : all_good (used slots) ≡ false → false ≡ serials_good slots
+    pub good_bad : all_good (used slots) ≡ false → false ≡ serials_good slots
     unfolding serials_good
-    good-bad a = and_yes _ _ _ some-used (and_no _ _ a)
+    good_bad a = and_yes _ _ _ some_used (and_no _ _ a)
 
-    pub good-rest : {t : Bool} → all_good (used slots) ≡ true → t ≡ all_empty (drop k slots) → t ≡ serials_good slots
+    pub good_rest : {t : Bool} → all_good (used slots) ≡ true → t ≡ all_empty (drop k slots) → t ≡ serials_good slots
     unfolding serials_good
-    good-rest a q = and_yes _ _ _ some-used (and_yes _ _ _ a (q ∙ ap (λ (n : ℕ). all_empty (drop n slots)) e))
+    good_rest a q = and_yes _ _ _ some_used (and_yes _ _ _ a (q ∙ ap (λ (n : ℕ). all_empty (drop n slots)) e))
 
 -- what the types say of the serials of a state stands at their image
 pub unmapped : (X Y : Type 0) (f : X → Y) (l : List X) (n : ℕ) → length (map f l) ≡ n → length l ≡ n

@@ -32,9 +32,9 @@ module _ (s : Name) (t : TypedName s) (g : serial_good s ≡ true) where
     short : length (name_text s) < 4294967296
     short = omega (arith, serial_long s t.long g, (good_name Serial s g).most)
 
-    pub serial-read : serial_at (p ++ (pair_start s k ++ rest)) at ≡ s
+    pub serial_read : serial_at (p ++ (pair_start s k ++ rest)) at ≡ s
     unfolding serial_at
-    serial-read =
+    serial_read =
         ap (λ (j : List ℕ). name_of (section_text j at)) split
         ∙ (ap name_of (section_text_lem p (name_text s) (bytes_of 4 k ++ rest) at e short) ∙ name_of_lem Serial s t.long g)
 
@@ -43,17 +43,17 @@ module _ (s : Name) (t : TypedName s) (g : serial_good s ≡ true) where
         ap (λ (j : List ℕ). section_end j at) split
         ∙ (section_end_lem p (name_text s) (bytes_of 4 k ++ rest) at e short ∙ omega (arith, serial_long s t.long g))
 
-    pub count-read : count_at (p ++ (pair_start s k ++ rest)) (at + 4 + s.len) 4 ≡ k
-    count-read =
+    pub count_read : count_at (p ++ (pair_start s k ++ rest)) (at + 4 + s.len) 4 ≡ k
+    count_read =
         ap (λ (j : List ℕ). count_at j (at + 4 + s.len) 4) (split ∙ sym (append_assoc p (section (name_text s)) (bytes_of 4 k ++ rest)))
         ∙ count_in (p ++ section (name_text s)) rest (at + 4 + s.len) 4 k (length-append p (section (name_text s)) ∙ omega (arith, length_serial s t.long g, e)) (omega arith)
 
-    pub start-there : start_there (p ++ (pair_start s k ++ rest)) at ≡ true
+    pub start_there_lem : start_there (p ++ (pair_start s k ++ rest)) at ≡ true
     unfolding start_there
-    start-there =
+    start_there_lem =
         let l = length-append p (pair_start s k ++ rest) in
         let m = length-append (pair_start s k) rest in
-        rw (end_read, serial-read, le-leb (at + 4 + s.len + 4) (length (p ++ (pair_start s k ++ rest))) (omega (arith, l, m, length_start s t.long g k, e))) g
+        rw (end_read, serial_read, le-leb (at + 4 + s.len + 4) (length (p ++ (pair_start s k ++ rest))) (omega (arith, l, m, length_start s t.long g k, e))) g
 
 -- ---- a good start is the start of what was read from it
 

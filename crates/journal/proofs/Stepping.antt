@@ -59,27 +59,27 @@ module _ (k : List (List ℕ)) (st : State) (j : List ℕ) where
     unfolding end_checked
     end_start h = step_end ∙ ap (λ (t : Bool). cond t (stopped 0 st) (start_checked st j)) (lt-leb (length j) st.length h)
 
-    pub start-passed : st.length < length j → start_number st j ≡ 0 → one_step k st j ≡ stopped 0 (renewed st (serial_at j st.length))
+    pub start_passed : st.length < length j → start_number st j ≡ 0 → one_step k st j ≡ stopped 0 (renewed st (serial_at j st.length))
     unfolding start_checked
-    start-passed h z = end_start h ∙ ifZero-yes _ _ z
+    start_passed h z = end_start h ∙ ifZero-yes _ _ z
 
-    pub start-refused : st.length < length j → (start_number st j ≡ 0 → ⊥) → one_step k st j ≡ stopped (start_number st j) st
+    pub start_refused : st.length < length j → (start_number st j ≡ 0 → ⊥) → one_step k st j ≡ stopped (start_number st j) st
     unfolding start_checked
-    start-refused h z = end_start h ∙ ifZero-no (start_number st j) _ _ z
+    start_refused h z = end_start h ∙ ifZero-no (start_number st j) _ _ z
 
   module _ (f : full st j ≡ false) where
-    pub step-entry : one_step k st j ≡ place_checked k st j
+    pub step_entry : one_step k st j ≡ place_checked k st j
     unfolding one_step
-    step-entry = rw f
+    step_entry = rw f
 
-    pub entry-refused : (entry_number k st j ≡ 0 → ⊥) → one_step k st j ≡ stopped (entry_number k st j) st
+    pub entry_refused : (entry_number k st j ≡ 0 → ⊥) → one_step k st j ≡ stopped (entry_number k st j) st
     unfolding place_checked checked
-    entry-refused h = step-entry ∙ ifZero-no (entry_number k st j) _ _ h
+    entry_refused h = step_entry ∙ ifZero-no (entry_number k st j) _ _ h
 
-    pub entry-passed : entry_number k st j ≡ 0
+    pub entry_passed : entry_number k st j ≡ 0
         → one_step k st j ≡ record { number = 0; found = found st (text_at j st.length); state = after st (text_at j st.length) }
     unfolding place_checked checked
-    entry-passed z = step-entry ∙ ifZero-yes _ _ z
+    entry_passed z = step_entry ∙ ifZero-yes _ _ z
 
   -- an entry that passed lies within the journal
   pub after_within : entry_number k st j ≡ 0 → ((after st (text_at j st.length)).length ≤ length j) × (st.length < (after st (text_at j st.length)).length)
@@ -144,16 +144,16 @@ pub step_case : (k : List (List ℕ)) (st : State) (j : List ℕ) → (one_step 
 step_case k st j z = go (full st j) (leb (length j) st.length) refl refl
   where
     entry : full st j ≡ false → (n : ℕ) → entry_number k st j ≡ n → Case k st j
-    entry f zero e = an_entry f e (entry-passed k st j f e)
+    entry f zero e = an_entry f e (entry_passed k st j f e)
     entry f (suc n) e =
         let h : entry_number k st j ≡ 0 → ⊥ = λ y. omega (arith, e, y) in
-        absurd (omega (arith, z, e, ap (λ (c : Checked). c.number) (entry-refused k st j f h), stopped_number (entry_number k st j) st))
+        absurd (omega (arith, z, e, ap (λ (c : Checked). c.number) (entry_refused k st j f h), stopped_number (entry_number k st j) st))
 
     start : full st j ≡ true → st.length < length j → (n : ℕ) → start_number st j ≡ n → Case k st j
-    start f l zero e = a_start f l (starts st j e) (start-passed k st j f l e)
+    start f l zero e = a_start f l (starts st j e) (start_passed k st j f l e)
     start f l (suc n) e =
         let h : start_number st j ≡ 0 → ⊥ = λ y. omega (arith, e, y) in
-        absurd (omega (arith, z, e, ap (λ (c : Checked). c.number) (start-refused k st j f l h), stopped_number (start_number st j) st))
+        absurd (omega (arith, z, e, ap (λ (c : Checked). c.number) (start_refused k st j f l h), stopped_number (start_number st j) st))
 
     go : (t u : Bool) → full st j ≡ t → leb (length j) st.length ≡ u → Case k st j
     go false u f e = entry f (entry_number k st j) refl

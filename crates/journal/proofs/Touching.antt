@@ -27,7 +27,7 @@ use Rattle.primitives.proofs.Rows.{ifZero-yes, ifZero-no}
 use Rattle.journal.proofs.Answers.{issue-zero}
 use Rattle.journal.proofs.Appended.{form_is_appended}
 use Rattle.journal.proofs.Places.{length_entry}
-use Rattle.journal.proofs.ListSteps.{answer_yes, answer_no, buffer-yes, buffer-no}
+use Rattle.journal.proofs.ListSteps.{answer_yes, answer_no, buffer_yes, buffer_no}
 use Rattle.journal.specs.State.{count_place_now}
 
 -- a byte outside of what is written
@@ -131,8 +131,8 @@ list_touches (d ∷ ds) st buf i c e = go (issue_number st d [] (length buf)) re
         let e₁ : st.length ≤ i → i < st.length + length (entry_text (text_of st d [])) → ⊥ = λ x y. e x (omega (arith, y, l, m, q)) in
         let e₂ : st'.length ≤ i → i < (issued_list st' ds buf').state.length → ⊥ = λ x y. e (omega (arith, x, l)) (omega (arith, y, q)) in
         let c₂ : count_place_now st' ≤ i → i < count_place_now st' + 4 → ⊥ = λ x y. c (omega (arith, x, p)) (omega (arith, y, p)) in
-        ap (λ (b : List ℕ). get_or b i 0) (buffer-yes amount_limit st d ds buf z) ∙ f c₂ e₂ ∙ same_byte st d [] buf i c e₁
-    go (suc k) z f = ap (λ (b : List ℕ). get_or b i 0) (buffer-no amount_limit st d ds buf (λ q. omega (arith, z, q)))
+        ap (λ (b : List ℕ). get_or b i 0) (buffer_yes amount_limit st d ds buf z) ∙ f c₂ e₂ ∙ same_byte st d [] buf i c e₁
+    go (suc k) z f = ap (λ (b : List ℕ). get_or b i 0) (buffer_no amount_limit st d ds buf (λ q. omega (arith, z, q)))
 
 pub list_touches_no_other : ListTouchesNoOther
 list_touches_no_other st ds buf i c e = list_touches ds st buf i c e

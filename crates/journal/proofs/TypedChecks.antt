@@ -33,7 +33,7 @@ use Rattle.journal.proofs.Stepping.{Case, an_entry, at_end_lem, a_start, step_ca
 use Rattle.journal.proofs.Starting.{start_at}
 use Rattle.journal.proofs.Passing.{state_of_lem}
 use Rattle.journal.proofs.Accepting.{owner_in, good_owner}
-use Rattle.journal.proofs.CheckCalls.{head_passed, state-fresh}
+use Rattle.journal.proofs.CheckCalls.{head_passed, state_fresh}
 use Rattle.journal.proofs.TypedStates.{zeros_typed}
 use Rattle.journal.proofs.PartSteps.{Ready, ready_step, turn, no_steps, steps_zero, ready_steps, accepted_state, went, start_ready}
 
@@ -183,5 +183,5 @@ head_typed j key n b small l kb z =
     let p = head_passed j key n refl z in
     let s = head_settings j in
     let g = good_owner s (read_typed j b p.good) (good_head j b p.good).good in
-    subst TypedState (sym (state-fresh j key n refl z))
+    subst TypedState (sym (state_fresh j key n refl z))
     (stored_typed (fresh s n key) j small (start_ready j key n b p) (fresh_stored s key n g.0 g.1 l kb))

@@ -74,48 +74,48 @@ module _ {a b : ℤ} (fa : SFits w64 a) (fb : SFits w64 b) where
 
   -- b is negative
   module _ (t : lt_z (back b) (pos 0) ≡ true) where
-    b-neg : up b < 2 ^ 63
-    b-neg = up_lt b (pos 0) fb zero_fits (plain_b t)
+    b_neg : up b < 2 ^ 63
+    b_neg = up_lt b (pos 0) fb zero_fits (plain_b t)
 
     low : Difference least b
-    low = difference least b least_fits fb (omega (arith, b-neg)) (omega (arith, b-neg))
+    low = difference least b least_fits fb (omega (arith, b_neg)) (omega (arith, b_neg))
 
     pub low_fits : SFits w64 (least -ℤ back b)
     low_fits = op1_fits (λ v. least -ℤ v) fb low.fits
 
-    pub low-over : lt_z (back a) (back (least -ℤ back b)) ≡ true → Over ≡ checked_sum a b
-    low-over e = over (inl (omega (arith, low.is, up_lt a (least -ℤ b) fa low.fits (plain least low.fits e))))
+    pub low_over : lt_z (back a) (back (least -ℤ back b)) ≡ true → Over ≡ checked_sum a b
+    low_over e = over (inl (omega (arith, low.is, up_lt a (least -ℤ b) fa low.fits (plain least low.fits e))))
 
     module _ (e : lt_z (back a) (back (least -ℤ back b)) ≡ false) where
       above : 2 ^ 63 ≤ up a + up b
       above = omega (arith, low.is, up_ge a (least -ℤ b) fa low.fits (plain least low.fits e))
 
-      pub low-fit : SFits w64 (back a +ℤ back b)
-      low-fit = fit above (omega (arith, b-neg, up_bound a fa))
+      pub low_fit : SFits w64 (back a +ℤ back b)
+      low_fit = fit above (omega (arith, b_neg, up_bound a fa))
 
-      pub low-is : Is (back (back a +ℤ back b)) ≡ checked_sum a b
-      low-is = is above (omega (arith, b-neg, up_bound a fa))
+      pub low_is : Is (back (back a +ℤ back b)) ≡ checked_sum a b
+      low_is = is above (omega (arith, b_neg, up_bound a fa))
 
   -- b is not negative
   module _ (t : lt_z (back b) (pos 0) ≡ false) where
-    b-pos : 2 ^ 63 ≤ up b
-    b-pos = up_ge b (pos 0) fb zero_fits (plain_b t)
+    b_pos : 2 ^ 63 ≤ up b
+    b_pos = up_ge b (pos 0) fb zero_fits (plain_b t)
 
     high : Difference most b
-    high = difference most b most_fits fb (omega (arith, b-pos, up_bound b fb)) (omega (arith, b-pos))
+    high = difference most b most_fits fb (omega (arith, b_pos, up_bound b fb)) (omega (arith, b_pos))
 
     pub high_fits : SFits w64 (most -ℤ back b)
     high_fits = op1_fits (λ v. most -ℤ v) fb high.fits
 
-    pub high-over : lt_z (back (most -ℤ back b)) (back a) ≡ true → Over ≡ checked_sum a b
-    high-over e = over (inr (omega (arith, high.is, up_lt (most -ℤ b) a high.fits fa (plain' most high.fits e))))
+    pub high_over : lt_z (back (most -ℤ back b)) (back a) ≡ true → Over ≡ checked_sum a b
+    high_over e = over (inr (omega (arith, high.is, up_lt (most -ℤ b) a high.fits fa (plain' most high.fits e))))
 
     module _ (e : lt_z (back (most -ℤ back b)) (back a) ≡ false) where
       below : up a + up b < 3 * 2 ^ 63
       below = omega (arith, high.is, up_ge (most -ℤ b) a high.fits fa (plain' most high.fits e))
 
-      pub high-fit : SFits w64 (back a +ℤ back b)
-      high-fit = fit (omega (arith, b-pos)) below
+      pub high_fit : SFits w64 (back a +ℤ back b)
+      high_fit = fit (omega (arith, b_pos)) below
 
       pub high_is : Is (back (back a +ℤ back b)) ≡ checked_sum a b
-      high_is = is (omega (arith, b-pos)) below
+      high_is = is (omega (arith, b_pos)) below

@@ -19,9 +19,9 @@ use Rattle.primitives.proofs.Rows.{both}
 use Rattle.primitives.proofs.Table.{every, by_rule}
 use Rattle.primitives.proofs.Writing.{drop_one}
 use Rattle.primitives.proofs.Base64Answers.{answer_full, answer_room}
-use Rattle.primitives.proofs.Base64Loops.{Pass, pass-room, pass-more, pass_rest, pass_left}
+use Rattle.primitives.proofs.Base64Loops.{Pass, pass_room, pass_more, pass_rest, pass_left}
 use Rattle.primitives.proofs.BaseTexts.{map_append, known_letter, before_go, before_stop, before_zero, length_letters, letters_most, spare_lt}
-use Rattle.primitives.proofs.BaseGroups.{letters-append, bytes-append-in}
+use Rattle.primitives.proofs.BaseGroups.{letters_append, bytes_append_in}
 use Rattle.primitives.proofs.Base32Laws.{base32_good, length_encoding32}
 
 -- ---- the letters of a number
@@ -85,19 +85,19 @@ module _ {s out₀ out : List ℕ} {at i o : ℕ} (e : Pass (letters_of base32) 
   unfolding v₅
   next =
       ap (letters_of base32) (parted 5 i s)
-      ∙ letters-append base32 base32_good (take 5 (drop i s)) (drop (i + 5) s) 8 (ap (λ (n : ℕ). n * 8) (sym (part_long 5 i s inside))) (bytes_drop (i + 5) p)
+      ∙ letters_append base32 base32_good (take 5 (drop i s)) (drop (i + 5) s) 8 (ap (λ (n : ℕ). n * 8) (sym (part_long 5 i s inside))) (bytes_drop (i + 5) p)
       ∙ ap (λ (l : List ℕ). l ++ letters_of base32 (drop (i + 5) s)) (sym (take_all 8 (number_letters 8 v₅) (omega (arith, length_number_letters 8 v₅))))
 
   long : length (take 8 (number_letters 8 v₅)) ≡ 8
   long = length-take-le 8 (number_letters 8 v₅) (omega (arith, length_number_letters 8 v₅))
 
   pub group_room : o + 8 ≤ length out
-  group_room = pass-room e (number_letters 8 v₅) 8 5 long next
+  group_room = pass_room e (number_letters 8 v₅) 8 5 long next
 
   pub group_more : {out' : List ℕ} {v : ℕ} → v ≡ value_of (take 5 (drop i s)) → out' ≡ overwrite out o (number_letters 8 v) → Pass (letters_of base32) s out₀ at out' (i + 5) (o + 8)
   unfolding v₅
   group_more {out'} {v} r w =
-      pass-more e (number_letters 8 v₅) 8 5 long next inside refl refl
+      pass_more e (number_letters 8 v₅) 8 5 long next inside refl refl
       (w ∙ ap (λ (x : ℕ). overwrite out o (number_letters 8 x)) r ∙ ap (overwrite out o) (sym (take_all 8 (number_letters 8 v₅) (omega (arith, length_number_letters 8 v₅)))))
 
 -- what is lent from a place on
@@ -110,12 +110,12 @@ abbrev pub eight_fills : List ℕ
 eight_fills = fill ∷ fill ∷ fill ∷ fill ∷ fill ∷ fill ∷ fill ∷ fill ∷ []
 
 fills : (n : ℕ) → n ≤ 8 → take n eight_fills ≡ replicate n fill
-fills n h = ap (take n) refl ∙ take-replicate n 8 h
+fills n h = ap (take n) refl ∙ take_replicate n 8 h
   where
-    take-replicate : (n m : ℕ) → n ≤ m → take n (replicate m fill) ≡ replicate n fill
-    take-replicate zero m h = refl
-    take-replicate (suc n) zero h = absurd (omega arith)
-    take-replicate (suc n) (suc m) h = ap (λ (l : List ℕ). fill ∷ l) (take-replicate n m (omega arith))
+    take_replicate : (n m : ℕ) → n ≤ m → take n (replicate m fill) ≡ replicate n fill
+    take_replicate zero m h = refl
+    take_replicate (suc n) zero h = absurd (omega arith)
+    take_replicate (suc n) (suc m) h = ap (λ (l : List ℕ). fill ∷ l) (take_replicate n m (omega arith))
 
 pub fill_few : (n k : ℕ) → n ≡ fill_for 8 k → n ≤ 8
 unfolding fill_for
@@ -162,8 +162,8 @@ module _ {s : List ℕ} {at n v i : ℕ} (p : Valuing s at n v i) where
     pub digit_small : get_or table (get_or s (at + i) 0) 0 < 32
     digit_small = omega (arith, t.at (get_or s (at + i) 0) b, known_each s known (at + i) (omega (arith, p.room)))
 
-    pub value-one : Valuing s at n (v * 32 + get_or table (get_or s (at + i) 0) 0) (i + 1)
-    value-one =
+    pub value_one : Valuing s at n (v * 32 + get_or table (get_or s (at + i) 0) 0) (i + 1)
+    value_one =
         record {
           inside = omega arith;
           wide = p.wide;
@@ -205,42 +205,42 @@ module _ {s out₀ out : List ℕ} {at i o : ℕ} (e : Pass (bytes_in base32) s 
     unfolding v₈ number_in
     next₈ =
         ap (bytes_in base32) (parted 8 i s)
-        ∙ bytes-append-in base32 base32_good (take 8 (drop i s)) (drop (i + 8) s) 5 (ap (λ (n : ℕ). n * 5) (part_long 8 i s inside₈)) (known_drop (i + 8) s (known_letter base32 s known))
+        ∙ bytes_append_in base32 base32_good (take 8 (drop i s)) (drop (i + 8) s) 5 (ap (λ (n : ℕ). n * 5) (part_long 8 i s inside₈)) (known_drop (i + 8) s (known_letter base32 s known))
         ∙ ap (λ (l : List ℕ). l ++ bytes_in base32 (drop (i + 8) s)) (sym (take_all 5 (bytes_of 5 v₈) (omega (arith, length_bytes_of 5 v₈))))
 
     long₈ : length (take 5 (bytes_of 5 v₈)) ≡ 5
     long₈ = length-take-le 5 (bytes_of 5 v₈) (omega (arith, length_bytes_of 5 v₈))
 
-    pub bytes-room : o + 5 ≤ length out
-    bytes-room = pass-room e (bytes_of 5 v₈) 5 8 long₈ next₈
+    pub bytes_room : o + 5 ≤ length out
+    bytes_room = pass_room e (bytes_of 5 v₈) 5 8 long₈ next₈
 
-    pub bytes-more : {out' : List ℕ} {v : ℕ} → v ≡ number_of 32 (map digit32 (take 8 (drop i s))) → out' ≡ overwrite out o (bytes_of 5 v) → Pass (bytes_in base32) s out₀ at out' (i + 8) (o + 5)
+    pub bytes_more : {out' : List ℕ} {v : ℕ} → v ≡ number_of 32 (map digit32 (take 8 (drop i s))) → out' ≡ overwrite out o (bytes_of 5 v) → Pass (bytes_in base32) s out₀ at out' (i + 8) (o + 5)
     unfolding v₈
-    bytes-more {out'} {v} r w =
-        pass-more e (bytes_of 5 v₈) 5 8 long₈ next₈ inside₈ refl refl
+    bytes_more {out'} {v} r w =
+        pass_more e (bytes_of 5 v₈) 5 8 long₈ next₈ inside₈ refl refl
         (w ∙ ap (λ (x : ℕ). overwrite out o (bytes_of 5 x)) r ∙ ap (overwrite out o) (sym (take_all 5 (bytes_of 5 v₈) (omega (arith, length_bytes_of 5 v₈)))))
 
   rest_long : length (drop i s) ≡ length s - i
   rest_long = length-drop i s
 
   module _ {v : ℕ} (r : v ≡ number_of 32 (map digit32 (take (length s - i) (drop i s)))) where
-    rest-bytes : bytes_of ((length s - i) * 5 / 8) (v / 2 ^ ((length s - i) * 5 % 8)) ≡ bytes_in base32 (drop i s)
+    rest_bytes : bytes_of ((length s - i) * 5 / 8) (v / 2 ^ ((length s - i) * 5 % 8)) ≡ bytes_in base32 (drop i s)
     unfolding bytes_in bytes_for bits_after number_in
-    rest-bytes =
+    rest_bytes =
         ap (λ (x : ℕ). bytes_of ((length s - i) * 5 / 8) (x / 2 ^ ((length s - i) * 5 % 8))) (r ∙ ap (λ (l : List ℕ). number_of 32 (map digit32 l)) (lent_rest s i))
         ∙ ap (λ (n : ℕ). bytes_of (n * 5 / 8) (number_of 32 (map digit32 (drop i s)) / 2 ^ (n * 5 % 8))) (sym rest_long)
 
     pub rest_end : {out' : List ℕ} → out' ≡ overwrite out o (bytes_of ((length s - i) * 5 / 8) (v / 2 ^ ((length s - i) * 5 % 8)))
         → (o + (length s - i) * 5 / 8 ≡ at + length (bytes_in base32 s)) × (out' ≡ overwrite out₀ at (bytes_in base32 s))
     rest_end w =
-        pass_rest e (ap (λ (x : ℕ). o + x) (sym (length_bytes_of ((length s - i) * 5 / 8) (v / 2 ^ ((length s - i) * 5 % 8))) ∙ ap length rest-bytes))
-        (w ∙ ap (overwrite out o) rest-bytes)
+        pass_rest e (ap (λ (x : ℕ). o + x) (sym (length_bytes_of ((length s - i) * 5 / 8) (v / 2 ^ ((length s - i) * 5 % 8))) ∙ ap length rest_bytes))
+        (w ∙ ap (overwrite out o) rest_bytes)
 
   pub rest_room : o + (length s - i) * 5 / 8 ≤ length out
-  rest_room = omega (arith, pass_left e, rest-count)
+  rest_room = omega (arith, pass_left e, rest_count)
     where
-      rest-count : length (bytes_in base32 (drop i s)) ≡ (length s - i) * 5 / 8
-      rest-count = length_bytes (drop i s) ∙ ap (λ (n : ℕ). n * 5 / 8) rest_long
+      rest_count : length (bytes_in base32 (drop i s)) ≡ (length s - i) * 5 / 8
+      rest_count = length_bytes (drop i s) ∙ ap (λ (n : ℕ). n * 5 / 8) rest_long
 
 -- ---- the reader's tests
 
@@ -348,9 +348,9 @@ module _ (s : List ℕ) {n : ℕ} (count : n ≡ letters_in s) where
         let q : letters_known base32 (take (letters_in s) s) ≡ false = ap (λ (m : ℕ). letters_known base32 (take m s)) (sym count) ∙ sym k in
         rw (filled, q, and-false (well_ended base32 (take (letters_in s) s)))
 
-    pub ended-known : {r : Bool} → true ≡ letters_known base32 (take n s) → r ≡ well_ended base32 (take n s) → r ≡ is_text base32 s
+    pub ended_known : {r : Bool} → true ≡ letters_known base32 (take n s) → r ≡ well_ended base32 (take n s) → r ≡ is_text base32 s
     unfolding is_text
-    ended-known {r} k e =
+    ended_known {r} k e =
         let q : letters_known base32 (take (letters_in s) s) ≡ true = ap (λ (m : ℕ). letters_known base32 (take m s)) (sym count) ∙ sym k in
         let f : r ≡ well_ended base32 (take (letters_in s) s) = e ∙ ap (λ (m : ℕ). well_ended base32 (take m s)) count in
         rw (filled, q) (f ∙ sym (and-true (well_ended base32 (take (letters_in s) s))))
@@ -380,16 +380,16 @@ module _ (text out : List ℕ) (at : ℕ) where
     unfolding decoding32 read_text
     is = rw (sym e) (ap (λ (m : ℕ). some (bytes_in base32 (take m text))) count)
 
-    pub decode-full : length out < at + (n / 8 * 5 + n % 8 * 5 / 8) → (NoRoom ≡ decode_answer32 text out at) × (out ≡ decode_buffer32 text out at)
-    decode-full full = answer_full (decoding32 text) (bytes_in base32 (take n text)) out at is (omega (arith, size))
+    pub decode_full : length out < at + (n / 8 * 5 + n % 8 * 5 / 8) → (NoRoom ≡ decode_answer32 text out at) × (out ≡ decode_buffer32 text out at)
+    decode_full full = answer_full (decoding32 text) (bytes_in base32 (take n text)) out at is (omega (arith, size))
 
     module _ (fit : at + (n / 8 * 5 + n % 8 * 5 / 8) ≤ length out) where
-      pub decode-fits : at + length (bytes_in base32 (take n text)) ≤ length out
-      decode-fits = omega (arith, size)
+      pub decode_fits : at + length (bytes_in base32 (take n text)) ≤ length out
+      decode_fits = omega (arith, size)
 
-      pub decode-room : {o : ℕ} {out' : List ℕ} → o ≡ at + length (bytes_in base32 (take n text)) → out' ≡ overwrite out at (bytes_in base32 (take n text))
+      pub decode_room : {o : ℕ} {out' : List ℕ} → o ≡ at + length (bytes_in base32 (take n text)) → out' ≡ overwrite out at (bytes_in base32 (take n text))
           → (Upto o ≡ decode_answer32 text out at) × (out' ≡ decode_buffer32 text out at)
-      decode-room = answer_room (decoding32 text) (bytes_in base32 (take n text)) out at is decode-fits
+      decode_room = answer_room (decoding32 text) (bytes_in base32 (take n text)) out at is decode_fits
 
 -- ---- the writer's answer
 
@@ -407,29 +407,29 @@ module _ (s out : List ℕ) (at : ℕ) {k : ℕ} (size : k ≡ encoded_length32 
     unfolding letters encoded_length32 letters_for fill_for
     parts = let l = length_letters base32 base32_good s in omega arith
 
-    pub letters-room : at + length (letters_of base32 s) ≤ length out
+    pub letters_room : at + length (letters_of base32 s) ≤ length out
     unfolding letters
-    letters-room = omega (arith, fitting, size, parts)
+    letters_room = omega (arith, fitting, size, parts)
 
     module _ {o n : ℕ} (here : o ≡ at + length (letters_of base32 s)) (fills : n ≡ fill_for 8 (o - at)) where
-      n-is : n ≡ fill_for 8 (length letters)
+      n_is : n ≡ fill_for 8 (length letters)
       unfolding letters
-      n-is = let d : o - at ≡ length (letters_of base32 s) = omega arith in fills ∙ ap (fill_for 8) d
+      n_is = let d : o - at ≡ length (letters_of base32 s) = omega arith in fills ∙ ap (fill_for 8) d
 
-      pub fill-room : {out₁ : List ℕ} → out₁ ≡ overwrite out at (letters_of base32 s) → o + n ≤ length out₁
+      pub fill_room : {out₁ : List ℕ} → out₁ ≡ overwrite out at (letters_of base32 s) → o + n ≤ length out₁
       unfolding letters
-      fill-room {out₁} p = omega (arith, fitting, size, parts, n-is, ap length p, length_over out at (letters_of base32 s) letters-room)
+      fill_room {out₁} p = omega (arith, fitting, size, parts, n_is, ap length p, length_over out at (letters_of base32 s) letters_room)
 
-      pub encode-room : {o' : ℕ} {out₁ out₂ : List ℕ} → out₁ ≡ overwrite out at (letters_of base32 s) → o' ≡ o + n
+      pub encode_room : {o' : ℕ} {out₁ out₂ : List ℕ} → out₁ ≡ overwrite out at (letters_of base32 s) → o' ≡ o + n
           → out₂ ≡ overwrite out₁ o (replicate n fill)
           → (o' ≡ place_after out at (encoding32 s)) × (out₂ ≡ placed out at (encoding32 s))
       unfolding encoding32 text_of letters
-      encode-room {o'} {out₁} {out₂} p q r =
+      encode_room {o'} {out₁} {out₂} p q r =
           let h : at + length (encoding32 s) ≤ length out = omega (arith, fitting, size, length_encoding32 s) in
           let c : length (letters_of base32 s) ≡ letters_for 5 (length s) = length_letters base32 base32_good s in
-          let m : n ≡ fill_for 8 (letters_for 5 (length s)) = n-is ∙ ap (fill_for 8) c in (
-            omega (arith, length_encoding32 s, parts, n-is, after_room out at (encoding32 s) h),
-            then out (letters_of base32 s) (replicate (fill_for 8 (letters_for 5 (length s))) fill) at o p (r ∙ ap (λ (x : ℕ). overwrite out₁ o (replicate x fill)) m) here letters-room
+          let m : n ≡ fill_for 8 (letters_for 5 (length s)) = n_is ∙ ap (fill_for 8) c in (
+            omega (arith, length_encoding32 s, parts, n_is, after_room out at (encoding32 s) h),
+            then out (letters_of base32 s) (replicate (fill_for 8 (letters_for 5 (length s))) fill) at o p (r ∙ ap (λ (x : ℕ). overwrite out₁ o (replicate x fill)) m) here letters_room
                 ∙ sym (placed_room out at (encoding32 s) h),
           )
 

@@ -9,7 +9,7 @@ use Rattle.primitives.proofs.ByteLists.{each_bytes}
 use Rattle.primitives.proofs.Each.{each_at}
 use Rattle.primitives.proofs.Table.{every, at}
 use Rattle.primitives.proofs.Base64Letters.{both_0, both_1, implied}
-use Rattle.primitives.proofs.BaseTexts.{each-of-text, length_text, read_back, read_bytes, text-only}
+use Rattle.primitives.proofs.BaseTexts.{each_of_text, length_text, read_back, read_bytes, text_only}
 
 -- ---- letters and numbers determine each other
 
@@ -78,12 +78,12 @@ length32_most xs = omega (arith, length_encoding32 xs)
 
 pub encoding_bytes32 : (xs : List ℕ) → AllBytes (encoding32 xs)
 unfolding encoding32
-encoding_bytes32 xs = each_bytes (each-of-text base32 base32_good xs letter_small (omega arith))
+encoding_bytes32 xs = each_bytes (each_of_text base32 base32_good xs letter_small (omega arith))
 
 -- '_' occurs in no text
 pub no_underscore32 : (xs : List ℕ) (i : ℕ) → i < length (encoding32 xs) → get_or (encoding32 xs) i 0 ≡ 95 → ⊥
 unfolding encoding32 digit32
-no_underscore32 xs = each_at (each-of-text base32 base32_good xs {P = λ b. b ≡ 95 → ⊥} (foreign 95 refl) (λ e. omega arith))
+no_underscore32 xs = each_at (each_of_text base32 base32_good xs {P = λ b. b ≡ 95 → ⊥} (foreign 95 refl) (λ e. omega arith))
 
 -- ---- there and back
 
@@ -97,4 +97,4 @@ decoded_bytes32 = read_bytes base32 base32_good
 
 pub encode_decode32 : (text xs : List ℕ) → AllBytes text → decoding32 text ≡ some xs → text ≡ encoding32 xs
 unfolding encoding32 decoding32
-encode_decode32 text xs p e = text-only base32 base32_good text xs e p
+encode_decode32 text xs p e = text_only base32 base32_good text xs e p

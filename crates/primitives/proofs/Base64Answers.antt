@@ -30,23 +30,23 @@ module _ (a : Alphabet) (s out : List ℕ) (at : ℕ) {k : ℕ} (long : k ≡ en
       (sym (after_full out at (encoding a s) h), sym (placed_full out at (encoding a s) h))
 
   module _ (fitting : at + k ≤ length out) where
-    pub letters-room : at + length (letters a s) ≤ length out
-    letters-room = omega (arith, fitting, long, length_parts a s)
+    pub letters_room : at + length (letters a s) ≤ length out
+    letters_room = omega (arith, fitting, long, length_parts a s)
 
     module _ {o n : ℕ} (here : o ≡ at + length (letters a s)) (count : n ≡ padding_count a (length s)) where
-      pub marks-room : {out₁ : List ℕ} → out₁ ≡ overwrite out at (letters a s) → o + n ≤ length out₁
-      marks-room {out₁} p = omega (arith, fitting, long, length_parts a s, ap length p, length_over out at (letters a s) letters-room)
+      pub marks_room : {out₁ : List ℕ} → out₁ ≡ overwrite out at (letters a s) → o + n ≤ length out₁
+      marks_room {out₁} p = omega (arith, fitting, long, length_parts a s, ap length p, length_over out at (letters a s) letters_room)
 
-      pub encode-room : {o' : ℕ} {out₁ out₂ : List ℕ} → out₁ ≡ overwrite out at (letters a s) → o' ≡ o + n
+      pub encode_room : {o' : ℕ} {out₁ out₂ : List ℕ} → out₁ ≡ overwrite out at (letters a s) → o' ≡ o + n
           → out₂ ≡ overwrite out₁ o (take n (pad ∷ pad ∷ pad ∷ pad ∷ []))
           → (o' ≡ place_after out at (encoding a s)) × (out₂ ≡ placed out at (encoding a s))
       unfolding encoding
-      encode-room {o'} {out₁} {out₂} p q r =
+      encode_room {o'} {out₁} {out₂} p q r =
           let h : at + length (encoding a s) ≤ length out = omega (arith, fitting, long, length_encoding a s) in
           let m : take n (pad ∷ pad ∷ pad ∷ pad ∷ []) ≡ padding a (length s) =
           marks n (omega (arith, few_marks a (length s))) ∙ ap (λ (k : ℕ). replicate k pad) count in (
             omega (arith, length_parts a s, length_encoding a s, after_room out at (encoding a s) h),
-            then out (letters a s) (padding a (length s)) at o p (r ∙ ap (overwrite out₁ o) m) here letters-room
+            then out (letters a s) (padding a (length s)) at o p (r ∙ ap (overwrite out₁ o) m) here letters_room
                 ∙ sym (placed_room out at (encoding a s) h),
           )
 
@@ -79,15 +79,15 @@ module _ (a : Alphabet) (text : List ℕ) where
   not_whole e = ap (λ (t : Bool). t && (ended a (unpadded a text) && known a (unpadded a text))) e
 
   module _ {n : ℕ} (count : n ≡ letter_count a text) (w : true ≡ whole a (length text)) where
-    pub not-ended : false ≡ ended a (take n text) → false ≡ accepted a text
+    pub not_ended : false ≡ ended a (take n text) → false ≡ accepted a text
     unfolding accepted
-    not-ended e =
+    not_ended e =
         (λ i. w i && (e i && known a (take n text)))
         ∙ ap (λ (k : ℕ). whole a (length text) && (ended a (take k text) && known a (take k text))) count
 
-    pub all-ended : {r : Bool} → true ≡ ended a (take n text) → r ≡ known a (take n text) → r ≡ accepted a text
+    pub all_ended : {r : Bool} → true ≡ ended a (take n text) → r ≡ known a (take n text) → r ≡ accepted a text
     unfolding accepted
-    all-ended e k =
+    all_ended e k =
         k
         ∙ (λ i. w i && (e i && known a (take n text)))
         ∙ ap (λ (m : ℕ). whole a (length text) && (ended a (take m text) && known a (take m text))) count
@@ -120,13 +120,13 @@ module _ (a : Alphabet) (text out : List ℕ) (at : ℕ) where
     unfolding decoding
     is = rw (sym e) (ap (λ (m : ℕ). some (bytes a (take m text))) count)
 
-    pub decode-full : length out < at + (n / 4 * 3 + n % 4 * 3 / 4) → (NoRoom ≡ decode_answer a text out at) × (out ≡ decode_buffer a text out at)
-    decode-full full = answer_full (decoding a text) (bytes a (take n text)) out at is (omega (arith, size))
+    pub decode_full : length out < at + (n / 4 * 3 + n % 4 * 3 / 4) → (NoRoom ≡ decode_answer a text out at) × (out ≡ decode_buffer a text out at)
+    decode_full full = answer_full (decoding a text) (bytes a (take n text)) out at is (omega (arith, size))
 
     module _ (fit : at + (n / 4 * 3 + n % 4 * 3 / 4) ≤ length out) where
-      pub bytes-room : at + length (bytes a (take n text)) ≤ length out
-      bytes-room = omega (arith, size)
+      pub bytes_room : at + length (bytes a (take n text)) ≤ length out
+      bytes_room = omega (arith, size)
 
-      pub decode-room : {o : ℕ} {out' : List ℕ} → o ≡ at + length (bytes a (take n text)) → out' ≡ overwrite out at (bytes a (take n text))
+      pub decode_room : {o : ℕ} {out' : List ℕ} → o ≡ at + length (bytes a (take n text)) → out' ≡ overwrite out at (bytes a (take n text))
           → (Upto o ≡ decode_answer a text out at) × (out' ≡ decode_buffer a text out at)
-      decode-room = answer_room (decoding a text) (bytes a (take n text)) out at is bytes-room
+      decode_room = answer_room (decoding a text) (bytes a (take n text)) out at is bytes_room

@@ -240,25 +240,25 @@ module _ (a : Alphabet) where
     unfolding g
     small = sum_small w x y z hw hx hy hz
 
-    four-again : quad a (from_bytes (g / 65536 % 256) (g / 256 % 256) (g % 256)) ≡ letter a w ∷ letter a x ∷ letter a y ∷ letter a z ∷ []
+    four_again : quad a (from_bytes (g / 65536 % 256) (g / 256 % 256) (g % 256)) ≡ letter a w ∷ letter a x ∷ letter a y ∷ letter a z ∷ []
     unfolding g
-    four-again = ap (quad a) (bytes_group g small) ∙ quad_again w x y z hw hx hy hz
+    four_again = ap (quad a) (bytes_group g small) ∙ quad_again w x y z hw hx hy hz
 
     -- the same where the last bits are zero
-    three-again : g % 256 ≡ 0 → quad a (from_bytes (g / 65536 % 256) (g / 256 % 256) 0) ≡ letter a w ∷ letter a x ∷ letter a y ∷ letter a z ∷ []
-    three-again e = ap (λ (b : ℕ). quad a (from_bytes (g / 65536 % 256) (g / 256 % 256) b)) (sym e) ∙ four-again
+    three_again : g % 256 ≡ 0 → quad a (from_bytes (g / 65536 % 256) (g / 256 % 256) 0) ≡ letter a w ∷ letter a x ∷ letter a y ∷ letter a z ∷ []
+    three_again e = ap (λ (b : ℕ). quad a (from_bytes (g / 65536 % 256) (g / 256 % 256) b)) (sym e) ∙ four_again
 
-    two-again : g % 65536 ≡ 0 → quad a (from_bytes (g / 65536 % 256) 0 0) ≡ letter a w ∷ letter a x ∷ letter a y ∷ letter a z ∷ []
-    two-again e =
+    two_again : g % 65536 ≡ 0 → quad a (from_bytes (g / 65536 % 256) 0 0) ≡ letter a w ∷ letter a x ∷ letter a y ∷ letter a z ∷ []
+    two_again e =
         let f : g / 256 % 256 ≡ 0 = omega arith in
         let k : g % 256 ≡ 0 = omega arith in
-        ap (λ (b : ℕ). quad a (from_bytes (g / 65536 % 256) b 0)) (sym f) ∙ three-again k
+        ap (λ (b : ℕ). quad a (from_bytes (g / 65536 % 256) b 0)) (sym f) ∙ three_again k
 
   module _ {w x : ℕ} (kw : Letter w) (kx : Letter x) where
-    pair-back : digit a x % 16 ≡ 0 → take 2 (quad a (from_bytes (from_digits (digit a w) (digit a x) 0 0 / 65536 % 256) 0 0)) ≡ w ∷ x ∷ []
+    pair_back : digit a x % 16 ≡ 0 → take 2 (quad a (from_bytes (from_digits (digit a w) (digit a x) 0 0 / 65536 % 256) 0 0)) ≡ w ∷ x ∷ []
     unfolding g
-    pair-back u =
-        ap (take 2) (two-again (digit a w) (digit a x) 0 0 kw.0 kx.0 (omega arith) (omega arith) (zeros_1 (digit a w) (digit a x) u))
+    pair_back u =
+        ap (take 2) (two_again (digit a w) (digit a x) 0 0 kw.0 kx.0 (omega arith) (omega arith) (zeros_1 (digit a w) (digit a x) u))
         ∙ (λ i. kw.1 i ∷ kx.1 i ∷ [])
 
     module _ {y : ℕ} (ky : Letter y) where
@@ -268,17 +268,17 @@ module _ (a : Alphabet) where
       three_back : digit a y % 4 ≡ 0 → take 3 (quad a (from_bytes (g₃ / 65536 % 256) (g₃ / 256 % 256) 0)) ≡ w ∷ x ∷ y ∷ []
       unfolding g g₃
       three_back u =
-          ap (take 3) (three-again (digit a w) (digit a x) (digit a y) 0 kw.0 kx.0 ky.0 (omega arith) (zeros_2 (digit a w) (digit a x) (digit a y) u))
+          ap (take 3) (three_again (digit a w) (digit a x) (digit a y) 0 kw.0 kx.0 ky.0 (omega arith) (zeros_2 (digit a w) (digit a x) (digit a y) u))
           ∙ (λ i. kw.1 i ∷ kx.1 i ∷ ky.1 i ∷ [])
 
       module _ {z : ℕ} (kz : Letter z) where
         g₄ : ℕ
         g₄ = from_digits (digit a w) (digit a x) (digit a y) (digit a z)
 
-        four-back : quad a (from_bytes (g₄ / 65536 % 256) (g₄ / 256 % 256) (g₄ % 256)) ≡ w ∷ x ∷ y ∷ z ∷ []
+        four_back : quad a (from_bytes (g₄ / 65536 % 256) (g₄ / 256 % 256) (g₄ % 256)) ≡ w ∷ x ∷ y ∷ z ∷ []
         unfolding g g₄
-        four-back =
-            four-again (digit a w) (digit a x) (digit a y) (digit a z) kw.0 kx.0 ky.0 kz.0
+        four_back =
+            four_again (digit a w) (digit a x) (digit a y) (digit a z) kw.0 kx.0 ky.0 kz.0
             ∙ (λ i. kw.1 i ∷ kx.1 i ∷ ky.1 i ∷ kz.1 i ∷ [])
 
   letters_bytes : (text : List ℕ) → AllBytes text → known a text ≡ true → ended a text ≡ true → letters a (bytes a text) ≡ text
@@ -288,7 +288,7 @@ module _ (a : Alphabet) where
   letters_bytes (w ∷ x ∷ []) p k e =
       let kw = known_head w (x ∷ []) (bytes_head p) k in
       let kx = known_head x [] (bytes_head (bytes_tail p)) kw.1 in
-      pair-back kw.0 kx.0 (eqb-true (digit a x % 16) 0 e)
+      pair_back kw.0 kx.0 (eqb-true (digit a x % 16) 0 e)
   letters_bytes (w ∷ x ∷ y ∷ []) p k e =
       let kw = known_head w (x ∷ y ∷ []) (bytes_head p) k in
       let kx = known_head x (y ∷ []) (bytes_head (bytes_tail p)) kw.1 in
@@ -299,7 +299,7 @@ module _ (a : Alphabet) where
       let kx = known_head x (y ∷ z ∷ rest) (bytes_head (bytes_tail p)) kw.1 in
       let ky = known_head y (z ∷ rest) (bytes_head (bytes_tail (bytes_tail p))) kx.1 in
       let kz = known_head z rest (bytes_head (bytes_tail (bytes_tail (bytes_tail p)))) ky.1 in
-      λ i. four-back kw.0 kx.0 ky.0 kz.0 i ++ letters_bytes rest (bytes_tail (bytes_tail (bytes_tail (bytes_tail p)))) kz.1 e i
+      λ i. four_back kw.0 kx.0 ky.0 kz.0 i ++ letters_bytes rest (bytes_tail (bytes_tail (bytes_tail (bytes_tail p)))) kz.1 e i
 
 -- ---- the padding is as required
 
@@ -359,8 +359,8 @@ padding_is Standard t w = ends (eqb (get_or t (n - 1) 0) pad) refl
         let g : (m + k) % 4 ≡ 0 = ap (λ (x : ℕ). x % 4) l ∙ groups in
         ap (λ (x : ℕ). drop x t) c ∙ d ∙ ap (λ (x : ℕ). replicate x pad) (sym (pads m k h g)) ∙ ap (λ (x : ℕ). padding Standard (size x)) (sym c)
 
-    none-there : (get_or t (n - 1) 0 ≡ pad → ⊥) → drop (letter_count Standard t) t ≡ padding Standard (size (letter_count Standard t))
-    none-there f = so n 0 (ap (unmarked t) (not_marked t n f) ∙ not_marked t n f) (omega arith) (omega arith) (drop-length t)
+    none_there : (get_or t (n - 1) 0 ≡ pad → ⊥) → drop (letter_count Standard t) t ≡ padding Standard (size (letter_count Standard t))
+    none_there f = so n 0 (ap (unmarked t) (not_marked t n f) ∙ not_marked t n f) (omega arith) (omega arith) (drop-length t)
 
     some_there : get_or t (n - 1) 0 ≡ pad → (b : Bool) → eqb (get_or t (n - 1 - 1) 0) pad ≡ b → drop (letter_count Standard t) t ≡ padding Standard (size (letter_count Standard t))
     some_there f false e =
@@ -374,7 +374,7 @@ padding_is Standard t w = ends (eqb (get_or t (n - 1) 0) pad) refl
         (two_marks t (n - 1 - 1) (omega arith) (eqb-true (get_or t (n - 1 - 1) 0) pad e) (ap (λ (x : ℕ). get_or t x 0) s ∙ f))
 
     ends : (b : Bool) → eqb (get_or t (n - 1) 0) pad ≡ b → drop (letter_count Standard t) t ≡ padding Standard (size (letter_count Standard t))
-    ends false e = none-there (eqb-false (get_or t (n - 1) 0) pad e)
+    ends false e = none_there (eqb-false (get_or t (n - 1) 0) pad e)
     ends true e = some_there (eqb-true (get_or t (n - 1) 0) pad e) (eqb (get_or t (n - 1 - 1) 0) pad) refl
 
 module _ (a : Alphabet) (t : List ℕ) where

@@ -57,11 +57,11 @@ module _ {f : List ℕ → List ℕ} {s out₀ out : List ℕ} {at i o : ℕ} (e
     piece : Writing out₀ at (f s) out o (take n q ++ f (drop (i + k) s))
     piece = writing_left e.writing next
 
-    pub pass-room : o + n ≤ length out
-    pass-room = omega (arith, writing_fits piece, long, length-append (take n q) (f (drop (i + k) s)))
+    pub pass_room : o + n ≤ length out
+    pass_room = omega (arith, writing_fits piece, long, length-append (take n q) (f (drop (i + k) s)))
 
-    pub pass-more : {q' out' : List ℕ} {o' : ℕ} → i + k ≤ length s → q' ≡ q → o' ≡ o + n → out' ≡ overwrite out o (take n q') → Pass f s out₀ at out' (i + k) o'
-    pass-more {q'} {out'} h p r w =
+    pub pass_more : {q' out' : List ℕ} {o' : ℕ} → i + k ≤ length s → q' ≡ q → o' ≡ o + n → out' ≡ overwrite out o (take n q') → Pass f s out₀ at out' (i + k) o'
+    pass_more {q'} {out'} h p r w =
         record {
           within = h;
           writing = subst (λ (m : ℕ). Writing out₀ at (f s) out' m (f (drop (i + k) s))) (ap (λ (m : ℕ). o + m) long ∙ sym r)
@@ -123,14 +123,14 @@ module _ (a : Alphabet) {s out₀ out : List ℕ} {at i o : ℕ} (e : Pass (lett
     three : ℕ
     three = from_bytes (get_or s i 0) (get_or s (i + 1) 0) (get_or s (i + 2) 0)
 
-    pub three-room : o + 4 ≤ length out
+    pub three_room : o + 4 ≤ length out
     unfolding three
-    three-room = pass-room e (quad a three) 4 3 (quad_taken a three 4 (omega arith)) (three_next a s i h)
+    three_room = pass_room e (quad a three) 4 3 (quad_taken a three 4 (omega arith)) (three_next a s i h)
 
-    pub three-more : {q out' : List ℕ} {o' : ℕ} → q ≡ quad a (from_bytes (get_or s i 0) (get_or s (i + 1) 0) (get_or s (i + 2) 0)) → o' ≡ o + 4
+    pub three_more : {q out' : List ℕ} {o' : ℕ} → q ≡ quad a (from_bytes (get_or s i 0) (get_or s (i + 1) 0) (get_or s (i + 2) 0)) → o' ≡ o + 4
         → out' ≡ overwrite out o (take 4 q) → Pass (letters a) s out₀ at out' (i + 3) o'
     unfolding three
-    three-more = pass-more e (quad a three) 4 3 (quad_taken a three 4 (omega arith)) (three_next a s i h) (omega arith)
+    three_more = pass_more e (quad a three) 4 3 (quad_taken a three 4 (omega arith)) (three_next a s i h) (omega arith)
 
   module _ (h : length s - i ≡ 1) where
     is_one : length s ≡ i + 1
@@ -139,32 +139,32 @@ module _ (a : Alphabet) {s out₀ out : List ℕ} {at i o : ℕ} (e : Pass (lett
     one : ℕ
     one = from_bytes (get_or s i 0) 0 0
 
-    pub one-room : o + 2 ≤ length out
+    pub one_room : o + 2 ≤ length out
     unfolding one
-    one-room = pass-room e (quad a one) 2 1 (quad_taken a one 2 (omega arith)) (one_next a s i is_one)
+    one_room = pass_room e (quad a one) 2 1 (quad_taken a one 2 (omega arith)) (one_next a s i is_one)
 
     pub one_end : {q out' : List ℕ} {o' : ℕ} → q ≡ quad a (from_bytes (get_or s i 0) 0 0) → o' ≡ o + 2 → out' ≡ overwrite out o (take 2 q) → Written (letters a) s out₀ at out' o'
     unfolding one
     one_end p r w =
-        pass_end (pass-more e (quad a one) 2 1 (quad_taken a one 2 (omega arith)) (one_next a s i is_one) (omega (arith, is_one)) p r w)
+        pass_end (pass_more e (quad a one) 2 1 (quad_taken a one 2 (omega arith)) (one_next a s i is_one) (omega (arith, is_one)) p r w)
         (no_letters a s (i + 1) (omega (arith, is_one)))
 
   module _ (h : length s - i ≡ 2) where
-    is-two : length s ≡ i + 2
-    is-two = omega (arith, e.within)
+    is_two : length s ≡ i + 2
+    is_two = omega (arith, e.within)
 
     two : ℕ
     two = from_bytes (get_or s i 0) (get_or s (i + 1) 0) 0
 
-    pub two-room : o + 3 ≤ length out
+    pub two_room : o + 3 ≤ length out
     unfolding two
-    two-room = pass-room e (quad a two) 3 2 (quad_taken a two 3 (omega arith)) (two_next a s i is-two)
+    two_room = pass_room e (quad a two) 3 2 (quad_taken a two 3 (omega arith)) (two_next a s i is_two)
 
-    pub two-end : {q out' : List ℕ} {o' : ℕ} → q ≡ quad a (from_bytes (get_or s i 0) (get_or s (i + 1) 0) 0) → o' ≡ o + 3 → out' ≡ overwrite out o (take 3 q) → Written (letters a) s out₀ at out' o'
+    pub two_end : {q out' : List ℕ} {o' : ℕ} → q ≡ quad a (from_bytes (get_or s i 0) (get_or s (i + 1) 0) 0) → o' ≡ o + 3 → out' ≡ overwrite out o (take 3 q) → Written (letters a) s out₀ at out' o'
     unfolding two
-    two-end p r w =
-        pass_end (pass-more e (quad a two) 3 2 (quad_taken a two 3 (omega arith)) (two_next a s i is-two) (omega (arith, is-two)) p r w)
-        (no_letters a s (i + 2) (omega (arith, is-two)))
+    two_end p r w =
+        pass_end (pass_more e (quad a two) 3 2 (quad_taken a two 3 (omega arith)) (two_next a s i is_two) (omega (arith, is_two)) p r w)
+        (no_letters a s (i + 2) (omega (arith, is_two)))
 
   pub none_end : length s ≤ i → Written (letters a) s out₀ at out o
   none_end h = pass_end e (no_letters a s i h)
@@ -196,14 +196,14 @@ module _ (a : Alphabet) (s : List ℕ) (i : ℕ) where
       (drop_one s (i + 3) h ∙ ap (λ (n : ℕ). get_or s (i + 3) 0 ∷ drop n s) (add_assoc i 3 1))
 
   -- the group of the two letters at i, with y and z as the third and the fourth
-  abbrev pub groupAt : ℕ → ℕ → ℕ
-  groupAt y z = from_digits (digit a (get_or s i 0)) (digit a (get_or s (i + 1) 0)) (digit a y) (digit a z)
+  abbrev pub group_at : ℕ → ℕ → ℕ
+  group_at y z = from_digits (digit a (get_or s i 0)) (digit a (get_or s (i + 1) 0)) (digit a y) (digit a z)
 
-  pub whole_next : i + 3 < length s → bytes a (drop i s) ≡ take 3 (four (groupAt (get_or s (i + 2) 0) (get_or s (i + 3) 0))) ++ bytes a (drop (i + 4) s)
+  pub whole_next : i + 3 < length s → bytes a (drop i s) ≡ take 3 (four (group_at (get_or s (i + 2) 0) (get_or s (i + 3) 0))) ++ bytes a (drop (i + 4) s)
   unfolding bytes triple
   whole_next h = ap (bytes a) (drop_four h)
 
-  pub byte_next : length s ≡ i + 2 → bytes a (drop i s) ≡ take 1 (four (groupAt 65 65)) ++ bytes a (drop (i + 2) s)
+  pub byte_next : length s ≡ i + 2 → bytes a (drop i s) ≡ take 1 (four (group_at 65 65)) ++ bytes a (drop (i + 2) s)
   unfolding bytes triple
   byte_next h =
       let e : length s ≤ i + 2 = omega arith in
@@ -211,7 +211,7 @@ module _ (a : Alphabet) (s : List ℕ) (i : ℕ) where
       ap (bytes a) (drop_two s i (omega arith) ∙ ap (λ (l : List ℕ). get_or s i 0 ∷ get_or s (i + 1) 0 ∷ l) d)
       ∙ (λ j. take 1 (four (from_digits (digit a (get_or s i 0)) (digit a (get_or s (i + 1) 0)) (sym (digit_zero a) j) (sym (digit_zero a) j))) ++ bytes a (sym d j))
 
-  pub bytes_next : length s ≡ i + 3 → bytes a (drop i s) ≡ take 2 (four (groupAt (get_or s (i + 2) 0) 65)) ++ bytes a (drop (i + 3) s)
+  pub bytes_next : length s ≡ i + 3 → bytes a (drop i s) ≡ take 2 (four (group_at (get_or s (i + 2) 0) 65)) ++ bytes a (drop (i + 3) s)
   unfolding bytes triple
   bytes_next h =
       let e : length s ≤ i + 3 = omega arith in
@@ -222,50 +222,50 @@ module _ (a : Alphabet) (s : List ℕ) (i : ℕ) where
 module _ (a : Alphabet) {s out₀ out : List ℕ} {at i o : ℕ} (e : Pass (bytes a) s out₀ at out i o) where
   module _ (h : i + 3 < length s) where
     whole : ℕ
-    whole = groupAt a s i (get_or s (i + 2) 0) (get_or s (i + 3) 0)
+    whole = group_at a s i (get_or s (i + 2) 0) (get_or s (i + 3) 0)
 
     pub whole_room : o + 3 ≤ length out
     unfolding whole
-    whole_room = pass-room e (four whole) 3 4 (four_taken whole 3 (omega arith)) (whole_next a s i h)
+    whole_room = pass_room e (four whole) 3 4 (four_taken whole 3 (omega arith)) (whole_next a s i h)
 
-    pub whole_more : {q out' : List ℕ} {g o' : ℕ} → g ≡ groupAt a s i (get_or s (i + 2) 0) (get_or s (i + 3) 0) → q ≡ four g → o' ≡ o + 3
+    pub whole_more : {q out' : List ℕ} {g o' : ℕ} → g ≡ group_at a s i (get_or s (i + 2) 0) (get_or s (i + 3) 0) → q ≡ four g → o' ≡ o + 3
         → out' ≡ overwrite out o (take 3 q) → Pass (bytes a) s out₀ at out' (i + 4) o'
     unfolding whole
-    whole_more p q = pass-more e (four whole) 3 4 (four_taken whole 3 (omega arith)) (whole_next a s i h) (omega arith) (q ∙ ap four p)
+    whole_more p q = pass_more e (four whole) 3 4 (four_taken whole 3 (omega arith)) (whole_next a s i h) (omega arith) (q ∙ ap four p)
 
   module _ (h : length s - i ≡ 2) where
     is_byte : length s ≡ i + 2
     is_byte = omega (arith, e.within)
 
     byte : ℕ
-    byte = groupAt a s i 65 65
+    byte = group_at a s i 65 65
 
-    pub byte-room : o + 1 ≤ length out
+    pub byte_room : o + 1 ≤ length out
     unfolding byte
-    byte-room = pass-room e (four byte) 1 2 (four_taken byte 1 (omega arith)) (byte_next a s i is_byte)
+    byte_room = pass_room e (four byte) 1 2 (four_taken byte 1 (omega arith)) (byte_next a s i is_byte)
 
-    pub byte-end : {q out' : List ℕ} {g o' : ℕ} → g ≡ groupAt a s i 65 65 → q ≡ four g → o' ≡ o + 1 → out' ≡ overwrite out o (take 1 q) → Written (bytes a) s out₀ at out' o'
+    pub byte_end : {q out' : List ℕ} {g o' : ℕ} → g ≡ group_at a s i 65 65 → q ≡ four g → o' ≡ o + 1 → out' ≡ overwrite out o (take 1 q) → Written (bytes a) s out₀ at out' o'
     unfolding byte
-    byte-end p q r w =
-        pass_end (pass-more e (four byte) 1 2 (four_taken byte 1 (omega arith)) (byte_next a s i is_byte) (omega (arith, is_byte)) (q ∙ ap four p) r w)
+    byte_end p q r w =
+        pass_end (pass_more e (four byte) 1 2 (four_taken byte 1 (omega arith)) (byte_next a s i is_byte) (omega (arith, is_byte)) (q ∙ ap four p) r w)
         (no_bytes a s (i + 2) (omega (arith, is_byte)))
 
   module _ (h : length s - i ≡ 3) where
-    is-bytes : length s ≡ i + 3
-    is-bytes = omega (arith, e.within)
+    is_bytes : length s ≡ i + 3
+    is_bytes = omega (arith, e.within)
 
     both : ℕ
-    both = groupAt a s i (get_or s (i + 2) 0) 65
+    both = group_at a s i (get_or s (i + 2) 0) 65
 
-    pub bytes-room : o + 2 ≤ length out
+    pub bytes_room : o + 2 ≤ length out
     unfolding both
-    bytes-room = pass-room e (four both) 2 3 (four_taken both 2 (omega arith)) (bytes_next a s i is-bytes)
+    bytes_room = pass_room e (four both) 2 3 (four_taken both 2 (omega arith)) (bytes_next a s i is_bytes)
 
-    pub bytes-end : {q out' : List ℕ} {g o' : ℕ} → g ≡ groupAt a s i (get_or s (i + 2) 0) 65 → q ≡ four g → o' ≡ o + 2 → out' ≡ overwrite out o (take 2 q) → Written (bytes a) s out₀ at out' o'
+    pub bytes_end : {q out' : List ℕ} {g o' : ℕ} → g ≡ group_at a s i (get_or s (i + 2) 0) 65 → q ≡ four g → o' ≡ o + 2 → out' ≡ overwrite out o (take 2 q) → Written (bytes a) s out₀ at out' o'
     unfolding both
-    bytes-end p q r w =
-        pass_end (pass-more e (four both) 2 3 (four_taken both 2 (omega arith)) (bytes_next a s i is-bytes) (omega (arith, is-bytes)) (q ∙ ap four p) r w)
-        (no_bytes a s (i + 3) (omega (arith, is-bytes)))
+    bytes_end p q r w =
+        pass_end (pass_more e (four both) 2 3 (four_taken both 2 (omega arith)) (bytes_next a s i is_bytes) (omega (arith, is_bytes)) (q ∙ ap four p) r w)
+        (no_bytes a s (i + 3) (omega (arith, is_bytes)))
 
   pub rest_end : length s ≤ i + 1 → Written (bytes a) s out₀ at out o
   rest_end h = pass_end e (no_bytes a s i h)
@@ -309,16 +309,16 @@ known_append a (x ∷ xs) ys = go (ltb (digit a x) 64) (known_append a xs ys)
 
 -- in fours
 module _ (a : Alphabet) (s : List ℕ) (i : ℕ) (h : 3 < length s - i) where
-  abbrev pub fourAt : List ℕ
-  fourAt = get_or s i 0 ∷ get_or s (i + 1) 0 ∷ get_or s (i + 2) 0 ∷ get_or s (i + 3) 0 ∷ []
+  abbrev pub four_at : List ℕ
+  four_at = get_or s i 0 ∷ get_or s (i + 1) 0 ∷ get_or s (i + 2) 0 ∷ get_or s (i + 3) 0 ∷ []
 
-  split_four : known a (drop i s) ≡ known a fourAt && known a (drop (i + 4) s)
-  split_four = ap (known a) (drop_four a s i (omega arith)) ∙ known_append a fourAt (drop (i + 4) s)
+  split_four : known a (drop i s) ≡ known a four_at && known a (drop (i + 4) s)
+  split_four = ap (known a) (drop_four a s i (omega arith)) ∙ known_append a four_at (drop (i + 4) s)
 
-  pub four_next : {t : Bool} → t ≡ known a fourAt → t ≡ true → known a (drop i s) ≡ known a (drop (i + 4) s)
+  pub four_next : {t : Bool} → t ≡ known a four_at → t ≡ true → known a (drop i s) ≡ known a (drop (i + 4) s)
   four_next e y = split_four ∙ ap (λ (b : Bool). b && known a (drop (i + 4) s)) (sym e ∙ y)
 
-  pub four_not : {t : Bool} → t ≡ known a fourAt → t ≡ false → known a (drop i s) ≡ false
+  pub four_not : {t : Bool} → t ≡ known a four_at → t ≡ false → known a (drop i s) ≡ false
   four_not e n = split_four ∙ ap (λ (b : Bool). b && known a (drop (i + 4) s)) (sym e ∙ n)
 
 -- what is lent from a place on
@@ -346,14 +346,14 @@ module _ (a : Alphabet) where
   end_is (w ∷ x ∷ y ∷ z ∷ []) = refl
   end_is (w ∷ x ∷ y ∷ z ∷ r ∷ rest) =
       end_is (r ∷ rest)
-      ∙ (λ j. end_of (mod-four (suc n) j) (digit a (get_or (r ∷ rest) (less n j) 0)))
+      ∙ (λ j. end_of (mod_four (suc n) j) (digit a (get_or (r ∷ rest) (less n j) 0)))
       ∙ ap (λ (k : ℕ). end_of (suc (suc (suc (suc (suc n)))) % 4) (digit a (get_or (w ∷ x ∷ y ∷ z ∷ r ∷ rest) k 0))) (sym (less (suc (suc (suc (suc n))))))
     where
       n : ℕ
       n = length rest
 
-      mod-four : (m : ℕ) → m % 4 ≡ suc (suc (suc (suc m))) % 4
-      mod-four m = omega arith
+      mod_four : (m : ℕ) → m % 4 ≡ suc (suc (suc (suc m))) % 4
+      mod_four m = omega arith
 
       less : (m : ℕ) → suc m - 1 ≡ m
       less m = omega arith
@@ -362,9 +362,9 @@ module _ (a : Alphabet) where
     last : ℕ
     last = digit a (get_or s (length s - 1) 0)
 
-    pub ended-0 : length s % 4 ≡ 0 → ended a s ≡ true
+    pub ended_0 : length s % 4 ≡ 0 → ended a s ≡ true
     unfolding last
-    ended-0 e = end_is s ∙ ap (λ (n : ℕ). end_of n last) e
+    ended_0 e = end_is s ∙ ap (λ (n : ℕ). end_of n last) e
 
     pub ended_1 : length s % 4 ≡ 1 → ended a s ≡ false
     unfolding last

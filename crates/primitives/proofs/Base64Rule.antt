@@ -10,8 +10,8 @@ use Rattle.primitives.specs.declared.base64.Alphabet.TheVariants.{Standard, UrlS
 use Rattle.primitives.proofs.ByteLists.{bytes_tail}
 use Rattle.primitives.proofs.Base64Letters.{digit_letter, letter_digit, letter_small, pad_foreign}
 use Rattle.primitives.proofs.Base64Laws.{decode_encode, encode_decode, decoded_bytes}
-use Rattle.primitives.proofs.BaseTexts.{read_back, read_bytes, text-only}
-use Rattle.primitives.proofs.BaseGroups.{letters-append}
+use Rattle.primitives.proofs.BaseTexts.{read_back, read_bytes, text_only}
+use Rattle.primitives.proofs.BaseGroups.{letters_append}
 
 grouped : (a : Alphabet) → 0 < group_letters a
 grouped Standard = omega arith
@@ -69,7 +69,7 @@ module _ (a : Alphabet) where
   letters_rule (x ∷ y ∷ []) p = three x y
   letters_rule (x ∷ y ∷ z ∷ rest) p =
       let q : AllBytes rest = bytes_tail (bytes_tail (bytes_tail p)) in
-      (λ i. four x y z i ++ letters_rule rest q i) ∙ sym (letters-append (base64 a) (base64_good a) (x ∷ y ∷ z ∷ []) rest 4 refl q)
+      (λ i. four x y z i ++ letters_rule rest q i) ∙ sym (letters_append (base64 a) (base64_good a) (x ∷ y ∷ z ∷ []) rest 4 refl q)
 
 -- as many '=' follow the letters
 padding_rule : (a : Alphabet) (n : ℕ) → padding_count a n ≡ fill_for (group_letters a) (letters_for 6 n)
@@ -105,5 +105,5 @@ decoding_rule a text p = go (decoding a text) (read_text (base64 a) text) refl r
     go none none e f = refl
     go none (some ys) e f =
         let q : AllBytes ys = read_bytes (base64 a) (base64_good a) text ys f in
-        let t : text ≡ encoding a ys = text-only (base64 a) (base64_good a) text ys f p ∙ sym (encoding_rule a ys q) in
+        let t : text ≡ encoding a ys = text_only (base64 a) (base64_good a) text ys f p ∙ sym (encoding_rule a ys q) in
         sym e ∙ ap (decoding a) t ∙ decode_encode a ys q

@@ -20,15 +20,15 @@ module _ (b : Base) (g : GoodBase b) where
     long : length (xs ++ ys) ≡ length xs + length ys
     long = length-append xs ys
 
-    letters-more : letters_for k (length (xs ++ ys)) ≡ m + letters_for k (length ys)
+    letters_more : letters_for k (length (xs ++ ys)) ≡ m + letters_for k (length ys)
     unfolding letters_for k
-    letters-more =
+    letters_more =
         let f : length (xs ++ ys) * 8 + (k - 1) ≡ (length ys * 8 + (k - 1)) + m * k = omega (arith, long, e) in
         ap (λ (x : ℕ). x / k) f ∙ add-mul-div_right (length ys * 8 + (k - 1)) m g.some ∙ omega arith
 
-    spare-same : spare_bits k (length (xs ++ ys)) ≡ spare_bits k (length ys)
+    spare_same : spare_bits k (length (xs ++ ys)) ≡ spare_bits k (length ys)
     unfolding spare_bits k
-    spare-same = ap (λ (c : ℕ). c * k - length (xs ++ ys) * 8) letters-more ∙ omega (arith, long, e, add-mul m (letters_for k (length ys)) k)
+    spare_same = ap (λ (c : ℕ). c * k - length (xs ++ ys) * 8) letters_more ∙ omega (arith, long, e, add-mul m (letters_for k (length ys)) k)
 
     module _ (p : AllBytes ys) where
       s : ℕ
@@ -44,15 +44,15 @@ module _ (b : Base) (g : GoodBase b) where
           ∙ ap (λ (x : ℕ). 2 ^ x) (sym (letters_bits k (length ys) g.some))
           ∙ sym (pow_bits k c)
 
-      value-more : value_of (xs ++ ys) * 2 ^ s ≡ value_of xs * (2 ^ k) ^ c + value_of ys * 2 ^ s
-      value-more =
+      value_more : value_of (xs ++ ys) * 2 ^ s ≡ value_of xs * (2 ^ k) ^ c + value_of ys * 2 ^ s
+      value_more =
           ap (λ (x : ℕ). x * 2 ^ s) (value_append xs ys) ∙ add-mul (value_of xs * 256 ^ length ys) (value_of ys) (2 ^ s)
           ∙ ap (λ (x : ℕ). x + value_of ys * 2 ^ s) (mul_assoc (value_of xs) (256 ^ length ys) (2 ^ s) ∙ ap (λ (x : ℕ). value_of xs * x) shifted)
 
-      pub letters-append : letters_of b (xs ++ ys) ≡ map b.letter (digits_of (2 ^ b.bits) m (value_of xs)) ++ letters_of b ys
+      pub letters_append : letters_of b (xs ++ ys) ≡ map b.letter (digits_of (2 ^ b.bits) m (value_of xs)) ++ letters_of b ys
       unfolding letters_of k s c
-      letters-append =
-          rw (letters-more, spare-same, value-more)
+      letters_append =
+          rw (letters_more, spare_same, value_more)
           (ap (map b.letter) (digits_join (2 ^ k) (pow_pos k) m c (value_of xs) (value_of ys * 2 ^ s) (number_small b g ys p))
           ∙ map_append b.letter (digits_of (2 ^ k) m (value_of xs)) (digits_of (2 ^ k) c (value_of ys * 2 ^ s)))
 
@@ -71,9 +71,9 @@ module _ (b : Base) (g : GoodBase b) where
     unfolding k₂
     times₂ = ap (λ (x : ℕ). x * k₂) (length-append xs ys) ∙ add-mul (length xs) (length ys) k₂ ∙ ap (λ (x : ℕ). x + length ys * k₂) e
 
-    bytes-more : bytes_for k₂ (length (xs ++ ys)) ≡ m + q₂
+    bytes_more : bytes_for k₂ (length (xs ++ ys)) ≡ m + q₂
     unfolding bytes_for q₂ k₂
-    bytes-more = ap (λ (x : ℕ). x / 8) times₂ ∙ omega arith
+    bytes_more = ap (λ (x : ℕ). x / 8) times₂ ∙ omega arith
 
     after_same : bits_after k₂ (length (xs ++ ys)) ≡ s₂
     unfolding bits_after s₂ k₂
@@ -104,8 +104,8 @@ module _ (b : Base) (g : GoodBase b) where
           number_more ∙ ap (λ (x : ℕ). number_in b xs * x + number_in b ys) power₂ ∙ omega (arith, mul_assoc (number_in b xs) (256 ^ q₂) (2 ^ s₂)) in
           ap (λ (x : ℕ). x / 2 ^ s₂) f ∙ add-mul-div_right (number_in b ys) (number_in b xs * 256 ^ q₂) (pow_pos s₂) ∙ omega arith
 
-      pub bytes-append-in : bytes_in b (xs ++ ys) ≡ bytes_of m (number_in b xs) ++ bytes_in b ys
+      pub bytes_append_in : bytes_in b (xs ++ ys) ≡ bytes_of m (number_in b xs) ++ bytes_in b ys
       unfolding bytes_in bytes_of k₂ q₂ s₂
-      bytes-append-in =
-          rw (bytes-more, after_same, shifted₂)
+      bytes_append_in =
+          rw (bytes_more, after_same, shifted₂)
           (digits_join 256 (lit< tt) m q₂ (number_in b xs) (number_in b ys / 2 ^ s₂) ((div-lt_iff_lt-mul (pow_pos s₂)).1 small₂))

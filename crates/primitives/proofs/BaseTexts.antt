@@ -43,13 +43,13 @@ module _ (k n : ℕ) (p : 0 < k) where
 
   -- the letters of n bytes hold n bytes
   module _ (h : k ≤ 8) where
-    pub bytes-for : bytes_for k (letters_for k n) ≡ n
+    pub bytes_for_lem : bytes_for k (letters_for k n) ≡ n
     unfolding bytes_for
-    bytes-for = let q = spare_lt in ap (λ (x : ℕ). x / 8) letters_bits ∙ omega arith
+    bytes_for_lem = let q = spare_lt in ap (λ (x : ℕ). x / 8) letters_bits ∙ omega arith
 
-    pub bits-after : bits_after k (letters_for k n) ≡ spare_bits k n
+    pub bits_after_lem : bits_after k (letters_for k n) ≡ spare_bits k n
     unfolding bits_after
-    bits-after = let q = spare_lt in ap (λ (x : ℕ). x % 8) letters_bits ∙ omega arith
+    bits_after_lem = let q = spare_lt in ap (λ (x : ℕ). x % 8) letters_bits ∙ omega arith
 
 pub in_bytes : (k n : ℕ) → n * k ≡ bytes_for k n * 8 + bits_after k n
 unfolding bytes_for bits_after
@@ -137,14 +137,14 @@ module _ (b : Base) (g : GoodBase b) where
     length_letters = length-map ds b.letter ∙ length_digits radix c w
 
     -- a rule of all letters
-    pub each-letter : {P : ℕ → Type 0} → ((k : ℕ) → k < 2 ^ b.bits → P (b.letter k)) → Each P (letters_of b xs)
+    pub each_letter : {P : ℕ → Type 0} → ((k : ℕ) → k < 2 ^ b.bits → P (b.letter k)) → Each P (letters_of b xs)
     unfolding letters_of n c w ds radix
-    each-letter r = each_map b.letter r below
+    each_letter r = each_map b.letter r below
 
     -- and of the letters and '='
-    pub each-of-text : {P : ℕ → Type 0} → ((k : ℕ) → k < 2 ^ b.bits → P (b.letter k)) → P fill → Each P (text_of b xs)
+    pub each_of_text : {P : ℕ → Type 0} → ((k : ℕ) → k < 2 ^ b.bits → P (b.letter k)) → P fill → Each P (text_of b xs)
     unfolding text_of
-    each-of-text r f = each_append (each-letter r) (each_replicate (fill_for b.group (letters_for b.bits (length xs))) fill f)
+    each_of_text r f = each_append (each_letter r) (each_replicate (fill_for b.group (letters_for b.bits (length xs))) fill f)
 
     pub number_small : AllBytes xs → value_of xs * 2 ^ spare_bits b.bits (length xs) < (2 ^ b.bits) ^ letters_for b.bits (length xs)
     unfolding n c w radix
@@ -152,24 +152,24 @@ module _ (b : Base) (g : GoodBase b) where
         subst (λ (m : ℕ). w < m) (ap (λ (m : ℕ). 2 ^ m) (sym (letters_bits b.bits n g.some)) ∙ sym (pow_bits b.bits c))
         (shl_lt (n * 8) (spare_bits b.bits n) (subst (λ (m : ℕ). value_of xs < m) (pow_bits 8 n) (value_lt xs p)))
 
-    number-letters : AllBytes xs → number_in b (letters_of b xs) ≡ w
+    number_letters_lem : AllBytes xs → number_in b (letters_of b xs) ≡ w
     unfolding number_in letters_of n c w ds radix
-    number-letters p = ap (number_of radix) (map_back b.digit b.letter g.back below) ∙ number_digits radix radix_some c w (number_small p)
+    number_letters_lem p = ap (number_of radix) (map_back b.digit b.letter g.back below) ∙ number_digits radix radix_some c w (number_small p)
 
     known_letters : letters_known b (letters_of b xs) ≡ true
-    known_letters = known_each b (each-letter (λ k h. subst (λ (d : ℕ). d < 2 ^ b.bits) (sym (g.back k h)) h))
+    known_letters = known_each b (each_letter (λ k h. subst (λ (d : ℕ). d < 2 ^ b.bits) (sym (g.back k h)) h))
 
     ended_letters : AllBytes xs → well_ended b (letters_of b xs) ≡ true
     unfolding well_ended n w
     ended_letters p =
         let s : ℕ = spare_bits b.bits n in
         let z : w % 2 ^ s ≡ 0 = ap (λ (x : ℕ). x % 2 ^ s) (sym (add-zero w)) ∙ low (value_of xs) s (pow_pos s) in
-        rw (length_letters, bits-after b.bits n g.some g.most, number-letters p, lt-ltb s b.bits (spare_lt b.bits n g.some), eq-eqb (w % 2 ^ s) 0 z)
+        rw (length_letters, bits_after_lem b.bits n g.some g.most, number_letters_lem p, lt-ltb s b.bits (spare_lt b.bits n g.some), eq-eqb (w % 2 ^ s) 0 z)
 
     bytes_letters : AllBytes xs → bytes_in b (letters_of b xs) ≡ xs
     unfolding bytes_in n w
     bytes_letters p =
-        rw (length_letters, bytes-for b.bits n g.some g.most, bits-after b.bits n g.some g.most, number-letters p, shl-shr (value_of xs) (spare_bits b.bits n))
+        rw (length_letters, bytes_for_lem b.bits n g.some g.most, bits_after_lem b.bits n g.some g.most, number_letters_lem p, shl-shr (value_of xs) (spare_bits b.bits n))
         (bytes_of_value xs p)
 
 -- ---- the padding
@@ -255,13 +255,13 @@ module _ (b : Base) (g : GoodBase b) where
     pads : ℕ
     pads = fill_for b.group (letters_for b.bits (length xs))
 
-    in-text : letters_in (text_of b xs) ≡ length us
+    in_text : letters_in (text_of b xs) ≡ length us
     unfolding text_of us pads
-    in-text = letters_in_lem us pads (each-letter b g xs not_fill)
+    in_text = letters_in_lem us pads (each_letter b g xs not_fill)
 
     front : take (letters_in (text_of b xs)) (text_of b xs) ≡ us
     unfolding text_of us pads
-    front = ap (λ (n : ℕ). take n (text_of b xs)) in-text ∙ take_at us (replicate pads fill) (length us) refl
+    front = ap (λ (n : ℕ). take n (text_of b xs)) in_text ∙ take_at us (replicate pads fill) (length us) refl
 
     pub length_text : length (text_of b xs) ≡ letters_for b.bits (length xs) + fill_for b.group (letters_for b.bits (length xs))
     unfolding text_of us pads
@@ -271,7 +271,7 @@ module _ (b : Base) (g : GoodBase b) where
     unfolding is_text us
     text_is p =
         let c : ℕ = letters_for b.bits (length xs) in
-        let l : letters_in (text_of b xs) ≡ c = in-text ∙ length_letters b g xs in
+        let l : letters_in (text_of b xs) ≡ c = in_text ∙ length_letters b g xs in
         let e : length (text_of b xs) ≡ letters_in (text_of b xs) + fill_for b.group (letters_in (text_of b xs)) = length_text ∙ (λ i. sym l i + fill_for b.group (sym l i)) in
         rw (eq-eqb (length (text_of b xs)) (letters_in (text_of b xs) + fill_for b.group (letters_in (text_of b xs))) e, front, ended_letters b g xs p, known_letters b g xs)
 
@@ -283,8 +283,8 @@ module _ (b : Base) (g : GoodBase b) where
   -- ---- what is accepted was written
 
   module _ (u : List ℕ) (p : AllBytes u) (known : letters_known b u ≡ true) where
-    letters-each : Each (λ x. (x < 256) × (b.digit x < 2 ^ b.bits)) u
-    letters-each = known_inverted b u p known
+    letters_each : Each (λ x. (x < 256) × (b.digit x < 2 ^ b.bits)) u
+    letters_each = known_inverted b u p known
 
     module _ (ended : well_ended b u ≡ true) where
       spared : (bits_after b.bits (length u) < b.bits) × (number_in b u % 2 ^ bits_after b.bits (length u) ≡ 0)
@@ -307,44 +307,44 @@ module _ (b : Base) (g : GoodBase b) where
 
       below₂ : Below (2 ^ b.bits) ds₂
       unfolding ds₂
-      below₂ = each_map b.digit (λ x h. h.1) letters-each
+      below₂ = each_map b.digit (λ x h. h.1) letters_each
 
       long₂ : length ds₂ ≡ length u
       unfolding ds₂
       long₂ = length-map u b.digit
 
-      w-lt₂ : w₂ < 2 ^ (m * 8 + s)
+      w_lt₂ : w₂ < 2 ^ (m * 8 + s)
       unfolding w₂ m s number_in ds₂
-      w-lt₂ = subst (λ (x : ℕ). w₂ < x) (ap (λ (l : ℕ). (2 ^ b.bits) ^ l) long₂ ∙ pow_bits b.bits (length u) ∙ ap (λ (x : ℕ). 2 ^ x) (bytes_bits b.bits (length u) spared.0)) (number_lt (2 ^ b.bits) below₂)
+      w_lt₂ = subst (λ (x : ℕ). w₂ < x) (ap (λ (l : ℕ). (2 ^ b.bits) ^ l) long₂ ∙ pow_bits b.bits (length u) ∙ ap (λ (x : ℕ). 2 ^ x) (bytes_bits b.bits (length u) spared.0)) (number_lt (2 ^ b.bits) below₂)
 
       value₂ : value_of (bytes_in b u) ≡ w₂ / 2 ^ s
       unfolding bytes_in w₂ m s
-      value₂ = value_bytes_of m (w₂ / 2 ^ s) (subst (λ (x : ℕ). w₂ / 2 ^ s < x) (sym (pow_bits 8 m)) (shr_lt (m * 8) s w-lt₂))
+      value₂ = value_bytes_of m (w₂ / 2 ^ s) (subst (λ (x : ℕ). w₂ / 2 ^ s < x) (sym (pow_bits 8 m)) (shr_lt (m * 8) s w_lt₂))
 
-      long-bytes : length (bytes_in b u) ≡ m
+      long_bytes : length (bytes_in b u) ≡ m
       unfolding bytes_in m
-      long-bytes = length_bytes_of (bytes_for b.bits (length u)) (number_in b u / 2 ^ bits_after b.bits (length u))
+      long_bytes = length_bytes_of (bytes_for b.bits (length u)) (number_in b u / 2 ^ bits_after b.bits (length u))
 
       count₂ : letters_for b.bits (length (bytes_in b u)) ≡ length u
       unfolding m
-      count₂ = ap (letters_for b.bits) long-bytes ∙ letters_for_lem b.bits (length u) spared.0
+      count₂ = ap (letters_for b.bits) long_bytes ∙ letters_for_lem b.bits (length u) spared.0
 
       spare₂ : spare_bits b.bits (length (bytes_in b u)) ≡ s
       unfolding m s
-      spare₂ = ap (spare_bits b.bits) long-bytes ∙ spare_bits_lem b.bits (length u) spared.0
+      spare₂ = ap (spare_bits b.bits) long_bytes ∙ spare_bits_lem b.bits (length u) spared.0
 
       whole₂ : w₂ / 2 ^ s * 2 ^ s ≡ w₂
       unfolding w₂ s
       whole₂ = omega (arith, split w₂ s, spared.1)
 
       -- letters that are known and end well are the letters of their bytes
-      pub letters-again : letters_of b (bytes_in b u) ≡ u
+      pub letters_again : letters_of b (bytes_in b u) ≡ u
       unfolding letters_of ds₂ w₂ number_in
-      letters-again =
+      letters_again =
           rw (count₂, spare₂, value₂, whole₂)
           (ap (λ (l : ℕ). map b.letter (digits_of (2 ^ b.bits) l (number_of (2 ^ b.bits) ds₂))) (sym long₂)
           ∙ ap (map b.letter) (digits_number (2 ^ b.bits) below₂)
-          ∙ map_back b.letter b.digit (λ x h. g.again x h.0 h.1) letters-each)
+          ∙ map_back b.letter b.digit (λ x h. g.again x h.0 h.1) letters_each)
 
   module _ (text ys : List ℕ) (e : read_text b text ≡ some ys) where
     taken : (is_text b text ≡ true) × (bytes_in b (take (letters_in text) text) ≡ ys)
@@ -360,9 +360,9 @@ module _ (b : Base) (g : GoodBase b) where
     read_bytes = subst AllBytes taken.1 (bytes_bytes_of (bytes_for b.bits (length (take (letters_in text) text))) (number_in b (take (letters_in text) text) / 2 ^ bits_after b.bits (length (take (letters_in text) text))))
 
     -- an accepted text is the text of its bytes
-    pub text-only : AllBytes text → text ≡ text_of b ys
+    pub text_only : AllBytes text → text ≡ text_of b ys
     unfolding text_of is_text
-    text-only p =
+    text_only p =
         let n : ℕ = letters_in text in
         let u : List ℕ = take n text in
         let l : length u ≡ n = length-take-le n text (letters_most text) in
@@ -370,7 +370,7 @@ module _ (b : Base) (g : GoodBase b) where
         let r = both (well_ended b u) (letters_known b u) q.1 in
         let k : length text ≡ n + fill_for b.group n = eqb-true (length text) (n + fill_for b.group n) q.0 in
         let d : length text - n ≡ fill_for b.group n = omega arith in
-        let again : letters_of b (bytes_in b u) ≡ u = letters-again u (bytes_take n p) r.1 r.0 in
+        let again : letters_of b (bytes_in b u) ≡ u = letters_again u (bytes_take n p) r.1 r.0 in
         let c : letters_for b.bits (length (bytes_in b u)) ≡ n = sym (length_letters b g (bytes_in b u)) ∙ ap length again ∙ l in
         sym (take-append-drop n text)
         ∙ (λ i. sym again i ++ (rest_fills text ∙ (λ j. replicate (d j) fill) ∙ (λ j. replicate (fill_for b.group (sym c j)) fill)) i)

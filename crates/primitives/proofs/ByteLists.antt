@@ -58,11 +58,11 @@ bytes_each {xs} p = each_of xs p
 -- ---- the test that two lists are the same
 
 false_true : false ≡ true → ⊥
-false_true e = subst isFalse e tt
+false_true e = subst is_false e tt
   where
-    isFalse : Bool → Type 0
-    isFalse true = ⊥
-    isFalse false = Unit {0}
+    is_false : Bool → Type 0
+    is_false true = ⊥
+    is_false false = Unit {0}
 
 pub same_refl : (xs : List ℕ) → same xs xs ≡ true
 unfolding same

@@ -43,18 +43,18 @@ module _ (n v : ℕ) {h : ℕ} (e : h ≡ half n) (w : n ≤ 8) where
     small : v < 2 ^ 63
     small = omega (arith, half_small n w)
 
-    pub lower-fits : SFits w64 (pos v)
-    lower-fits = record { sfits = small }
+    pub lower_fits : SFits w64 (pos v)
+    lower_fits = record { sfits = small }
 
-    pub lower-is : to_z w64 v ≡ of_twos n v
-    lower-is = to_z_pos w64 small ∙ sym (of_lower n v (omega arith))
+    pub lower_is : to_z w64 v ≡ of_twos n v
+    lower_is = to_z_pos w64 small ∙ sym (of_lower n v (omega arith))
 
   module _ (p : 0 < n) (g : h ≤ v) (l : v < 256 ^ n) where
-    pub upper-some : 1 ≤ h
-    upper-some = omega (arith, half_twice n p)
+    pub upper_some : 1 ≤ h
+    upper_some = omega (arith, half_twice n p)
 
-    pub upper-within : v - h ≤ h - 1
-    upper-within = omega (arith, half_twice n p)
+    pub upper_within : v - h ≤ h - 1
+    upper_within = omega (arith, half_twice n p)
 
     pub upper_fits : SFits w64 (pos (h - 1 - (v - h)))
     upper_fits = record { sfits = omega (arith, half_twice n p, half_small n w) }

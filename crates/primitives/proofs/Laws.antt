@@ -10,10 +10,10 @@ use Rattle.primitives.specs.Laws.{DecodingUndoesEncoding, DecodingIsExact, OneEn
 use Rattle.primitives.proofs.Base64Laws.{decode_encode, encode_decode, encoding_injective, decoded_bytes}
 use Rattle.primitives.proofs.Base64Lengths.{length_encoding}
 use Rattle.primitives.proofs.Base64Rule.{base64_good, encoding_rule, decoding_rule}
-use Rattle.primitives.proofs.BaseTexts.{read_back, read_bytes, text-only}
+use Rattle.primitives.proofs.BaseTexts.{read_back, read_bytes, text_only}
 use Rattle.primitives.proofs.Base32Laws.{base32_good, decode_encode32, encode_decode32, decoded_bytes32, length_encoding32}
 use Rattle.primitives.proofs.Numbers.{value_bytes_of, bytes_of_value}
-use Rattle.primitives.proofs.Twos.{of_twos_lem, fits_of, twos-of, counter_back, fits_value, counter_again}
+use Rattle.primitives.proofs.Twos.{of_twos_lem, fits_of, twos_of, counter_back, fits_value, counter_again}
 use Rattle.primitives.proofs.Xors.{xor_first_back}
 use Rattle.primitives.proofs.Field.{inverse_is, times_two, times_three, xtime_shifts, xtime_reduces}
 use Rattle.primitives.proofs.Over.{read_over, placed_room, length_placed}
@@ -41,7 +41,7 @@ rule_reads_back = read_back
 
 pub rule_is_exact : RuleIsExact
 rule_is_exact b g text xs p =
-    (λ e. (read_bytes b g text xs e, text-only b g text xs e p), λ q. ap (read_text b) q.1 ∙ read_back b g xs q.0)
+    (λ e. (read_bytes b g text xs e, text_only b g text xs e p), λ q. ap (read_text b) q.1 ∙ read_back b g xs q.0)
 
 pub bases_are_good : BasesAreGood
 bases_are_good = (base64_good, base32_good)
@@ -78,7 +78,7 @@ pub complement_is_read_back : ComplementIsReadBack
 complement_is_read_back n z p f = of_twos_lem n p z f
 
 pub complement_is_kept : ComplementIsKept
-complement_is_kept n v p l = (fits_of n p v l, twos-of n p v l)
+complement_is_kept n v p l = (fits_of n p v l, twos_of n p v l)
 
 pub counter_is_read_back : CounterIsReadBack
 counter_is_read_back = counter_back

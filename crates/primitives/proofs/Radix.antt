@@ -37,11 +37,11 @@ module _ (b : ℕ) where
         let e : q * b ^ suc n ≡ q * b ^ n * b = ap (λ (k : ℕ). q * k) (pow-suc b n) ∙ sym (mul_assoc q (b ^ n) b) in
         omega (arith, e, add-mul (q * b ^ n) (v / b) b, div-add-mod' v b)
 
-    pub join-div : (q * b ^ suc n + v) / b ≡ q * b ^ n + v / b
-    join-div = ap (λ (w : ℕ). w / b) whole ∙ digits_div (q * b ^ n + v / b) (mod-lt v p)
+    pub join_div : (q * b ^ suc n + v) / b ≡ q * b ^ n + v / b
+    join_div = ap (λ (w : ℕ). w / b) whole ∙ digits_div (q * b ^ n + v / b) (mod-lt v p)
 
-    pub join-mod : (q * b ^ suc n + v) % b ≡ v % b
-    join-mod = ap (λ (w : ℕ). w % b) whole ∙ digits_mod (q * b ^ n + v / b) (mod-lt v p)
+    pub join_mod : (q * b ^ suc n + v) % b ≡ v % b
+    join_mod = ap (λ (w : ℕ). w % b) whole ∙ digits_mod (q * b ^ n + v / b) (mod-lt v p)
 
     pub div_below : v < b ^ suc n → v / b < b ^ n
     div_below h = (div-lt_iff_lt-mul p).1 (subst (λ (k : ℕ). v < k) (pow-suc b n) h)
@@ -54,7 +54,7 @@ module _ (b : ℕ) where
       (λ i. digits_of b (add-zero m i) (e i)) ∙ sym (append-nil (digits_of b m q))
   digits_join p m (suc n) q v h =
       ap (λ (k : ℕ). digits_of b k (q * b ^ suc n + v)) (add-suc m n)
-      ∙ (λ i. digits_of b (m + n) (join-div p m n q v i) ++ (join-mod p m n q v i ∷ []))
+      ∙ (λ i. digits_of b (m + n) (join_div p m n q v i) ++ (join_mod p m n q v i ∷ []))
       ∙ ap (λ (l : List ℕ). l ++ (v % b ∷ [])) (digits_join p m n q (v / b) (div_below p m n q v h))
       ∙ append_assoc (digits_of b m q) (digits_of b n (v / b)) (v % b ∷ [])
 
@@ -63,7 +63,7 @@ module _ (b : ℕ) where
   unfolding digits_of
   digits_low p zero q v = refl
   digits_low p (suc n) q v =
-      (λ i. digits_of b n (join-div p 0 n q v i) ++ (join-mod p 0 n q v i ∷ []))
+      (λ i. digits_of b n (join_div p 0 n q v i) ++ (join_mod p 0 n q v i ∷ []))
       ∙ ap (λ (l : List ℕ). l ++ (v % b ∷ [])) (digits_low p n q (v / b))
 
   -- ---- the value of digits

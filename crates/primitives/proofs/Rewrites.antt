@@ -56,8 +56,8 @@ module _ (xs : List ℕ) (at : ℕ) (ys : List ℕ) where
     pub take_after : take n (overwrite xs at ys) ≡ overwrite (take n xs) at ys
     take_after = ap (take n) cut' ∙ take_at (overwrite (take n xs) at ys) (drop n xs) n long
 
-    pub drop-after : drop n (overwrite xs at ys) ≡ drop n xs
-    drop-after = ap (drop n) cut' ∙ drop_at (overwrite (take n xs) at ys) (drop n xs) n long
+    pub drop_after : drop n (overwrite xs at ys) ≡ drop n xs
+    drop_after = ap (drop n) cut' ∙ drop_at (overwrite (take n xs) at ys) (drop n xs) n long
 
   pub get_d_before : (i : ℕ) → i < at → at ≤ length xs → get_or (overwrite xs at ys) i 0 ≡ get_or xs i 0
   get_d_before i h l = sym (get_or-take at (overwrite xs at ys) i 0 h) ∙ ap (λ (k : List ℕ). get_or k i 0) (before_over xs at ys l) ∙ get_or-take at xs i 0 h
@@ -67,7 +67,7 @@ module _ (xs : List ℕ) (at : ℕ) (ys : List ℕ) where
       let k = at + length ys in
       let e : k + (i - k) ≡ i = omega arith in
       sym (get_or-drop k (overwrite xs at ys) (i - k) 0 ∙ ap (λ (j : ℕ). get_or (overwrite xs at ys) j 0) e)
-      ∙ ap (λ (r : List ℕ). get_or r (i - k) 0) (drop-after k (omega arith) l)
+      ∙ ap (λ (r : List ℕ). get_or r (i - k) 0) (drop_after k (omega arith) l)
       ∙ (get_or-drop k xs (i - k) 0 ∙ ap (λ (j : ℕ). get_or xs j 0) e)
 
   pub get_d_inside : (j : ℕ) → j < length ys → at + length ys ≤ length xs → get_or (overwrite xs at ys) (at + j) 0 ≡ get_or ys j 0
@@ -88,7 +88,7 @@ module _ (xs : List ℕ) (at : ℕ) (ys : List ℕ) where
   -- at one place
   pub over_again : (zs : List ℕ) → length ys ≡ length zs → at + length ys ≤ length xs → overwrite (overwrite xs at ys) at zs ≡ overwrite xs at zs
   unfolding overwrite
-  over_again zs e l = λ i. before_over xs at ys (omega arith) i ++ (zs ++ drop-after xs at ys (at + length zs) (omega arith) (omega arith) i)
+  over_again zs e l = λ i. before_over xs at ys (omega arith) i ++ (zs ++ drop_after xs at ys (at + length zs) (omega arith) (omega arith) i)
 
   -- at two places that do not meet
   pub over_comm : (at' : ℕ) (zs : List ℕ) → at + length ys ≤ at' → at' + length zs ≤ length xs → overwrite (overwrite xs at ys) at' zs ≡ overwrite (overwrite xs at' zs) at ys
@@ -97,6 +97,6 @@ module _ (xs : List ℕ) (at : ℕ) (ys : List ℕ) where
       let m : length (overwrite xs at ys) ≡ length xs = length_over xs at ys (omega arith) in
       let m' : length (overwrite xs at' zs) ≡ length xs = length_over xs at' zs l in
       cut (overwrite xs at ys) at' zs k h (omega arith)
-      ∙ (λ i. take_after xs at ys k (omega arith) (omega arith) i ++ overwrite (drop-after xs at ys k (omega arith) (omega arith) i) (at' - k) zs)
+      ∙ (λ i. take_after xs at ys k (omega arith) (omega arith) i ++ overwrite (drop_after xs at ys k (omega arith) (omega arith) i) (at' - k) zs)
       ∙ sym (λ i. overwrite (take_before xs at' zs k h (omega arith) i) at ys ++ drop_before xs at' zs k h (omega arith) i)
       ∙ sym (cut' (overwrite xs at' zs) at ys k (omega arith) (omega arith))

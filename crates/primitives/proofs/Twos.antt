@@ -137,8 +137,8 @@ module _ (n : ℕ) (p : 0 < n) where
     pub fits_of : fits_in n (of_twos n v) ≡ true
     fits_of = both.0
 
-    pub twos-of : twos n (of_twos n v) ≡ v
-    twos-of = both.1
+    pub twos_of : twos n (of_twos n v) ≡ v
+    twos_of = both.1
 
 -- the n low bytes of a number's 64 bits are its n bytes
 neg_low : (n k : ℕ) → n ≤ 8 → k < 256 ^ n → bytes_of n (2 ^ 64 - suc k) ≡ bytes_of n (256 ^ n - suc k)
@@ -249,7 +249,7 @@ module _ (n : ℕ) {b : List ℕ} (e : width_good n ≡ true) (p : AllBytes b) (
   pub counter_again : take n (counter_bytes n (counter_value n b)) ≡ take n b
   counter_again =
       take_counter n (counter_value n b) fits_value
-      ∙ ap (bytes_of n) (ap (twos n) (value_wide n b e) ∙ twos-of n some (value_of (take n b)) first_lt)
+      ∙ ap (bytes_of n) (ap (twos n) (value_wide n b e) ∙ twos_of n some (value_of (take n b)) first_lt)
       ∙ rw length_first at (bytes_of_value (take n b) (bytes_take n p))
 
   -- all of the bytes, if zeros follow the first n

@@ -107,22 +107,22 @@ module _ {z : ℤ} (f : SFits w64 z) where
 
   -- of a negative number: its complement is cast to u64, and the magnitude's complement is its bits
   module _ (e : lt_z (to_z w64 (of_z w64 z)) (pos 0) ≡ true) where
-    pub neg-cast : T (non_neg (to_z w64 ((2 ^ 64 - 1) - of_z w64 z))) × Fits w64 (nat_abs (to_z w64 ((2 ^ 64 - 1) - of_z w64 z)))
-    neg-cast = subst Cast (sym (not_is z f)) (neg_castable z f (tested_neg f e))
+    pub neg_cast : T (non_neg (to_z w64 ((2 ^ 64 - 1) - of_z w64 z))) × Fits w64 (nat_abs (to_z w64 ((2 ^ 64 - 1) - of_z w64 z)))
+    neg_cast = subst Cast (sym (not_is z f)) (neg_castable z f (tested_neg f e))
 
-    pub neg-mag : nat_abs (to_z w64 ((2 ^ 64 - 1) - of_z w64 z)) ≡ mag z
-    neg-mag = ap nat_abs (not_is z f) ∙ neg_nat_abs z (tested_neg f e)
+    pub neg_mag : nat_abs (to_z w64 ((2 ^ 64 - 1) - of_z w64 z)) ≡ mag z
+    neg_mag = ap nat_abs (not_is z f) ∙ neg_nat_abs z (tested_neg f e)
 
-    pub bits-neg : {m : ℕ} → m ≡ mag z → (2 ^ 64 - 1) - m ≡ of_z w64 z
-    bits-neg q = ap (λ (k : ℕ). (2 ^ 64 - 1) - k) q ∙ neg_bits z f (tested_neg f e)
+    pub bits_neg : {m : ℕ} → m ≡ mag z → (2 ^ 64 - 1) - m ≡ of_z w64 z
+    bits_neg q = ap (λ (k : ℕ). (2 ^ 64 - 1) - k) q ∙ neg_bits z f (tested_neg f e)
 
   -- of a number that is not negative
   module _ (e : lt_z (to_z w64 (of_z w64 z)) (pos 0) ≡ false) where
-    pub pos-cast : T (non_neg (to_z w64 (of_z w64 z))) × Fits w64 (nat_abs (to_z w64 (of_z w64 z)))
-    pos-cast = subst Cast (sym (to_z-of_z f)) (pos_castable z f (tested_neg f e))
+    pub pos_cast : T (non_neg (to_z w64 (of_z w64 z))) × Fits w64 (nat_abs (to_z w64 (of_z w64 z)))
+    pos_cast = subst Cast (sym (to_z-of_z f)) (pos_castable z f (tested_neg f e))
 
-    pub pos-mag : nat_abs (to_z w64 (of_z w64 z)) ≡ mag z
-    pos-mag = ap nat_abs (to_z-of_z f) ∙ sym (abs_pos z (tested_neg f e))
+    pub pos_mag : nat_abs (to_z w64 (of_z w64 z)) ≡ mag z
+    pos_mag = ap nat_abs (to_z-of_z f) ∙ sym (abs_pos z (tested_neg f e))
 
     pub bits_pos : {m : ℕ} → m ≡ mag z → m ≡ of_z w64 z
     bits_pos q = q ∙ pos_bits z (tested_neg f e)
@@ -202,14 +202,14 @@ sum_of (negsuc a) (negsuc b) f g s = omega (arith, f.sfits, g.sfits, s.sfits)
 -- a sum that does not fit
 pub no_sum : (a b : ℤ) → SFits w64 a → SFits w64 b → (up a + up b < 2 ^ 63) ⊎ (3 * 2 ^ 63 ≤ up a + up b) → ltb (mag (a +ℤ b)) (2 ^ 63) ≡ false
 no_sum a b f g o =
-    ⊎_elim (λ e. absurd (⊎_elim (λ l. omega (arith, is e)) (λ l. omega (arith, is e, up_bound (a +ℤ b) (in-range e))) o)) (λ e. e)
+    ⊎_elim (λ e. absurd (⊎_elim (λ l. omega (arith, is e)) (λ l. omega (arith, is e, up_bound (a +ℤ b) (in_range e))) o)) (λ e. e)
     (either (ltb (mag (a +ℤ b)) (2 ^ 63)))
   where
-    in-range : ltb (mag (a +ℤ b)) (2 ^ 63) ≡ true → SFits w64 (a +ℤ b)
-    in-range e = record { sfits = ltb-true _ _ e }
+    in_range : ltb (mag (a +ℤ b)) (2 ^ 63) ≡ true → SFits w64 (a +ℤ b)
+    in_range e = record { sfits = ltb-true _ _ e }
 
     is : ltb (mag (a +ℤ b)) (2 ^ 63) ≡ true → up (a +ℤ b) + 2 ^ 63 ≡ up a + up b
-    is e = sum_of a b f g (in-range e)
+    is e = sum_of a b f g (in_range e)
 
 pub record Difference (a b : ℤ) : Type 0 where
   pub fits : SFits w64 (a -ℤ b)

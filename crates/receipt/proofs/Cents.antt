@@ -135,9 +135,9 @@ module _ {m : ℕ} (h : m < read_limit) where
     unfolding read_amount
     read_below q = rw (machine, eq-eqb _ 45 (first ∙ q), ← e) (to_z-of_z (negative_fits m h))
 
-    pub read-from : (get_or text at 0 ≡ 45 → ⊥) → to_z w64 m ≡ read_amount (drop at text)
+    pub read_from : (get_or text at 0 ≡ 45 → ⊥) → to_z w64 m ≡ read_amount (drop at text)
     unfolding read_amount
-    read-from q = rw (ne_eqb _ 45 (λ p. q (sym first ∙ p)), ← e) positive
+    read_from q = rw (ne_eqb _ 45 (λ p. q (sym first ∙ p)), ← e) positive
 
     pub read_none : length text ≤ at → to_z w64 m ≡ read_amount (drop at text)
-    read_none l = read-from (λ q. let z = get_or-eq_default text 0 l in omega arith)
+    read_none l = read_from (λ q. let z = get_or-eq_default text 0 l in omega arith)

@@ -121,23 +121,23 @@ module _ (schedule : List (List ℕ)) (id : Name) (number n : ℕ) where
   long_enough z = omega (arith, length_counter_bytes n z, length_cipher schedule (iv id number))
 
   module _ (z : ℤ) where
-    pub length-encrypted : length (encrypted_counter schedule id number n z) ≡ 8
+    pub length_encrypted : length (encrypted_counter schedule id number n z) ≡ 8
     unfolding encrypted_counter
-    length-encrypted = length_xor_first n (counter_bytes n z) (key_stream schedule id number) (long_enough z) ∙ length_counter_bytes n z
+    length_encrypted = length_xor_first n (counter_bytes n z) (key_stream schedule id number) (long_enough z) ∙ length_counter_bytes n z
 
-    pub bytes-encrypted : AllWords schedule → AllBytes (encrypted_counter schedule id number n z)
+    pub bytes_encrypted : AllWords schedule → AllBytes (encrypted_counter schedule id number n z)
     unfolding encrypted_counter key_stream
-    bytes-encrypted w = bytes_xor_first n (bytes_counter_bytes n z) (cipher_bytes (iv id number) w)
+    bytes_encrypted w = bytes_xor_first n (bytes_counter_bytes n z) (cipher_bytes (iv id number) w)
 
     -- zeros after the n bytes
-    pub after-encrypted : drop n (encrypted_counter schedule id number n z) ≡ replicate (8 - n) 0
+    pub after_encrypted : drop n (encrypted_counter schedule id number n z) ≡ replicate (8 - n) 0
     unfolding encrypted_counter
-    after-encrypted = after_xor_first n (counter_bytes n z) (key_stream schedule id number) (long_enough z) ∙ after_counter n z
+    after_encrypted = after_xor_first n (counter_bytes n z) (key_stream schedule id number) (long_enough z) ∙ after_counter n z
 
     -- what was encrypted is decrypted
-    pub decrypt-back : counter_fits n z ≡ true → decrypted_counter schedule id number n (encrypted_counter schedule id number n z) ≡ z
+    pub decrypt_back : counter_fits n z ≡ true → decrypted_counter schedule id number n (encrypted_counter schedule id number n z) ≡ z
     unfolding encrypted_counter decrypted_counter
-    decrypt-back e = ap (counter_value n) (xor_first_back n (counter_bytes n z) (key_stream schedule id number) (long_enough z)) ∙ counter_back n z e
+    decrypt_back e = ap (counter_value n) (xor_first_back n (counter_bytes n z) (key_stream schedule id number) (long_enough z)) ∙ counter_back n z e
 
 -- ---- a counter that does not fit n bytes
 
@@ -148,7 +148,7 @@ nothing_to_encrypt schedule id number n counter e = ap (λ (b : List ℕ). xor_f
 -- ---- the statements
 
 pub decryption_undoes_encryption : DecryptionUndoesEncryption
-decryption_undoes_encryption schedule id number n counter e = decrypt-back schedule id number n counter e
+decryption_undoes_encryption schedule id number n counter e = decrypt_back schedule id number n counter e
 
 pub one_hash_input : OneHashInput
 one_hash_input id a b h k e = input_same id a b h k e

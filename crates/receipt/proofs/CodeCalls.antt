@@ -142,15 +142,15 @@ module _ (code out sig : List ℕ) (r : Reading) (e : found r.good (take r.paylo
     made : List ℕ
     made = signed_form (parts (take (r.payload - 0) code) (take (r.signature - 0) sig))
 
-    pub uncode-full : a ≡ 0 → (record { number = 23; length = 0 } ≡ uncode_answer code out) × (out' ≡ uncode_buffer code out)
+    pub uncode_full : a ≡ 0 → (record { number = 23; length = 0 } ≡ uncode_answer code out) × (out' ≡ uncode_buffer code out)
     unfolding uncode_answer uncode_buffer made
-    uncode-full z =
+    uncode_full z =
         let l : 1 ≤ length made = omega (arith, length_form (parts (take (r.payload - 0) code) (take (r.signature - 0) sig))) in
         (rw (sym taken) (wrote_none out made a h.0 z l), rw (sym taken) h.1)
 
-    pub uncode-written : (a ≡ 0 → ⊥) → (record { number = 0; length = a } ≡ uncode_answer code out) × (out' ≡ uncode_buffer code out)
+    pub uncode_written : (a ≡ 0 → ⊥) → (record { number = 0; length = a } ≡ uncode_answer code out) × (out' ≡ uncode_buffer code out)
     unfolding uncode_answer uncode_buffer made
-    uncode-written z = (rw (sym taken) (wrote_some out made a h.0 z), rw (sym taken) h.1)
+    uncode_written z = (rw (sym taken) (wrote_some out made a h.0 z), rw (sym taken) h.1)
 
 -- ---- the ID field
 
@@ -178,8 +178,8 @@ module _ (code sig : List ℕ) (r : Reading) (e : found r.good (take r.payload c
     start_is = ap (λ (k : ℕ). k + 1) (er ∙ ap (λ (l : List ℕ). next_at 95 l 1) (lent_front code r.payload))
 
     -- the second mark stands in the payload, or at its end
-    pub second-small : f ≤ longest_payload + 1
-    second-small = omega (arith, er, next_most 95 (take (r.payload - 0) code) 1, (code_lengths code sig r e t).0)
+    pub second_small : f ≤ longest_payload + 1
+    second_small = omega (arith, er, next_most 95 (take (r.payload - 0) code) 1, (code_lengths code sig r e t).0)
 
     module _ {k : ℕ} (ek : k ≡ next_at 95 (take (r.payload - 0) code) (f + 1)) (within : r.payload ≤ length code) where
       end_is : k ≡ id_end p
@@ -199,17 +199,17 @@ module _ (code sig : List ℕ) (r : Reading) (e : found r.good (take r.payload c
       unfolding id_place
       missing h w = none_placed code h (rw (sym q, w))
 
-      pub id-unended : {x : Part} → x ≡ nowhere → r.payload ≤ k → Placed code x
+      pub id_unended : {x : Part} → x ≡ nowhere → r.payload ≤ k → Placed code x
       unfolding id_there
-      id-unended h l = missing h (rw (le-ltb (id_end p) (length p) (omega (arith, long, end_is))))
+      id_unended h l = missing h (rw (le-ltb (id_end p) (length p) (omega (arith, long, end_is))))
 
       module _ (h : k < r.payload) where
         ended : ltb (id_end p) (length p) ≡ true
         ended = lt-ltb (id_end p) (length p) (omega (arith, long, end_is))
 
-        pub id-empty : {x : Part} → x ≡ nowhere → k ≤ f + 1 → Placed code x
+        pub id_empty : {x : Part} → x ≡ nowhere → k ≤ f + 1 → Placed code x
         unfolding id_there
-        id-empty g l = missing g (rw (ended, le-ltb (id_start p) (id_end p) (omega (arith, start_is, end_is))))
+        id_empty g l = missing g (rw (ended, le-ltb (id_start p) (id_end p) (omega (arith, start_is, end_is))))
 
         pub id_there_lem : f + 1 < k → Placed code (record { start = f + 1; end = k })
         unfolding id_place id_there p

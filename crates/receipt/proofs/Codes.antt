@@ -21,7 +21,7 @@ use Rattle.receipt.specs.Payload.{longest_payload}
 use Rattle.receipt.specs.CodeLaws.{CodeIsExact, CodeIsShort, UncodeAfterCode, CodeAfterUncode}
 use Rattle.receipt.proofs.Finding.{last_is, last_without}
 use Rattle.receipt.proofs.CodeTexts.{good_payload, good_signature, good_some, Inverted, good_inverted, exactly}
-use Rattle.receipt.proofs.Forms.{chosen, cut, form-good, form_bytes, form_back, form-only}
+use Rattle.receipt.proofs.Forms.{chosen, cut, form_good, form_bytes, form_back, form_only}
 use Rattle.receipt.proofs.Undoing.{round}
 
 -- ---- code
@@ -116,8 +116,8 @@ code_short = code_short_of
 pub uncode_code : UncodeAfterCode
 unfolding code_answer code_buffer uncode_answer uncode_buffer
 uncode_code form out again b accepted room =
-    round 22 24 code_text signed_form (parts_of_form form) parts_of_code form out again (λ e. absurd (omega arith)) (λ p e. form-only form p e b)
-    (λ p e. code_back p (form-good form p e) (form_bytes form p e)) accepted room
+    round 22 24 code_text signed_form (parts_of_form form) parts_of_code form out again (λ e. absurd (omega arith)) (λ p e. form_only form p e b)
+    (λ p e. code_back p (form_good form p e) (form_bytes form p e)) accepted room
 
 pub code_uncode : CodeAfterUncode
 unfolding code_answer code_buffer uncode_answer uncode_buffer

@@ -76,22 +76,22 @@ module _ {zs : List ℤ} {sum i : ℕ} (s : Summing zs sum i) where
     limited : nat_abs z ≤ amount_limit
     limited = within_most z here.0
 
-    added-small : nat_abs (s.value +ℤ z) ≤ (i + 1) * amount_limit
-    added-small = omega (arith, sum_abs s.value z, s.small, limited)
+    added_small : nat_abs (s.value +ℤ z) ≤ (i + 1) * amount_limit
+    added_small = omega (arith, sum_abs s.value z, s.small, limited)
 
     plain : to_z w64 sum +ℤ to_z w64 (of_z w64 z) ≡ s.value +ℤ z
     plain = let f : SFits w64 z = record { sfits = omega (arith, mag_abs z, limited) } in (λ j. read j +ℤ to_z-of_z f j)
 
-    pub adding-fits : SFits w64 (to_z w64 sum +ℤ to_z w64 (of_z w64 z))
-    adding-fits = subst (SFits w64) (sym plain) (record { sfits = omega (arith, mag_abs (s.value +ℤ z), added-small) })
+    pub adding_fits : SFits w64 (to_z w64 sum +ℤ to_z w64 (of_z w64 z))
+    adding_fits = subst (SFits w64) (sym plain) (record { sfits = omega (arith, mag_abs (s.value +ℤ z), added_small) })
 
-    pub summing-more : Summing zs (of_z w64 (to_z w64 sum +ℤ to_z w64 (of_z w64 z))) (i + 1)
+    pub summing_more : Summing zs (of_z w64 (to_z w64 sum +ℤ to_z w64 (of_z w64 z))) (i + 1)
     unfolding total
-    summing-more =
+    summing_more =
         record {
           value = s.value +ℤ z;
           bits = ap (of_z w64) plain;
-          small = added-small;
+          small = added_small;
           within = omega arith;
           good = here.1;
           left = +ℤ_assoc s.value z (total (drop (i + 1) zs)) ∙ ap (λ (l : List ℤ). s.value +ℤ total l) (sym (drop_here zs i (omega arith))) ∙ s.left;
@@ -170,13 +170,13 @@ module _ (n : ℕ) (z : ℤ) (d : Details) where
   after_beyond e = rw e
 
   module _ (g : amounts_good d.amounts ≡ true) where
-    pub after-no : counter_fits n (z +ℤ counted d) ≡ false → counter_after n z d ≡ record { fits = false; counter = z }
+    pub after_no : counter_fits n (z +ℤ counted d) ≡ false → counter_after n z d ≡ record { fits = false; counter = z }
     unfolding counter_after
-    after-no e = rw (g, e)
+    after_no e = rw (g, e)
 
-    pub after-yes : counter_fits n (z +ℤ counted d) ≡ true → counter_after n z d ≡ record { fits = true; counter = z +ℤ counted d }
+    pub after_yes : counter_fits n (z +ℤ counted d) ≡ true → counter_after n z d ≡ record { fits = true; counter = z +ℤ counted d }
     unfolding counter_after
-    after-yes e = rw (g, e)
+    after_yes e = rw (g, e)
 
   -- a counter that was taken is the sum, and fits
   pub after_fits : (counter_after n z d).fits ≡ true → Added n z d
@@ -185,14 +185,14 @@ module _ (n : ℕ) (z : ℤ) (d : Details) where
     where
       go : (g f : Bool) → amounts_good d.amounts ≡ g → counter_fits n (z +ℤ counted d) ≡ f
           → (cond {A = After} (g && f) (record { fits = true; counter = z +ℤ counted d }) (as_before z)).fits ≡ true → Added n z d
-      go true true p q e = record { good = p; fits = q; is = after-yes p q }
+      go true true p q e = record { good = p; fits = q; is = after_yes p q }
       go true false p q e = true-is-not-false e
       go false f p q e = true-is-not-false e
 
   -- the code's steps, whose signed numbers stand as their bits
   module _ (fz : SFits w64 z) where
-    pub refused-beyond : amounts_good d.amounts ≡ false → as_before (to_z w64 (of_z w64 z)) ≡ counter_after n z d
-    refused-beyond e = ap as_before (to_z-of_z fz) ∙ sym (after_beyond e)
+    pub refused_beyond : amounts_good d.amounts ≡ false → as_before (to_z w64 (of_z w64 z)) ≡ counter_after n z d
+    refused_beyond e = ap as_before (to_z-of_z fz) ∙ sym (after_beyond e)
 
     module _ (g : amounts_good d.amounts ≡ true) {x : ℤ} {r : Sum} (fx : SFits w64 x) (e : x ≡ counted d)
         (q : r ≡ checked_sum (to_z w64 (of_z w64 z)) (to_z w64 (of_z w64 x))) where
@@ -212,7 +212,7 @@ module _ (n : ℕ) (z : ℤ) (d : Details) where
           go false p = refl
 
       pub refused_over : r ≡ Over → as_before (to_z w64 (of_z w64 z)) ≡ counter_after n z d
-      refused_over o = ap as_before (to_z-of_z fz) ∙ sym (after-no g (too_large o))
+      refused_over o = ap as_before (to_z-of_z fz) ∙ sym (after_no g (too_large o))
 
       module _ {v : ℤ} (p : r ≡ Is v) where
         sum_is : (v ≡ z +ℤ counted d) × SFits w64 v
@@ -221,8 +221,8 @@ module _ (n : ℕ) (z : ℤ) (d : Details) where
         fit : counter_fits n (to_z w64 (of_z w64 v)) ≡ counter_fits n (z +ℤ counted d)
         fit = ap (counter_fits n) (to_z-of_z sum_is.1 ∙ sum_is.0)
 
-        pub refused-fit : counter_fits n (to_z w64 (of_z w64 v)) ≡ false → as_before (to_z w64 (of_z w64 z)) ≡ counter_after n z d
-        refused-fit f = ap as_before (to_z-of_z fz) ∙ sym (after-no g (sym fit ∙ f))
+        pub refused_fit : counter_fits n (to_z w64 (of_z w64 v)) ≡ false → as_before (to_z w64 (of_z w64 z)) ≡ counter_after n z d
+        refused_fit f = ap as_before (to_z-of_z fz) ∙ sym (after_no g (sym fit ∙ f))
 
-        pub accepted-fit : counter_fits n (to_z w64 (of_z w64 v)) ≡ true → ◌≡◌ {A = After} (record { fits = true; counter = to_z w64 (of_z w64 v) }) (counter_after n z d)
-        accepted-fit f = (λ i. record { fits = true; counter = (to_z-of_z sum_is.1 ∙ sum_is.0) i }) ∙ sym (after-yes g (sym fit ∙ f))
+        pub accepted_fit : counter_fits n (to_z w64 (of_z w64 v)) ≡ true → ◌≡◌ {A = After} (record { fits = true; counter = to_z w64 (of_z w64 v) }) (counter_after n z d)
+        accepted_fit f = (λ i. record { fits = true; counter = (to_z-of_z sum_is.1 ∙ sum_is.0) i }) ∙ sym (after_yes g (sym fit ∙ f))

@@ -19,7 +19,7 @@ use Rattle.receipt.specs.declared.datetime.DateTime.{DateTime}
 use Rattle.receipt.specs.declared.details.Kind.{Kind}
 use Rattle.receipt.specs.declared.details.Kind.TheVariants.{Standard, Cancellation, Training}
 use Rattle.receipt.specs.declared.details.Details.{Details}
-use Rattle.receipt.proofs.Counting.{start_both, after_beyond, after-no, after-yes}
+use Rattle.receipt.proofs.Counting.{start_both, after_beyond, after_no, after_yes}
 use Rattle.receipt.proofs.Dates.{days_few}
 use Rattle.receipt.proofs.PaperCases.{cancellation_letters, training_letters}
 
@@ -204,8 +204,8 @@ counted_is_the_amounts d =
 pub counter_after_adds : CounterAfterAdds
 counter_after_adds n z d =
     record {
-      fits = λ g f. after-yes n z d ((amounts_mean d.amounts).always g) f;
-      over = λ f. go (amounts_good d.amounts) refl (λ g. after-no n z d g f);
+      fits = λ g f. after_yes n z d ((amounts_mean d.amounts).always g) f;
+      over = λ f. go (amounts_good d.amounts) refl (λ g. after_no n z d g f);
       beyond = λ b. go (amounts_good d.amounts) refl (λ g. absurd (b ((amounts_mean d.amounts).only g)));
     }
   where

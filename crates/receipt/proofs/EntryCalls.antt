@@ -88,12 +88,12 @@ module _ (s : Settings) (n : ℕ) (f : PayloadFields) where
         let p = preparable_true s n f e in
         omega (arith, payload_most s n f ts p.sized tf p.fields)
 
-    pub payload-room : (sized s ≡ true) × (width_good n ≡ true) × (0 + length (payload s n f) ≤ length out)
-    payload-room = let p = preparable_true s n f e in (p.sized, p.width, fits)
+    pub payload_room : (sized s ≡ true) × (width_good n ≡ true) × (0 + length (payload s n f) ≤ length out)
+    payload_room = let p = preparable_true s n f e in (p.sized, p.width, fits)
 
-    pub payload-some : {r : ℕ} {out₁ : List ℕ} → (r ≡ 0 + length (payload s n f)) × (out₁ ≡ overwrite out 0 (payload s n f))
+    pub payload_some : {r : ℕ} {out₁ : List ℕ} → (r ≡ 0 + length (payload s n f)) × (out₁ ≡ overwrite out 0 (payload s n f))
         → (r ≤ longest_payload) × (take r out₁ ≡ cond (preparable s n f) (payload s n f) [])
-    payload-some {r} h =
+    payload_some {r} h =
         let q : r ≡ length (payload s n f) = omega (arith, h.0) in
         (omega (arith, fits), rw e ((λ i. take (q i) (h.1 i)) ∙ read_over out 0 (payload s n f) fits))
 
@@ -108,8 +108,8 @@ module _ (s : Settings) (n : ℕ) (f : PayloadFields) where
             absurd (omega (arith, ap length k, length-take-le m pay (omega (arith, h.0)), payload_long s n f))
         go false e = refl
 
-    pub is-prepared : (m ≡ 0 → ⊥) → preparable s n f ≡ true
-    is-prepared z = go (preparable s n f) refl
+    pub is_prepared : (m ≡ 0 → ⊥) → preparable s n f ≡ true
+    is_prepared z = go (preparable s n f) refl
       where
         go : (t : Bool) → preparable s n f ≡ t → t ≡ true
         go true e = refl
@@ -118,7 +118,7 @@ module _ (s : Settings) (n : ℕ) (f : PayloadFields) where
             absurd (z (sym (length-take-le m pay (omega (arith, h.0))) ∙ ap length k))
 
     pub payload_is : (m ≡ 0 → ⊥) → take (m - 0) pay ≡ payload s n f
-    payload_is z = lent_front pay m ∙ (rw (is-prepared z) at h.1)
+    payload_is z = lent_front pay m ∙ (rw (is_prepared z) at h.1)
 
 -- ---- writing
 
@@ -144,27 +144,27 @@ module _ (out : List ℕ) (at : ℕ) where
     pub no_payload : preparable s n e.fields ≡ false → (at ≡ place_after out at (spelled s n e)) × (out ≡ placed out at (spelled s n e))
     no_payload q = unspelled (spellable_is s n e ∙ ap (λ (t : Bool). t && signature_zero e.signature) q)
 
-    pub stray-bytes : signature_zero e.signature ≡ false → (at ≡ place_after out at (spelled s n e)) × (out ≡ placed out at (spelled s n e))
-    stray-bytes q = unspelled (spellable_is s n e ∙ ap (λ (t : Bool). preparable s n e.fields && t) q ∙ and-false (preparable s n e.fields))
+    pub stray_bytes : signature_zero e.signature ≡ false → (at ≡ place_after out at (spelled s n e)) × (out ≡ placed out at (spelled s n e))
+    stray_bytes q = unspelled (spellable_is s n e ∙ ap (λ (t : Bool). preparable s n e.fields && t) q ∙ and-false (preparable s n e.fields))
 
-    pub wrote-compact : {r : ℕ} {out₁ p : List ℕ} → preparable s n e.fields ≡ true → signature_zero e.signature ≡ true → p ≡ payload s n e.fields
+    pub wrote_compact : {r : ℕ} {out₁ p : List ℕ} → preparable s n e.fields ≡ true → signature_zero e.signature ≡ true → p ≡ payload s n e.fields
         → (r ≡ place_after out at (signed_form (parts p (signature_text e.signature)))) × (out₁ ≡ placed out at (signed_form (parts p (signature_text e.signature))))
         → (r ≡ place_after out at (spelled s n e)) × (out₁ ≡ placed out at (spelled s n e))
     unfolding spelled compact
-    wrote-compact {p = p} a b q h =
+    wrote_compact {p = p} a b q h =
         let w : spellable s n e ≡ true = spellable_is s n e ∙ rw (a, b) in
         rw (w, sym q) h
 
   module _ (s : Settings) (n : ℕ) (f : PayloadFields) where
-    pub no-input : preparable s n f ≡ false → (at ≡ place_after out at (prepared s n f)) × (out ≡ placed out at (prepared s n f))
+    pub no_input : preparable s n f ≡ false → (at ≡ place_after out at (prepared s n f)) × (out ≡ placed out at (prepared s n f))
     unfolding prepared
-    no-input q = rw q (empty out at)
+    no_input q = rw q (empty out at)
 
-    pub wrote-input : {r : ℕ} {out₁ p : List ℕ} → preparable s n f ≡ true → p ≡ payload s n f
+    pub wrote_input : {r : ℕ} {out₁ p : List ℕ} → preparable s n f ≡ true → p ≡ payload s n f
         → (r ≡ place_after out at (signed_input p)) × (out₁ ≡ placed out at (signed_input p))
         → (r ≡ place_after out at (prepared s n f)) × (out₁ ≡ placed out at (prepared s n f))
     unfolding prepared signing_input
-    wrote-input a q h = rw (a, sym q) h
+    wrote_input a q h = rw (a, sym q) h
 
 -- ---- the signature
 
@@ -219,9 +219,9 @@ module _ (s : Settings) (n : ℕ) (text pay sig : List ℕ) (r : Reading) (e : f
     taken : some (parts (take (r.payload - 0) pay) (take r.signature sig)) ≡ parts_of_form text
     taken = rw (lent_front pay r.payload) (found_some r.good (take r.payload pay) (take r.signature sig) e t)
 
-    pub read-other : spells s n f (take (r.payload - 0) pay) ≡ false → no_entry ≡ read_entry s n text
+    pub read_other : spells s n f (take (r.payload - 0) pay) ≡ false → no_entry ≡ read_entry s n text
     unfolding read_entry entry_of
-    read-other q = rw (sym taken, sym fs, q)
+    read_other q = rw (sym taken, sym fs, q)
 
     pub read_found : {g : Signature} → spells s n f (take (r.payload - 0) pay) ≡ true → g ≡ signature_of (take r.signature sig)
         → record { ok = true; entry = record { fields = f; signature = g } } ≡ read_entry s n text

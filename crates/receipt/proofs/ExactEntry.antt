@@ -33,7 +33,7 @@ use Rattle.receipt.proofs.PayloadBack.{payload_back, read_typed, blank_typed}
 use Rattle.receipt.proofs.Names.{zeros_are, zeros_good}
 use Rattle.receipt.proofs.Texts.{failure_long, failure_bytes, first_long}
 use Rattle.receipt.proofs.CodeTexts.{payload_mark, signature_whole}
-use Rattle.receipt.proofs.Forms.{form_back, form-only, form_short, form-good, form_bytes, form_dot, length_form}
+use Rattle.receipt.proofs.Forms.{form_back, form_only, form_short, form_good, form_bytes, form_dot, length_form}
 use Rattle.receipt.proofs.EntryCalls.{preparable_made, spellable_is, spellable_true, spells_is, preparable_true}
 
 -- ---- the signature and its text
@@ -111,49 +111,49 @@ module _ (s : Settings) (n : ℕ) (e : Entry) where
   is_form = refl
 
   module _ (te : TypedEntry e) where
-    compact-long-of : 42 < length (compact s n e)
+    compact_long_of : 42 < length (compact s n e)
     unfolding p
-    compact-long-of = omega (arith, ap length is_form, length_form p, text_long e.signature te.signature)
+    compact_long_of = omega (arith, ap length is_form, length_form p, text_long e.signature te.signature)
 
     module _ (ts : SettingsLengths s) (g : spellable s n e ≡ true) where
-      pub parts-good : parts_good (parts (payload s n e.fields) (signature_text e.signature)) ≡ true
+      pub parts_good_lem : parts_good (parts (payload s n e.fields) (signature_text e.signature)) ≡ true
       unfolding p
-      parts-good =
+      parts_good_lem =
           let f = e.fields in
           let c = (spellable_true s n e g).fields in
           rw (payload_good_lem s n f (payload_short s n f ts c.sized te.fields c.fields)) (text_good e.signature te.signature)
 
-      pub parts-bytes : SettingsBytes s → PartsOfBytes (parts (payload s n e.fields) (signature_text e.signature))
+      pub parts_bytes : SettingsBytes s → PartsOfBytes (parts (payload s n e.fields) (signature_text e.signature))
       unfolding p
-      parts-bytes bs = record { payload = payload_bytes_lem s n e.fields bs; signature = text_bytes e.signature te.signature_bytes }
+      parts_bytes bs = record { payload = payload_bytes_lem s n e.fields bs; signature = text_bytes e.signature te.signature_bytes }
 
-      compact-short-of : length (compact s n e) ≤ longest_compact
+      compact_short_of : length (compact s n e) ≤ longest_compact
       unfolding p
-      compact-short-of = omega (arith, ap length is_form, form_short p parts-good)
+      compact_short_of = omega (arith, ap length is_form, form_short p parts_good_lem)
 
       -- an entry is read back from its compact form
-      back-of : SettingsBytes s → read_entry s n (compact s n e) ≡ record { ok = true; entry = e }
+      back_of : SettingsBytes s → read_entry s n (compact s n e) ≡ record { ok = true; entry = e }
       unfolding read_entry entry_of p
-      back-of bs =
+      back_of bs =
           let f = e.fields in
           let can = spellable_true s n e g in
           let c = can.fields in
           let r : read_fields s n (payload s n f) ≡ f = payload_back s n f ts c.sized c.width te.fields c.fields in
-          let o : parts_of_form (compact s n e) ≡ some p = ap parts_of_form is_form ∙ form_back p parts-good (parts-bytes bs) in
+          let o : parts_of_form (compact s n e) ≡ some p = ap parts_of_form is_form ∙ form_back p parts_good_lem (parts_bytes bs) in
           let w : spells s n f (payload s n f) ≡ true = spells_is s n f (payload s n f) ∙ rw (preparable_made s n f c) (same_refl (payload s n f)) in
           rw (o, r, w, signature_back e.signature te.signature can.signature)
 
 pub back : EntryIsReadBack
-back s n e ts bs te g = back-of s n e te ts g bs
+back s n e ts bs te g = back_of s n e te ts g bs
 
 pub payload_is_short : PayloadIsShort
 payload_is_short s n f ts tf g = let p = preparable_true s n f g in payload_short s n f ts p.sized tf p.fields
 
 pub compact_short : CompactIsShort
-compact_short s n e ts te g = compact-short-of s n e te ts g
+compact_short s n e ts te g = compact_short_of s n e te ts g
 
 pub compact_long : CompactIsLong
-compact_long s n e te = compact-long-of s n e te
+compact_long s n e te = compact_long_of s n e te
 
 pub compact_bytes : CompactIsBytes
 unfolding compact signed_form
@@ -219,7 +219,7 @@ module _ (s : Settings) (n : ℕ) (text : List ℕ) where
           f = read_fields s n q.payload
 
           r : Right q.signature (signature_of q.signature)
-          r = signature_right q.signature (form_bytes text q eq).signature (both (payload_good q.payload) (signature_good q.signature) (form-good text q eq)).1
+          r = signature_right q.signature (form_bytes text q eq).signature (both (payload_good q.payload) (signature_good q.signature) (form_good text q eq)).1
 
           e : Entry
           e = record { fields = f; signature = signature_of q.signature }
@@ -230,14 +230,14 @@ module _ (s : Settings) (n : ℕ) (text : List ℕ) where
               let c = both (preparable s n f) (same (payload s n f) q.payload) (sym (spells_is s n f q.payload) ∙ w) in
               let pq : payload s n f ≡ q.payload = same_true (payload s n f) q.payload c.1 in
               let sq : signature_text (signature_of q.signature) ≡ q.signature = r.is in
-              (spellable_is s n e ∙ rw c.0 r.zero, form-only text q eq b ∙ (λ i. signed_form (parts (sym pq i) (sym sq i))))
+              (spellable_is s n e ∙ rw c.0 r.zero, form_only text q eq b ∙ (λ i. signed_form (parts (sym pq i) (sym sq i))))
           try false w k = true-is-not-false k
 
 pub found_typed : FoundIsTyped
 unfolding read_entry
 found_typed s n text =
     found_typed_of s n (parts_of_form text)
-    (λ q e. ((both (payload_good q.payload) (signature_good q.signature) (form-good text q e)).1, (form_bytes text q e).signature))
+    (λ q e. ((both (payload_good q.payload) (signature_good q.signature) (form_good text q e)).1, (form_bytes text q e).signature))
 
 -- nothing is found in a text that is refused
 refused : (s : Settings) (n : ℕ) (text : List ℕ) → (read_entry s n text).ok ≡ false → read_entry s n text ≡ no_entry

@@ -114,37 +114,37 @@ module _ (t : List ℕ) where
       ∷ (drop-drop (suc (e - from)) from t ∙ ap (λ (n : ℕ). drop n t) d₁) i))
 
   module _ (p : Parts) (e : parts_of_form t ≡ some p) where
-    form-inverted : (second_dot t < length t) × Inverted (decoding UrlSafe (part 21 (second_dot t) t)) (decoding UrlSafe (drop (second_dot t + 1) t)) p
+    form_inverted : (second_dot t < length t) × Inverted (decoding UrlSafe (part 21 (second_dot t) t)) (decoding UrlSafe (drop (second_dot t + 1) t)) p
     unfolding parts_of_form
-    form-inverted =
+    form_inverted =
         let c = chosen (ltb (second_dot t) (length t)) (good_parts (decoding UrlSafe (part 21 (second_dot t) t)) (decoding UrlSafe (drop (second_dot t + 1) t))) e in
         (ltb-true (second_dot t) (length t) c.0, good_inverted (decoding UrlSafe (part 21 (second_dot t) t)) (decoding UrlSafe (drop (second_dot t + 1) t)) p c.1)
 
-    pub form-good : parts_good p ≡ true
-    form-good = form-inverted.1.good
+    pub form_good : parts_good p ≡ true
+    form_good = form_inverted.1.good
 
     -- what is read is bytes
     pub form_bytes : PartsOfBytes p
     form_bytes =
         record {
-          payload = decoded_bytes UrlSafe (part 21 (second_dot t) t) p.payload form-inverted.1.payload;
-          signature = decoded_bytes UrlSafe (drop (second_dot t + 1) t) p.signature form-inverted.1.signature;
+          payload = decoded_bytes UrlSafe (part 21 (second_dot t) t) p.payload form_inverted.1.payload;
+          signature = decoded_bytes UrlSafe (drop (second_dot t + 1) t) p.signature form_inverted.1.signature;
         }
 
     module _ (b : AllBytes t) where
       second_is : part 21 (second_dot t) t ≡ x p
       unfolding x
-      second_is = encode_decode UrlSafe (part 21 (second_dot t) t) p.payload (bytes_take (second_dot t - 21) (bytes_drop 21 b)) form-inverted.1.payload
+      second_is = encode_decode UrlSafe (part 21 (second_dot t) t) p.payload (bytes_take (second_dot t - 21) (bytes_drop 21 b)) form_inverted.1.payload
 
       third_is : drop (second_dot t + 1) t ≡ y p
       unfolding y
-      third_is = encode_decode UrlSafe (drop (second_dot t + 1) t) p.signature (bytes_drop (second_dot t + 1) b) form-inverted.1.signature
+      third_is = encode_decode UrlSafe (drop (second_dot t + 1) t) p.signature (bytes_drop (second_dot t + 1) b) form_inverted.1.signature
 
     -- an accepted text is the compact form of its parts
-    pub form-only : AllBytes t → t ≡ signed_form p
-    form-only b =
+    pub form_only : AllBytes t → t ≡ signed_form p
+    form_only b =
         let k : ℕ = second_dot t in
-        let h : k < length t = form-inverted.0 in
+        let h : k < length t = form_inverted.0 in
         let n : k ≡ next_at 46 t 21 = (dot_inverted h).1 in
         let g : get_or t k 0 ≡ 46 = ap (λ (m : ℕ). get_or t m 0) n ∙ next_is 46 t 21 (omega arith) in
         let q₁ : part 21 k t ≡ x p = second_is b in
@@ -158,7 +158,7 @@ module _ (t : List ℕ) where
 pub form_exact : FormIsExact
 form_exact t b =
     exactly signed_form t (parts_of_form t)
-    (λ p e. record { good = form-good t p e; bytes = form_bytes t p e; is = form-only t p e b })
+    (λ p e. record { good = form_good t p e; bytes = form_bytes t p e; is = form_only t p e b })
     (λ p w. ap parts_of_form w.is ∙ form_back p w.good w.bytes)
 
 pub form_short : FormIsShort

@@ -108,8 +108,8 @@ module _ (code : List ℕ) where
 
   module _ (b : AllBytes code) where
     -- a code with an ID field has an ID part
-    has-id : (p : Parts) → parts_of_code code ≡ some p → id_there p.payload ≡ true → HasId code
-    has-id p e h =
+    has_id : (p : Parts) → parts_of_code code ≡ some p → id_there p.payload ≡ true → HasId code
+    has_id p e h =
         let q : List ℕ = p.payload in
         let g : payload_good q ≡ true = (both (payload_good q) (signature_good p.signature) (code_good code p e)).0 in
         record {
@@ -136,7 +136,7 @@ module _ (code : List ℕ) where
           where
             try : (t : Bool) → id_there p.payload ≡ t
                 → (cond t (record { start = id_start p.payload; end = id_end p.payload }) nowhere).start < (cond t (record { start = id_start p.payload; end = id_end p.payload }) nowhere).end → HasId code
-            try true w k = has-id p e w
+            try true w k = has_id p e w
             try false w k = absurd (omega arith)
 
     nothing : (HasId code → ⊥) → (id_place code ≡ nowhere) × (id_field code ≡ [])
@@ -148,7 +148,7 @@ module _ (code : List ℕ) where
         go (some p) e = try (id_there p.payload) refl
           where
             try : (t : Bool) → id_there p.payload ≡ t → cond t (record { start = id_start p.payload; end = id_end p.payload }) nowhere ≡ nowhere
-            try true w = absurd (n (has-id p e w))
+            try true w = absurd (n (has_id p e w))
             try false w = refl
 
     module _ (x id z : List ℕ) (w : IdPart code x id z) where

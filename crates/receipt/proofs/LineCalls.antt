@@ -382,8 +382,8 @@ module _ (s : Spelling) (text : List ℕ) (m : Marks) (is : m ≡ marks_of text)
   three_at_lem = rw (lent_rest text (m.signature + 1), is)
 
   module _ {d₁ : Decoded} {out₁ : List ℕ} (e₁ : (d₁ ≡ answer_of (unspell s (part (m.counter + 1) m.serial text)) out 0) × (out₁ ≡ buffer_of (unspell s (part (m.counter + 1) m.serial text)) out 0)) where
-    pub no-counter : (tag_of the_type d₁ ≡ 1) ⊎ (tag_of the_type d₁ ≡ 2) → none ≡ three_of s text
-    no-counter t = rw three_at_lem (no_three o₁ o₂ o₃ (λ x y z p q r. omega (arith, not_got o₁ out 0 e₁.0 t x p)))
+    pub no_counter : (tag_of the_type d₁ ≡ 1) ⊎ (tag_of the_type d₁ ≡ 2) → none ≡ three_of s text
+    no_counter t = rw three_at_lem (no_three o₁ o₂ o₃ (λ x y z p q r. omega (arith, not_got o₁ out 0 e₁.0 t x p)))
 
     module _ {n₁ : ℕ} (u₁ : d₁ ≡ Upto n₁) {d₂ : Decoded} {out₂ : List ℕ} (e₂ : (d₂ ≡ answer_of (unspell s (part (m.chain + 1) m.signature text)) out₁ n₁) × (out₂ ≡ buffer_of (unspell s (part (m.chain + 1) m.signature text)) out₁ n₁)) where
       g₁ : Got o₁ out 0 n₁ out₁
@@ -396,8 +396,8 @@ module _ (s : Spelling) (text : List ℕ) (m : Marks) (is : m ≡ marks_of text)
       same₁ : (x : List ℕ) → o₁ ≡ some x → length x ≡ n₁
       same₁ x p = let q : some x ≡ some g₁.bytes = sym p ∙ g₁.is in let w : x ≡ g₁.bytes = cc in omega (arith, ap length w, g₁.end)
 
-      pub no-chain : (tag_of the_type d₂ ≡ 1) ⊎ (tag_of the_type d₂ ≡ 2) → none ≡ three_of s text
-      no-chain t = rw three_at_lem (no_three o₁ o₂ o₃ (λ x y z p q r. omega (arith, not_got o₂ out₁ n₁ e₂.0 t y q, same₁ x p, l₁)))
+      pub no_chain : (tag_of the_type d₂ ≡ 1) ⊎ (tag_of the_type d₂ ≡ 2) → none ≡ three_of s text
+      no_chain t = rw three_at_lem (no_three o₁ o₂ o₃ (λ x y z p q r. omega (arith, not_got o₂ out₁ n₁ e₂.0 t y q, same₁ x p, l₁)))
 
       module _ {n₂ : ℕ} (u₂ : d₂ ≡ Upto n₂) {d₃ : Decoded} {out₃ : List ℕ}
           (e₃ : (d₃ ≡ answer_of (unspell s (take (length text - (m.signature + 1)) (drop (m.signature + 1) text))) out₂ n₂) × (out₃ ≡ buffer_of (unspell s (take (length text - (m.signature + 1)) (drop (m.signature + 1) text))) out₂ n₂)) where
@@ -462,18 +462,18 @@ module _ (s : Spelling) (text : List ℕ) (m : Marks) (is : m ≡ marks_of text)
           l₃ : length out₃ ≡ longest_fields
           l₃ = ap length g₃.put ∙ length_over out₂ n₂ g₃.bytes (omega (arith, g₃.end, g₃.fits)) ∙ l₂
 
-          three-are : three o₁ o₂ o₃ ≡ some (record { counter = x; chain = y; signature = z })
+          three_are : three o₁ o₂ o₃ ≡ some (record { counter = x; chain = y; signature = z })
           unfolding x y z
-          three-are = rw (g₁.is, g₂.is, g₃.is, le-leb (length g₁.bytes + length g₂.bytes + length g₃.bytes) longest_fields (omega (arith, end₁, end₂, end₃, small)))
+          three_are = rw (g₁.is, g₂.is, g₃.is, le-leb (length g₁.bytes + length g₂.bytes + length g₃.bytes) longest_fields (omega (arith, end₁, end₂, end₃, small)))
 
-          pub three-found : EndsIn (record { good = true; counter = n₁; chain = n₂; signature = n₃ }) out₃ × (three_read (record { good = true; counter = n₁; chain = n₂; signature = n₃ }) out₃ ≡ three_of s text)
+          pub three_found : EndsIn (record { good = true; counter = n₁; chain = n₂; signature = n₃ }) out₃ × (three_read (record { good = true; counter = n₁; chain = n₂; signature = n₃ }) out₃ ≡ three_of s text)
           unfolding three_read
-          three-found =
+          three_found =
               let rest : List ℕ = drop (0 + length (x ++ y ++ z)) out in (
                 record { counter = omega (arith, end₂); chain = omega (arith, end₃); signature = omega (arith, small, l₃) },
                 ap (λ (b : List ℕ). three_read (record { good = true; counter = n₁; chain = n₂; signature = n₃ }) b) buffer_is
                     ∙ (λ i. some (record { counter = one x y z rest n₁ n₂ n₃ end₁ end₂ end₃ i; chain = two x y z rest n₁ n₂ n₃ end₁ end₂ end₃ i; signature = last x y z rest n₁ n₂ n₃ end₁ end₂ end₃ i }))
-                    ∙ sym three-are ∙ sym three_at_lem,
+                    ∙ sym three_are ∙ sym three_at_lem,
               )
 
 -- ---- the payload of the code
@@ -502,8 +502,8 @@ module _ (f : CodeFields) where
     unfolding payload_good
     start_is = rw (le-leb 4 (length f.start) h)
 
-    start-bad : payload_good f.start ≡ false → payload_good (payload_in Base64 f) ≡ false
-    start-bad e = go (leb (length (payload_in Base64 f)) longest_payload) refl
+    start_bad : payload_good f.start ≡ false → payload_good (payload_in Base64 f) ≡ false
+    start_bad e = go (leb (length (payload_in Base64 f)) longest_payload) refl
       where
         go : (t : Bool) → leb (length (payload_in Base64 f)) longest_payload ≡ t → payload_good (payload_in Base64 f) ≡ false
         go true q =
@@ -515,8 +515,8 @@ module _ (f : CodeFields) where
     payload_long : longest_payload < length (payload_in Base64 f) → payload_good (payload_in Base64 f) ≡ false
     payload_long l = rw (payload_is, lt-leb (length (payload_in Base64 f)) longest_payload l)
 
-    start-good : payload_good f.start ≡ true → length (payload_in Base64 f) ≤ longest_payload → payload_good (payload_in Base64 f) ≡ true
-    start-good e l =
+    start_good_lem : payload_good f.start ≡ true → length (payload_in Base64 f) ≤ longest_payload → payload_good (payload_in Base64 f) ≡ true
+    start_good_lem e l =
         let v = both (leb (length f.start) longest_payload) (same (take 4 f.start) beginning) (sym start_is ∙ e) in
         rw (payload_is, le-leb (length (payload_in Base64 f)) longest_payload l, v.1)
 
@@ -548,29 +548,29 @@ module _ {m : Marks} (text : List ℕ) (e : Ends) (bytes : List ℕ) (there : Al
   not_nine h = rw (ne_eqb (count_of 95 f.start) 9 (λ q. h (is ∙ q)))
 
   module _ (nine : n ≡ 9) where
-    are-twelve : twelve f ≡ true
+    are_twelve : twelve f ≡ true
     unfolding twelve
-    are-twelve = rw (eq-eqb (count_of 95 f.start) 9 (sym is ∙ nine), eq-eqb (count_of 95 f.serial) 0 (serial_none text there))
+    are_twelve = rw (eq-eqb (count_of 95 f.start) 9 (sym is ∙ nine), eq-eqb (count_of 95 f.serial) 0 (serial_none text there))
 
     four : 4 ≤ length f.start
     four = omega (arith, count_most 95 f.start)
 
     bad : payload_good (payload_in Base64 f) ≡ false → false ≡ code_fields_good f
     unfolding code_fields_good
-    bad q = rw (are-twelve, q)
+    bad q = rw (are_twelve, q)
 
     module _ {g : Bool} (asked : g ≡ payload_good (take (m.counter - 0) text)) where
-      pub not-started : not g ≡ true → false ≡ code_fields_good (fields_at m text e bytes)
-      not-started t = bad (start-bad f four (no asked t))
+      pub not_started : not g ≡ true → false ≡ code_fields_good (fields_at m text e bytes)
+      not_started t = bad (start_bad f four (no asked t))
 
       -- the length of the payload is a sum that fits
       module _ (started : not g ≡ false) (ends : EndsIn e bytes) (most : length bytes ≤ longest_fields) (l : length text * 1 < 2 ^ 63) {x y : ℕ}
           (long₁ : x ≡ (length (take (e.counter - 0) bytes) + 2) / 3 * 4) (long₂ : y ≡ (length (take (e.chain - e.counter) (drop e.counter bytes)) + 2) / 3 * 4) where
-        start-long : length f.start ≡ m.counter - 0
-        start-long = length_part text 0 m.counter (omega arith) (omega arith)
+        start_long : length f.start ≡ m.counter - 0
+        start_long = length_part text 0 m.counter (omega arith) (omega arith)
 
         short : m.counter ≤ longest_payload
-        short = omega (arith, start-long, payload_most f.start (yes asked started))
+        short = omega (arith, start_long, payload_most f.start (yes asked started))
 
         small₁ : x ≤ 2 * longest_fields
         small₁ = omega (arith, long₁, part_most bytes 0 e.counter most)
@@ -592,15 +592,15 @@ module _ {m : Marks} (text : List ℕ) (e : Ends) (bytes : List ℕ) (there : Al
 
         sum_is : m.counter + x + (m.chain - m.serial) + y + 2 ≡ length (payload_in Base64 f)
         sum_is =
-            omega (arith, start-long, long₁, long₂, length_payload f, length_part text (m.serial + 1) m.chain (omega arith) (omega arith))
+            omega (arith, start_long, long₁, long₂, length_payload f, length_part text (m.serial + 1) m.chain (omega arith) (omega arith))
 
         pub too_long : longest_payload < m.counter + x + (m.chain - m.serial) + y + 2 → false ≡ code_fields_good (fields_at m text e bytes)
         too_long h = bad (payload_long f four (omega (arith, sum_is)))
 
-        pub then-signature : m.counter + x + (m.chain - m.serial) + y + 2 ≤ longest_payload → {r : Bool} → r ≡ signature_good (take (e.signature - e.chain) (drop e.chain bytes))
+        pub then_signature : m.counter + x + (m.chain - m.serial) + y + 2 ≤ longest_payload → {r : Bool} → r ≡ signature_good (take (e.signature - e.chain) (drop e.chain bytes))
             → r ≡ code_fields_good (fields_at m text e bytes)
         unfolding code_fields_good
-        then-signature h v = rw (are-twelve, start-good f four (yes asked started) (omega (arith, sum_is))) v
+        then_signature h v = rw (are_twelve, start_good_lem f four (yes asked started) (omega (arith, sum_is))) v
 
 -- ---- writing
 
@@ -653,63 +653,63 @@ module _ (s : Spelling) (m : Marks) (text : List ℕ) (e : Ends) (bytes : List �
     sizes : Sizes g
     sizes = good_sizes g good
 
-    pub spelled-short : (length (take (e.counter - 0) bytes) ≤ longest_fields) × (length (take (e.chain - e.counter) (drop e.counter bytes)) ≤ longest_fields) × (length (take (e.signature - e.chain) (drop e.chain bytes)) ≤ longest_fields)
-    spelled-short = (omega (arith, sizes.spelled), omega (arith, sizes.spelled), omega (arith, sizes.signature))
+    pub spelled_short : (length (take (e.counter - 0) bytes) ≤ longest_fields) × (length (take (e.chain - e.counter) (drop e.counter bytes)) ≤ longest_fields) × (length (take (e.signature - e.chain) (drop e.chain bytes)) ≤ longest_fields)
+    spelled_short = (omega (arith, sizes.spelled), omega (arith, sizes.spelled), omega (arith, sizes.signature))
 
     copied : m.counter + 1 + (m.chain + 1 - m.serial) ≤ 2 * longest_payload + 3
     copied =
         omega (arith, sizes.start, sizes.serial, length_part text 0 m.counter (omega arith) (omega arith), length_part text (m.serial + 1) m.chain (omega arith) (omega arith))
 
-    pub copied-fits : Fits w64 (m.counter + 1 + (m.chain + 1 - m.serial))
-    copied-fits = omega (arith, copied)
+    pub copied_fits : Fits w64 (m.counter + 1 + (m.chain + 1 - m.serial))
+    copied_fits = omega (arith, copied)
 
     module _ {n : ℕ} (spelled : (n ≡ length (spell s (take (e.counter - 0) bytes)) + length (spell s (take (e.chain - e.counter) (drop e.counter bytes))) + length (spell s (take (e.signature - e.chain) (drop e.chain bytes)))) × (n ≤ 2048)) where
       pub sum_fits : Fits w64 (m.counter + 1 + (m.chain + 1 - m.serial) + n)
       sum_fits = omega (arith, copied, spelled.1)
 
-      pub length-fits : Fits w64 (m.counter + 1 + (m.chain + 1 - m.serial) + n + 1)
-      length-fits = omega (arith, copied, spelled.1)
+      pub length_fits : Fits w64 (m.counter + 1 + (m.chain + 1 - m.serial) + n + 1)
+      length_fits = omega (arith, copied, spelled.1)
 
       abbrev total : ℕ
       total = m.counter + 1 + (m.chain + 1 - m.serial) + n + 1
 
-      sum-is-long : total ≡ length (text_in s g)
-      sum-is-long = omega (arith, text_long, long₁, long₂, long₃, spelled.0)
+      sum_is_long : total ≡ length (text_in s g)
+      sum_is_long = omega (arith, text_long, long₁, long₂, long₃, spelled.0)
 
       sum_of : total ≡ length t₁ + length t₂ + length t₃
-      sum_of = sum-is-long ∙ text_long
+      sum_of = sum_is_long ∙ text_long
 
       module _ (out : List ℕ) where
         pub no_place : length out < m.counter + 1 + (m.chain + 1 - m.serial) + n + 1
             → (record { number = 23; length = 0 } ≡ written out (text_in s (fields_at m text e bytes))) × (out ≡ placed out 0 (text_in s (fields_at m text e bytes)))
-        no_place h = no_room out (text_in s g) total (sym sum-is-long) h
+        no_place h = no_room out (text_in s g) total (sym sum_is_long) h
 
         module _ (h : m.counter + 1 + (m.chain + 1 - m.serial) + n + 1 ≤ length out) where
-          pub room-first : 0 + length (piece s (take (m.counter + 1 - 0) text) (take (e.counter - 0) bytes)) ≤ length out
-          room-first = omega (arith, sum_of)
+          pub room_first : 0 + length (piece s (take (m.counter + 1 - 0) text) (take (e.counter - 0) bytes)) ≤ length out
+          room_first = omega (arith, sum_of)
 
           module _ {p : ℕ} {o₁ : List ℕ} (w₁ : (p ≡ 0 + length (piece s (take (m.counter + 1 - 0) text) (take (e.counter - 0) bytes))) × (o₁ ≡ overwrite out 0 (piece s (take (m.counter + 1 - 0) text) (take (e.counter - 0) bytes)))) where
             kept₁ : length o₁ ≡ length out
-            kept₁ = ap length w₁.1 ∙ length_over out 0 t₁ room-first
+            kept₁ = ap length w₁.1 ∙ length_over out 0 t₁ room_first
 
-            pub room-second : p + length (piece s (take (m.chain + 1 - m.serial) (drop m.serial text)) (take (e.chain - e.counter) (drop e.counter bytes))) ≤ length o₁
-            room-second = omega (arith, sum_of, w₁.0, kept₁)
+            pub room_second : p + length (piece s (take (m.chain + 1 - m.serial) (drop m.serial text)) (take (e.chain - e.counter) (drop e.counter bytes))) ≤ length o₁
+            room_second = omega (arith, sum_of, w₁.0, kept₁)
 
             module _ {q : ℕ} {o₂ : List ℕ} (w₂ : (q ≡ p + length (piece s (take (m.chain + 1 - m.serial) (drop m.serial text)) (take (e.chain - e.counter) (drop e.counter bytes))))
                 × (o₂ ≡ overwrite o₁ p (piece s (take (m.chain + 1 - m.serial) (drop m.serial text)) (take (e.chain - e.counter) (drop e.counter bytes))))) where
               kept₂ : length o₂ ≡ length out
-              kept₂ = ap length w₂.1 ∙ length_over o₁ p t₂ room-second ∙ kept₁
+              kept₂ = ap length w₂.1 ∙ length_over o₁ p t₂ room_second ∙ kept₁
 
               pub room_third : q + length (piece s (95 ∷ []) (take (e.signature - e.chain) (drop e.chain bytes))) ≤ length o₂
               room_third = omega (arith, sum_of, w₁.0, w₂.0, kept₂)
 
-              pub put-fields : {o₃ : List ℕ} → o₃ ≡ overwrite o₂ q (piece s (95 ∷ []) (take (e.signature - e.chain) (drop e.chain bytes)))
+              pub put_fields : {o₃ : List ℕ} → o₃ ≡ overwrite o₂ q (piece s (95 ∷ []) (take (e.signature - e.chain) (drop e.chain bytes)))
                   → (record { number = 0; length = m.counter + 1 + (m.chain + 1 - m.serial) + n + 1 } ≡ written out (text_in s (fields_at m text e bytes))) × (o₃ ≡ placed out 0 (text_in s (fields_at m text e bytes)))
-              put-fields {o₃} w₃ =
+              put_fields {o₃} w₃ =
                   let l = length-append t₁ t₂ in
-                  let two : o₂ ≡ overwrite out 0 (t₁ ++ t₂) = then out t₁ t₂ 0 p w₁.1 w₂.1 w₁.0 room-first in
+                  let two : o₂ ≡ overwrite out 0 (t₁ ++ t₂) = then out t₁ t₂ 0 p w₁.1 w₂.1 w₁.0 room_first in
                   let three : o₃ ≡ overwrite out 0 (t₁ ++ t₂ ++ t₃) = then out (t₁ ++ t₂) t₃ 0 q two w₃ (omega (arith, w₁.0, w₂.0)) (omega (arith, sum_of)) in
-                  has_room out (text_in s g) total (sym sum-is-long) h (three ∙ ap (overwrite out 0) (sym text_is))
+                  has_room out (text_in s g) total (sym sum_is_long) h (three ∙ ap (overwrite out 0) (sym text_is))
 
 -- ---- respelling
 
@@ -758,16 +758,16 @@ module _ (from to : Spelling) (text out : List ℕ) (refused : ℕ) {m : Marks} 
         (rw q, rw q)
 
     module _ (read : not e.good ≡ false) {g : Bool} (asked : g ≡ code_fields_good (fields_at m text e buffer)) where
-      are-found : fields_of from text ≡ good_fields (fields_at m text e buffer)
+      are_found : fields_of from text ≡ good_fields (fields_at m text e buffer)
       unfolding three_read after
-      are-found = rw (lent_front text m.counter, is) (rw (not-false e.good read) at fields_are)
+      are_found = rw (lent_front text m.counter, is) (rw (not-false e.good read) at fields_are)
 
-      pub bad-fields : not g ≡ true → Answers refused (map (text_in to) (fields_of from text)) out (record { number = refused; length = 0 }) out
-      bad-fields t = (rw (are-found, no asked t), rw (are-found, no asked t))
+      pub bad_fields : not g ≡ true → Answers refused (map (text_in to) (fields_of from text)) out (record { number = refused; length = 0 }) out
+      bad_fields t = (rw (are_found, no asked t), rw (are_found, no asked t))
 
-      pub good-fields : {a : Answer} {out' : List ℕ} → not g ≡ false → (a ≡ written out (text_in to (fields_at m text e buffer))) × (out' ≡ placed out 0 (text_in to (fields_at m text e buffer)))
+      pub good_fields_lem : {a : Answer} {out' : List ℕ} → not g ≡ false → (a ≡ written out (text_in to (fields_at m text e buffer))) × (out' ≡ placed out 0 (text_in to (fields_at m text e buffer)))
           → Answers refused (map (text_in to) (fields_of from text)) out a out'
-      good-fields t h = rw (are-found, yes asked t) h
+      good_fields_lem t h = rw (are_found, yes asked t) h
 
 -- ---- the calls
 
@@ -795,8 +795,8 @@ module _ (code out : List ℕ) {a : Answer} {out' : List ℕ}
   line_answered n = (keeps 26 (refusal_of (parts_of_code code)) (map (text_in Base32) (fields_of Base64 code)) out h.0 n, h.1)
 
   module _ (n : a.number ≡ 26) (sig : List ℕ) (r : Reading) (e : found r.good (take r.payload code) (take r.signature sig) ≡ parts_of_code code) where
-    nothing-there : map (text_in Base32) (fields_of Base64 code) ≡ none
-    nothing-there = no_text (map (text_in Base32) (fields_of Base64 code)) out h.0 n
+    nothing_there : map (text_in Base32) (fields_of Base64 code) ≡ none
+    nothing_there = no_text (map (text_in Base32) (fields_of Base64 code)) out h.0 n
 
     pub line_refused : r.good ≡ true → (a ≡ line_answer code out) × (out' ≡ line_buffer code out)
     unfolding line_answer line_buffer found
@@ -808,4 +808,4 @@ module _ (code out : List ℕ) {a : Answer} {out' : List ℕ}
     unfolding line_answer line_buffer found
     no_code t =
         let q : none ≡ parts_of_code code = rw t at e in
-        (rw (nothing-there, sym q), h.1)
+        (rw (nothing_there, sym q), h.1)

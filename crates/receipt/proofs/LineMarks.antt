@@ -76,29 +76,29 @@ module _ (a b c d e : List ℕ) where
   from_one = from_two ∙ append_assoc one (95 ∷ c) ((95 ∷ d) ++ (95 ∷ e))
 
   module _ (wb : Without 95 b) (wc : Without 95 c) (wd : Without 95 d) (we : Without 95 e) where
-    signature-mark : signature_mark four ≡ length three
+    signature_mark_lem : signature_mark four ≡ length three
     unfolding signature_mark
-    signature-mark = last_without 95 three e we
+    signature_mark_lem = last_without 95 three e we
 
-    chain-mark : chain_mark four ≡ length two
+    chain_mark_lem : chain_mark four ≡ length two
     unfolding chain_mark
-    chain-mark = mark_is two d (95 ∷ e) four (signature_mark four) refl (sym signature-mark) wd
+    chain_mark_lem = mark_is two d (95 ∷ e) four (signature_mark four) refl (sym signature_mark_lem) wd
 
-    serial-mark : serial_mark four ≡ length one
+    serial_mark_lem : serial_mark four ≡ length one
     unfolding serial_mark
-    serial-mark = mark_is one c ((95 ∷ d) ++ (95 ∷ e)) four (chain_mark four) from_two (sym chain-mark) wc
+    serial_mark_lem = mark_is one c ((95 ∷ d) ++ (95 ∷ e)) four (chain_mark four) from_two (sym chain_mark_lem) wc
 
-    counter-mark : counter_mark four ≡ length a
+    counter_mark_lem : counter_mark four ≡ length a
     unfolding counter_mark
-    counter-mark = mark_is a b ((95 ∷ c) ++ ((95 ∷ d) ++ (95 ∷ e))) four (serial_mark four) from_one (sym serial-mark) wb
+    counter_mark_lem = mark_is a b ((95 ∷ c) ++ ((95 ∷ d) ++ (95 ∷ e))) four (serial_mark four) from_one (sym serial_mark_lem) wb
 
-    marks-there : marks_there four ≡ true
+    marks_there_lem : marks_there four ≡ true
     unfolding marks_there
-    marks-there =
-        let m₁ = signature-mark in
-        let m₂ = chain-mark in
-        let m₃ = serial-mark in
-        let m₄ = counter-mark in
+    marks_there_lem =
+        let m₁ = signature_mark_lem in
+        let m₂ = chain_mark_lem in
+        let m₃ = serial_mark_lem in
+        let m₄ = counter_mark_lem in
         rw (
           lt-ltb (signature_mark four) (length four) (omega (arith, length-append three (95 ∷ e))),
           lt-ltb (chain_mark four) (signature_mark four) (omega (arith, length-append two (95 ∷ d))),
@@ -107,26 +107,26 @@ module _ (a b c d e : List ℕ) where
         )
 
     start_is : take (counter_mark four) four ≡ a
-    start_is = ap (take (counter_mark four)) (from_one ∙ append_assoc a (95 ∷ b) ((95 ∷ c) ++ ((95 ∷ d) ++ (95 ∷ e)))) ∙ take_at a _ (counter_mark four) (sym counter-mark)
+    start_is = ap (take (counter_mark four)) (from_one ∙ append_assoc a (95 ∷ b) ((95 ∷ c) ++ ((95 ∷ d) ++ (95 ∷ e)))) ∙ take_at a _ (counter_mark four) (sym counter_mark_lem)
 
     rest_is : drop (signature_mark four + 1) four ≡ e
     rest_is =
         ap (drop (signature_mark four + 1)) (sym (append_snoc three 95 e))
-        ∙ drop_at (three ++ (95 ∷ [])) e (signature_mark four + 1) (omega (arith, signature-mark, length-append three (95 ∷ [])))
+        ∙ drop_at (three ++ (95 ∷ [])) e (signature_mark four + 1) (omega (arith, signature_mark_lem, length-append three (95 ∷ [])))
 
     -- the reader finds the five texts
     pub fields_split : (s : Spelling) → fields_of s four ≡ with_fields a (unspell s b) c (unspell s d) (unspell s e)
     unfolding fields_of
-    fields_split s = rw marks-there (λ i. with_fields (start_is i) (unspell s (counter_is i)) (serial_is i) (unspell s (chain_is i)) (unspell s (rest_is i)))
+    fields_split s = rw marks_there_lem (λ i. with_fields (start_is i) (unspell s (counter_is i)) (serial_is i) (unspell s (chain_is i)) (unspell s (rest_is i)))
       where
         counter_is : part (counter_mark four + 1) (serial_mark four) four ≡ b
-        counter_is = between_is a b ((95 ∷ c) ++ ((95 ∷ d) ++ (95 ∷ e))) four (serial_mark four) from_one (sym serial-mark) (counter_mark four) counter-mark
+        counter_is = between_is a b ((95 ∷ c) ++ ((95 ∷ d) ++ (95 ∷ e))) four (serial_mark four) from_one (sym serial_mark_lem) (counter_mark four) counter_mark_lem
 
         serial_is : part (serial_mark four + 1) (chain_mark four) four ≡ c
-        serial_is = between_is one c ((95 ∷ d) ++ (95 ∷ e)) four (chain_mark four) from_two (sym chain-mark) (serial_mark four) serial-mark
+        serial_is = between_is one c ((95 ∷ d) ++ (95 ∷ e)) four (chain_mark four) from_two (sym chain_mark_lem) (serial_mark four) serial_mark_lem
 
         chain_is : part (chain_mark four + 1) (signature_mark four) four ≡ d
-        chain_is = between_is two d (95 ∷ e) four (signature_mark four) refl (sym signature-mark) (chain_mark four) chain-mark
+        chain_is = between_is two d (95 ∷ e) four (signature_mark four) refl (sym signature_mark_lem) (chain_mark four) chain_mark_lem
 
 -- the other way: a text that has the four "_" is split there
 module _ (text : List ℕ) (there : marks_there text ≡ true) where

@@ -57,13 +57,13 @@ module _ (class : Letters) (name : Name) where
       unfolding name_text
       letters = e ∙ ap (λ (n : ℕ). every class (take n name.bytes)) (sub-zero name.len)
 
-      pub name-letters : not r ≡ true → false ≡ name_good class name
+      pub name_letters : not r ≡ true → false ≡ name_good class name
       unfolding name_good
-      name-letters t = rw (le-leb 1 name.len h, le-leb name.len 32 g, no letters t)
+      name_letters t = rw (le-leb 1 name.len h, le-leb name.len 32 g, no letters t)
 
-      pub name-zeros : {z : Bool} → length name.bytes ≡ 32 → not r ≡ false → z ≡ every Zero (take (32 - name.len) (drop name.len name.bytes)) → z ≡ name_good class name
+      pub name_zeros : {z : Bool} → length name.bytes ≡ 32 → not r ≡ false → z ≡ every Zero (take (32 - name.len) (drop name.len name.bytes)) → z ≡ name_good class name
       unfolding name_good
-      name-zeros l t q =
+      name_zeros l t q =
           rw (le-leb 1 name.len h, le-leb name.len 32 g, yes letters t)
           (q ∙ ap (every Zero) (take_all (32 - name.len) (drop name.len name.bytes) (omega (arith, length-drop name.len name.bytes))))
 

@@ -40,7 +40,7 @@ use Rattle.receipt.proofs.Cents.{amount_short}
 use Rattle.receipt.proofs.Written.{sized_short, length_register, length_moment, good}
 use Rattle.receipt.proofs.CodeTexts.{good_signature}
 use Rattle.receipt.proofs.EntryCalls.{spellable_true}
-use Rattle.receipt.proofs.ExactEntry.{parts-good, parts-bytes}
+use Rattle.receipt.proofs.ExactEntry.{parts_good_lem, parts_bytes}
 use Rattle.receipt.proofs.Marks.{no_mark}
 use Rattle.receipt.proofs.MarkCounts.{one_mark, count_append, count_none, without_each}
 use Rattle.receipt.proofs.LineFields.{code_of_lem}
@@ -188,33 +188,33 @@ module _ (s : Settings) (n : ℕ) (e : Entry) (five : length e.fields.details.am
   code_is = ap (λ (p : List ℕ). code_text (parts p (signature_text e.signature))) (sym payload_is) ∙ sym (code_of_lem (fields_in s n e))
 
   module _ (l : SettingsLengths s) (g : settings_good s ≡ true) where
-    count-start : count_of 95 (fields_in s n e).start ≡ 9
+    count_start : count_of 95 (fields_in s n e).start ≡ 9
     unfolding fields_in
-    count-start =
+    count_start =
         simp count_append
         (omega (arith, count_register s l g, count_moment e.fields.details.number e.fields.details.date, count_amounts e.fields.details.amounts (omega arith)))
 
-    count-serial : count_of 95 (fields_in s n e).serial ≡ 0
+    count_serial : count_of 95 (fields_in s n e).serial ≡ 0
     unfolding fields_in
-    count-serial = letters_none Serial (name_text s.serial) (good_settings s g).serial.letters
+    count_serial = letters_none Serial (name_text s.serial) (good_settings s g).serial.letters
 
-    fields-twelve : twelve (fields_in s n e) ≡ true
+    fields_twelve : twelve (fields_in s n e) ≡ true
     unfolding twelve
-    fields-twelve = rw (eq-eqb (count_of 95 (fields_in s n e).start) 9 count-start, eq-eqb (count_of 95 (fields_in s n e).serial) 0 count-serial)
+    fields_twelve = rw (eq-eqb (count_of 95 (fields_in s n e).start) 9 count_start, eq-eqb (count_of 95 (fields_in s n e).serial) 0 count_serial)
 
 module _ (s : Settings) (n : ℕ) (e : Entry) (l : SettingsLengths s) (b : SettingsBytes s) (g : settings_good s ≡ true) (te : TypedEntry e) (can : spellable s n e ≡ true) where
   abbrev five : length e.fields.details.amounts ≡ 5
   five = te.fields.amounts
 
   good_parts_lem : parts_good (parts (payload s n e.fields) (signature_text e.signature)) ≡ true
-  good_parts_lem = parts-good s n e te l can
+  good_parts_lem = parts_good_lem s n e te l can
 
   all_bytes : PartsOfBytes (parts (payload s n e.fields) (signature_text e.signature))
-  all_bytes = parts-bytes s n e te l can b
+  all_bytes = parts_bytes s n e te l can b
 
   fields_good_lem : code_fields_good (fields_in s n e) ≡ true
   unfolding code_fields_good fields_in
-  fields_good_lem = rw (fields-twelve s n e five l g, payload_is s n e five) good_parts_lem
+  fields_good_lem = rw (fields_twelve s n e five l g, payload_is s n e five) good_parts_lem
 
   -- the start is the payload's
   start_bytes : AllBytes (fields_in s n e).start

@@ -20,7 +20,7 @@ use Rattle.receipt.specs.LineLaws.{SpelledAs, ImageOf, ReceiptHasLine, FormHasLi
 use Rattle.receipt.specs.declared.settings.Settings.{Settings}
 use Rattle.receipt.specs.declared.entry.Entry.{Entry}
 use Rattle.receipt.specs.declared.optical_line.Spelling.TheVariants.{Base64, Base32}
-use Rattle.receipt.proofs.ExactEntry.{parts-good, parts-bytes}
+use Rattle.receipt.proofs.ExactEntry.{parts_good_lem, parts_bytes}
 use Rattle.receipt.proofs.Forms.{form_back}
 use Rattle.receipt.proofs.Lines.{line_length, text_bytes, line_is_image, code_has_line}
 use Rattle.receipt.proofs.ReceiptFields.{fields_in, code_of, receipt_fields}
@@ -51,7 +51,7 @@ module _ (s : Settings) (n : ℕ) (e : Entry) (l : SettingsLengths s) (b : Setti
 
   found : parts_of_form (compact s n e) ≡ some (parts (payload s n e.fields) (signature_text e.signature))
   unfolding compact
-  found = form_back (parts (payload s n e.fields) (signature_text e.signature)) (parts-good s n e te l can) (parts-bytes s n e te l can b)
+  found = form_back (parts (payload s n e.fields) (signature_text e.signature)) (parts_good_lem s n e te l can) (parts_bytes s n e te l can b)
 
   coded : (out : List ℕ) → (code_answer (compact s n e) out ≡ written out (code_of s n e)) × (code_buffer (compact s n e) out ≡ placed out 0 (code_of s n e))
   unfolding code_answer code_buffer

@@ -38,8 +38,8 @@ module _ {X : Type 0} (n : ℕ) (f : X → List ℕ) (out : List ℕ) where
     buffer_is : bufferWith (map f o) out ≡ overwrite out 0 (f x)
     buffer_is = rw is (placed_room out 0 (f x) (omega arith))
 
-    made-is : take (answer_with n (map f o) out).length (bufferWith (map f o) out) ≡ f x
-    made-is = rw (answer_is, buffer_is) (read_over out 0 (f x) (omega arith))
+    made_is : take (answer_with n (map f o) out).length (bufferWith (map f o) out) ≡ f x
+    made_is = rw (answer_is, buffer_is) (read_over out 0 (f x) (omega arith))
 
 -- a text in which o was found is the writing g of it; what f writes of it is read back to it, and g writes the text again
 module _ {X : Type 0} (n m : ℕ) (f g : X → List ℕ) (o : Option X) (back : List ℕ → Option X) (text out again : List ℕ) (nonzero : n ≡ 0 → ⊥)
@@ -52,7 +52,7 @@ module _ {X : Type 0} (n m : ℕ) (f g : X → List ℕ) (o : Option X) (back : 
   t = took n f out o nonzero accepted
 
   read : back made ≡ some t.found
-  read = ap back (made-is n f out o t.found t.is t.fits) ∙ reads t.found t.is
+  read = ap back (made_is n f out o t.found t.is t.fits) ∙ reads t.found t.is
 
   again_is : g t.found ≡ text
   again_is = sym (only t.found t.is)

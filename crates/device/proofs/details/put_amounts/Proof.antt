@@ -12,7 +12,7 @@ use Rattle.primitives.specs.Counter.{counter_bytes}
 use Rattle.primitives.proofs.Twos.{length_counter_bytes}
 use Rattle.primitives.proofs.Writing.{Writing, writing_start, writing_long}
 use Rattle.device.specs.Details.{pieces}
-use Rattle.device.proofs.Pieces.{piece-more, pieces-done, length-pieces}
+use Rattle.device.proofs.Pieces.{piece_more, pieces_done, length_pieces}
 use Rattle.device.proofs.details.put_amounts.Statement.{statement}
 use Rattle.device.proofs.details.put_amounts.Tie as tie
 
@@ -25,7 +25,7 @@ decreases-loop out₀ amounts at₀ i₀ out at i = 5 - i
 loop-holds : tie.Need-loop-init invariant-loop decreases-loop
 loop-holds c =
     let five : length c.before.args.t1 ≡ 5 = search rules in
-    let l : length (pieces (counter_bytes 8) c.before.args.t1) ≡ 40 = length-pieces (counter_bytes 8) (pos 0) 8 (length_counter_bytes 8) c.before.args.t1 ∙ ap (λ (k : ℕ). 8 * k) five in
+    let l : length (pieces (counter_bytes 8) c.before.args.t1) ≡ 40 = length_pieces (counter_bytes 8) (pos 0) 8 (length_counter_bytes 8) c.before.args.t1 ∙ ap (λ (k : ℕ). 8 * k) five in
     (omega arith, writing_start _ _ _ (omega (arith, l, c.before.requires)))
 
 mul-counter-bytes : tie.Need-overflow-mul-counter-bytes invariant-loop decreases-loop
@@ -58,7 +58,7 @@ loop-again c =
     let taken = c.before.before.before.before.before.before.before.loop-test.true in
     let bytes = rw (to_z-of_z f) at c.before.before.before.before.before.counter_bytes_lem.ensures in
     let wrote = rw bytes at c.before.before.put.ensures in
-    (omega (arith, taken), piece-more (counter_bytes 8) (pos 0) amounts i c.before.before.before.before.before.before.before.before.loop.invariant.1 (omega (arith, taken)) wrote)
+    (omega (arith, taken), piece_more (counter_bytes 8) (pos 0) amounts i c.before.before.before.before.before.before.before.before.loop.invariant.1 (omega (arith, taken)) wrote)
 
 same_length : tie.Need-same-length invariant-loop decreases-loop
 same_length c = writing_long c.before.loop.invariant.1
@@ -67,7 +67,7 @@ returns : tie.Need-returns invariant-loop decreases-loop
 returns c =
     let amounts = c.before.before.before.args.t1 in
     let five : length amounts ≡ 5 = search rules in
-    pieces-done (counter_bytes 8) (pos 0) amounts c.before.loop.i c.before.loop.invariant.1 (omega (arith, c.loop-test.false))
+    pieces_done (counter_bytes 8) (pos 0) amounts c.before.loop.i c.before.loop.invariant.1 (omega (arith, c.loop-test.false))
 
 pub put-amounts-spec : {M : Type 1} → statement M
 put-amounts-spec =

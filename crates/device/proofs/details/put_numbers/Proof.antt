@@ -8,7 +8,7 @@ use Rattle.primitives.specs.Number.{bytes_of}
 use Rattle.primitives.proofs.Numbers.{length_bytes_of}
 use Rattle.primitives.proofs.Writing.{Writing, writing_start, writing_long}
 use Rattle.device.specs.Details.{pieces}
-use Rattle.device.proofs.Pieces.{piece-more, pieces-done, length-pieces}
+use Rattle.device.proofs.Pieces.{piece_more, pieces_done, length_pieces}
 use Rattle.device.proofs.details.put_numbers.Statement.{statement}
 use Rattle.device.proofs.details.put_numbers.Tie as tie
 
@@ -21,7 +21,7 @@ decreases-loop out₀ numbers at₀ i₀ out at i = 8 - i
 loop-holds : tie.Need-loop-init invariant-loop decreases-loop
 loop-holds c =
     let eight : length c.before.args.t1 ≡ 8 = search rules in
-    let l : length (pieces (bytes_of 4) c.before.args.t1) ≡ 32 = length-pieces (bytes_of 4) 0 4 (length_bytes_of 4) c.before.args.t1 ∙ ap (λ (k : ℕ). 4 * k) eight in
+    let l : length (pieces (bytes_of 4) c.before.args.t1) ≡ 32 = length_pieces (bytes_of 4) 0 4 (length_bytes_of 4) c.before.args.t1 ∙ ap (λ (k : ℕ). 4 * k) eight in
     (omega arith, writing_start _ _ _ (omega (arith, l, c.before.requires)))
 
 mul-put-number : tie.Need-overflow-mul-put-number invariant-loop decreases-loop
@@ -48,7 +48,7 @@ loop-again c =
     let i = c.before.before.before.before.before.loop.i in
     let eight : length numbers ≡ 8 = search rules in
     let taken = c.before.before.before.before.loop-test.true in
-    (omega (arith, taken), piece-more (bytes_of 4) 0 numbers i c.before.before.before.before.before.loop.invariant.1 (omega (arith, taken)) c.before.before.put-number.ensures)
+    (omega (arith, taken), piece_more (bytes_of 4) 0 numbers i c.before.before.before.before.before.loop.invariant.1 (omega (arith, taken)) c.before.before.put-number.ensures)
 
 same_length : tie.Need-same-length invariant-loop decreases-loop
 same_length c = writing_long c.before.loop.invariant.1
@@ -57,7 +57,7 @@ returns : tie.Need-returns invariant-loop decreases-loop
 returns c =
     let numbers = c.before.before.before.args.t1 in
     let eight : length numbers ≡ 8 = search rules in
-    pieces-done (bytes_of 4) 0 numbers c.before.loop.i c.before.loop.invariant.1 (omega (arith, c.loop-test.false))
+    pieces_done (bytes_of 4) 0 numbers c.before.loop.i c.before.loop.invariant.1 (omega (arith, c.loop-test.false))
 
 pub put-numbers-spec : {M : Type 1} → statement M
 put-numbers-spec =

@@ -19,7 +19,7 @@ same_length c = search rules
 
 returns-2 : tie.Need-returns-2
 unfolding kept
-returns-2 c = rw (eq-eqb (length c.before.before.before.before.before.before.args.out.now) 447 (omega (arith, c.before.before.before.before.if1.false))) c.before.before.put-state.ensures
+returns-2 c = rw (eq-eqb (length c.before.before.before.before.before.before.args.out.now) 447 (omega (arith, c.before.before.before.before.if1.false))) c.before.before.put_state.ensures
 
 pub keep_spec : {M : Type 1} → statement M
 keep_spec = tie.close (tie.spec returns put-state-requires same_length returns-2)

@@ -1,7 +1,7 @@
 -- `layout::put_chain` meets its contract.
 use mathlib.Core.Path.{◌≡◌}
 use lib.ListN.{length}
-use Rattle.device.proofs.Writers.{put-chain}
+use Rattle.device.proofs.Writers.{put_chain}
 use borrow.Author.Rules.{rules}
 use Rattle.device.proofs.layout.put_chain.Statement.{statement}
 use Rattle.device.proofs.layout.put_chain.Tie as tie
@@ -31,7 +31,7 @@ returns : tie.Need-returns
 returns c =
     let s = c.before.before.before.before.before.before.before.before.before.before.before.before.before.before.before.before.before.before.before.before in
     let e : length s.args.st.chain ≡ 8 = search rules in
-    put-chain s.args.st s.args.out.now e s.requires
+    put_chain s.args.st s.args.out.now e s.requires
     c.before.before.before.before.before.before.before.before.before.before.before.before.before.before.before.put.ensures.1
     c.before.before.before.before.before.before.before.before.before.before.before.put-number.ensures.1
     c.before.before.before.before.before.before.put-number2.ensures.1

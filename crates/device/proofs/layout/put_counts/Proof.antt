@@ -1,7 +1,7 @@
 -- `layout::put_counts` meets its contract.
 use mir.Syntax.{w64}
 use mir.Val.{SFits}
-use Rattle.device.proofs.Writers.{put-counts}
+use Rattle.device.proofs.Writers.{put_counts}
 use borrow.Author.Rules.{rules}
 use Rattle.device.proofs.layout.put_counts.Statement.{statement}
 use Rattle.device.proofs.layout.put_counts.Tie as tie
@@ -34,7 +34,7 @@ returns : tie.Need-returns
 returns c =
     let s = c.before.before.before.before.before.before.before.before.before.before.before.before.before.before.before.before.before.before in
     let f : SFits w64 s.args.st.counter = search rules in
-    put-counts s.args.st s.args.out.now s.requires f
+    put_counts s.args.st s.args.out.now s.requires f
     c.before.before.before.before.before.before.before.before.before.before.before.before.before.before.before.counter_bytes_lem.ensures
     c.before.before.before.before.before.before.before.before.before.before.before.before.put.ensures.1
     c.before.before.before.before.before.before.before.put-number.ensures.1

@@ -1,6 +1,6 @@
 -- `layout::put_names` meets its contract.
 use Rattle.receipt.specs.Settings.{SettingsLengths}
-use Rattle.device.proofs.Writers.{put-names}
+use Rattle.device.proofs.Writers.{put_names}
 use borrow.Author.Rules.{rules}
 use Rattle.device.proofs.layout.put_names.Statement.{statement}
 use Rattle.device.proofs.layout.put_names.Tie as tie
@@ -27,7 +27,7 @@ same_length c = search rules
 returns : tie.Need-returns
 returns c =
     let start = c.before.before.before.before.before.before.before.before.before.before.before.before.before.before.before.before.before in
-    put-names start.args.s (typed start) start.args.out.now start.requires c.before.before.before.before.before.before.before.before.before.before.put.ensures.1 c.before.before.before.before.before.before.put_name.ensures c.before.before.put-name2.ensures
+    put_names start.args.s (typed start) start.args.out.now start.requires c.before.before.before.before.before.before.before.before.before.before.put.ensures.1 c.before.before.before.before.before.before.put_name.ensures c.before.before.put-name2.ensures
 
 pub put-names-spec : {M : Type 1} → statement M
 put-names-spec =

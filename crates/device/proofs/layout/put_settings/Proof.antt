@@ -21,7 +21,7 @@ same_length c = search rules
 returns : tie.Need-returns
 returns c =
     let start = c.before.before.before.before.before.before.before.before.before in
-    put_settings start.args.s (typed start) start.args.n start.args.key start.args.out.now start.requires c.before.before.before.before.before.before.put-names.ensures c.before.before.put_key.ensures
+    put_settings start.args.s (typed start) start.args.n start.args.key start.args.out.now start.requires c.before.before.before.before.before.before.put_names.ensures c.before.before.put_key.ensures
 
 pub put-settings-spec : {M : Type 1} → statement M
 put-settings-spec = tie.close (tie.spec put-names-requires put-key-requires same_length returns)

@@ -1,6 +1,6 @@
 -- `layout::put_state` meets its contract.
 use Rattle.device.proofs.Slots.{state_long}
-use Rattle.device.proofs.Writers.{put-state}
+use Rattle.device.proofs.Writers.{put_state}
 use borrow.Author.Rules.{rules}
 use Rattle.device.proofs.layout.put_state.Statement.{statement}
 use Rattle.device.proofs.layout.put_state.Tie as tie
@@ -20,10 +20,10 @@ same_length c = search rules
 returns : tie.Need-returns
 returns c =
     let s = c.before.before.before.before.before.before.before.before.before.before.before.before.before in
-    put-state s.args.st s.args.out.now (state_long s.args.st _ s.well-formed.0) s.requires
+    put_state s.args.st s.args.out.now (state_long s.args.st _ s.well-formed.0) s.requires
     c.before.before.before.before.before.before.before.before.before.before.put_register.ensures
-    c.before.before.before.before.before.before.put-counts.ensures
-    c.before.before.put-chain.ensures
+    c.before.before.before.before.before.before.put_counts.ensures
+    c.before.before.put_chain.ensures
 
 pub put-state-spec : {M : Type 1} → statement M
 put-state-spec =

@@ -2,7 +2,7 @@
 use Prim.Native.Nat.{◌-◌}
 use mathlib.Core.Path.{◌∙◌}
 use lib.ListN.{length}
-use Rattle.device.proofs.Lists.{Listing, from_state, listing_start, piece-there, piece-long, listing-stops, listing-more, listing_end}
+use Rattle.device.proofs.Lists.{Listing, from_state, listing_start, piece_there, piece_long, listing_stops, listing_more, listing_end}
 use borrow.Author.Rules.{rules}
 use Rattle.device.proofs.listing.issue_each.Statement.{statement}
 use Rattle.device.proofs.listing.issue_each.Tie as tie
@@ -29,10 +29,10 @@ part-details-in-start : tie.Need-slice-bounds-details-in-start invariant-loop de
 part-details-in-start c = search rules
 
 part-details-in-end : tie.Need-slice-bounds-details-in-end invariant-loop decreases-loop
-part-details-in-end c = piece-there c.before.loop.invariant c.loop-test.true
+part-details-in-end c = piece_there c.before.loop.invariant c.loop-test.true
 
 details-in-requires : tie.Need-details-in-requires invariant-loop decreases-loop
-details-in-requires c κs = piece-long c.before.before.loop.invariant c.before.loop-test.true
+details-in-requires c κs = piece_long c.before.before.loop.invariant c.before.loop-test.true
 
 issue-failed-requires : tie.Need-issue-failed-requires invariant-loop decreases-loop
 issue-failed-requires c κs = search rules
@@ -43,7 +43,7 @@ same_length c = c.before.before.before.before.issue-failed.auto.1.1.0 ∙ c.befo
 returns : tie.Need-returns invariant-loop decreases-loop
 returns c =
     from_state _ _ c.before.before.before.before.before.before.before.before.before.before.state_of_lem.ensures
-    (listing-stops c.before.before.before.before.before.before.before.before.before.loop.invariant c.before.before.before.before.before.before.before.before.loop-test.true c.before.before.before.before.before.before.details-in.ensures c.before.before.before.before.issue-failed.ensures c.if1.true)
+    (listing_stops c.before.before.before.before.before.before.before.before.before.loop.invariant c.before.before.before.before.before.before.before.before.loop-test.true c.before.before.before.before.before.before.details-in.ensures c.before.before.before.before.issue-failed.ensures c.if1.true)
 
 add-i : tie.Need-overflow-add-i invariant-loop decreases-loop
 add-i c = let p = c.before.before.before.before.before.before.before.before.before.before.loop.invariant in let l = c.before.before.before.before.before.before.before.before.before.loop-test.true in let g = c.before.before.before.before.before.before.before.before.before.before.before.before.before.before.before.well-formed.1.0 in let m = p.place in search rules
@@ -53,7 +53,7 @@ loop-less c = search rules
 
 loop-again : tie.Need-loop-preserved invariant-loop decreases-loop
 loop-again c =
-    listing-more c.before.before.before.before.before.before.before.before.before.before.loop.invariant c.before.before.before.before.before.before.before.before.before.loop-test.true c.before.before.before.before.before.before.before.details-in.ensures c.before.before.before.before.before.issue-failed.ensures c.before.if1.false c.before.before.before.before.before.issue-failed.auto.1.1.0
+    listing_more c.before.before.before.before.before.before.before.before.before.before.loop.invariant c.before.before.before.before.before.before.before.before.before.loop-test.true c.before.before.before.before.before.before.before.details-in.ensures c.before.before.before.before.before.issue-failed.ensures c.before.if1.false c.before.before.before.before.before.issue-failed.auto.1.1.0
 
 same-length-2 : tie.Need-same-length-2 invariant-loop decreases-loop
 same-length-2 c = search rules

@@ -1,6 +1,6 @@
 -- `read_back::ditgrux_read` meets its contract.
 use borrow.Author.Rules.{rules}
-use Rattle.device.proofs.ReadBackCalls.{read_refused, read-room, read_done}
+use Rattle.device.proofs.ReadBackCalls.{read_refused, read_room, read_done}
 use Rattle.device.proofs.read_back.ditgrux_read.Statement.{statement}
 use Rattle.device.proofs.read_back.ditgrux_read.Tie as tie
 
@@ -20,10 +20,10 @@ returns : tie.Need-returns
 returns c = read_refused c.before.before.before.before.before.before.before.before.before.args.settings.now c.before.before.before.before.before.before.before.before.before.args.form.now c.before.before.before.before.before.before.before.before.before.args.details.now c.before.before.before.before.before.before.before.before.before.args.signature.now c.before.before.before.before.settings_of_lem.ensures c.before.before.before.width_of_lem.ensures c.before.before.read-entry.ensures c.before.read_number.ensures c.if1.true
 
 put-details-requires : tie.Need-put-details-requires
-put-details-requires c κs = (read-room c.before.before.before.before.before.before.before.before.before.before.before.before.before.before.args.settings.now c.before.before.before.before.before.before.before.before.before.before.before.before.before.before.args.form.now c.before.before.before.before.before.before.before.before.before.before.before.before.before.before.args.details.now c.before.before.before.before.before.before.before.before.before.before.before.before.before.before.args.signature.now c.before.before.before.before.before.before.before.before.before.settings_of_lem.ensures c.before.before.before.before.before.before.before.before.width_of_lem.ensures c.before.before.before.before.before.before.before.read-entry.ensures c.before.before.before.before.before.before.read_number.ensures c.before.before.before.before.before.if1.false).0
+put-details-requires c κs = (read_room c.before.before.before.before.before.before.before.before.before.before.before.before.before.before.args.settings.now c.before.before.before.before.before.before.before.before.before.before.before.before.before.before.args.form.now c.before.before.before.before.before.before.before.before.before.before.before.before.before.before.args.details.now c.before.before.before.before.before.before.before.before.before.before.before.before.before.before.args.signature.now c.before.before.before.before.before.before.before.before.before.settings_of_lem.ensures c.before.before.before.before.before.before.before.before.width_of_lem.ensures c.before.before.before.before.before.before.before.read-entry.ensures c.before.before.before.before.before.before.read_number.ensures c.before.before.before.before.before.if1.false).0
 
 put-signature-requires : tie.Need-put-signature-requires
-put-signature-requires c κs = (read-room c.before.before.before.before.before.before.before.before.before.before.before.before.before.before.before.before.before.before.args.settings.now c.before.before.before.before.before.before.before.before.before.before.before.before.before.before.before.before.before.before.args.form.now c.before.before.before.before.before.before.before.before.before.before.before.before.before.before.before.before.before.before.args.details.now c.before.before.before.before.before.before.before.before.before.before.before.before.before.before.before.before.before.before.args.signature.now c.before.before.before.before.before.before.before.before.before.before.before.before.before.settings_of_lem.ensures c.before.before.before.before.before.before.before.before.before.before.before.before.width_of_lem.ensures c.before.before.before.before.before.before.before.before.before.before.before.read-entry.ensures c.before.before.before.before.before.before.before.before.before.before.read_number.ensures c.before.before.before.before.before.before.before.before.before.if1.false).1
+put-signature-requires c κs = (read_room c.before.before.before.before.before.before.before.before.before.before.before.before.before.before.before.before.before.before.args.settings.now c.before.before.before.before.before.before.before.before.before.before.before.before.before.before.before.before.before.before.args.form.now c.before.before.before.before.before.before.before.before.before.before.before.before.before.before.before.before.before.before.args.details.now c.before.before.before.before.before.before.before.before.before.before.before.before.before.before.before.before.before.before.args.signature.now c.before.before.before.before.before.before.before.before.before.before.before.before.before.settings_of_lem.ensures c.before.before.before.before.before.before.before.before.before.before.before.before.width_of_lem.ensures c.before.before.before.before.before.before.before.before.before.before.before.read-entry.ensures c.before.before.before.before.before.before.before.before.before.before.read_number.ensures c.before.before.before.before.before.before.before.before.before.if1.false).1
 
 same_length : tie.Need-same-length
 same_length c = search rules

@@ -5,7 +5,7 @@ use lib.ListN.{length}
 use Rattle.journal.specs.declared.state.State.{State}
 use Rattle.device.specs.Layout.{state_of}
 use Rattle.device.specs.Calls.{serial_in}
-use Rattle.device.proofs.CallAnswers.{Part, text_whole, text_cut, part-ends, serial-short, serial-done}
+use Rattle.device.proofs.CallAnswers.{Part, text_whole, text_cut, part_ends, serial_short, serial_done}
 use borrow.Author.Rules.{rules}
 use Rattle.device.proofs.register.ditgrux_serial.Statement.{statement}
 use Rattle.device.proofs.register.ditgrux_serial.Tie as tie
@@ -34,7 +34,7 @@ serial-in-requires c κs = search rules
 returns : tie.Need-returns
 returns c =
     let a = c.before.before.before in
-    serial-short _ _ (found a) (long a) c.before.before.before.before.before.before.before.before.args.output.now (part c.before) c.if2.true
+    serial_short _ _ (found a) (long a) c.before.before.before.before.before.before.before.before.args.output.now (part c.before) c.if2.true
 
 sub-put : tie.Need-overflow-sub-put
 sub-put c = search rules
@@ -45,7 +45,7 @@ part-put-start c = search rules
 part-put-end : tie.Need-slice-bounds-put-end
 part-put-end c =
     let a = c.before.before.before.before.before.before in
-    part-ends _ _ (found a) (long a) c.before.before.before.before.before.before.before.before.before.before.before.args.output.now (part c.before.before.before.before)
+    part_ends _ _ (found a) (long a) c.before.before.before.before.before.before.before.before.before.before.before.args.output.now (part c.before.before.before.before)
 
 put-requires : tie.Need-put-requires
 put-requires c κs = search rules
@@ -57,7 +57,7 @@ returns-2 : tie.Need-returns-2
 returns-2 c =
     let a = c.before.before.before.before.before.before.before.before.before.before in
     let s = a.before.before.before.before.before.args in
-    serial-done _ _ (found a) (long a) s.output.now (part c.before.before.before.before.before.before.before.before)
+    serial_done _ _ (found a) (long a) s.output.now (part c.before.before.before.before.before.before.before.before)
     c.before.before.before.before.before.before.before.if2.false c.before.before.put.ensures.1
 
 pub ditgrux-serial-spec : {M : Type 1} → statement M

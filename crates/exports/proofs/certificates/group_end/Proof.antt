@@ -3,7 +3,7 @@ use Prim.Native.Nat.{◌+◌, ◌-◌}
 use mathlib.Core.Path.{refl}
 use native.Mathlib.Omega.{arith}
 use borrow.Author.Rules.{rules}
-use Rattle.exports.proofs.Sized.{Texts, texts_start, texts-more, group_none, group-zero, group-cut, group-whole}
+use Rattle.exports.proofs.Sized.{Texts, texts_start, texts_more, group_none, group_zero, group_cut, group_whole}
 use Rattle.exports.proofs.certificates.group_end.Statement.{statement}
 use Rattle.exports.proofs.certificates.group_end.Tie as tie
 
@@ -20,7 +20,7 @@ shared-slice-read-count : tie.Need-shared-slice-read-count invariant-loop decrea
 shared-slice-read-count c = omega arith
 
 returns-2 : tie.Need-returns-2 invariant-loop decreases-loop
-returns-2 c = group-zero _ _ c.before.before.if1.false c.if2.true
+returns-2 c = group_zero _ _ c.before.before.if1.false c.if2.true
 
 add-p : tie.Need-overflow-add-p invariant-loop decreases-loop
 add-p c = record { fits = omega arith }
@@ -32,7 +32,7 @@ sized-end-requires : tie.Need-sized-end-requires invariant-loop decreases-loop
 sized-end-requires c κs = search rules
 
 returns-3 : tie.Need-returns-3 invariant-loop decreases-loop
-returns-3 c = group-cut _ _ c.before.before.before.before.before.before.if1.false refl c.before.before.before.loop.invariant c.before.before.loop-test.true c.before.sized-end.ensures c.if3.true
+returns-3 c = group_cut _ _ c.before.before.before.before.before.before.if1.false refl c.before.before.before.loop.invariant c.before.before.loop-test.true c.before.sized-end.ensures c.if3.true
 
 add-i : tie.Need-overflow-add-i invariant-loop decreases-loop
 add-i c = let b = (c.before.before.before.before.before.before.before.shared-slice-known.given c.before.before.before.before.before.before.before.before.args.at).fits in record { fits = omega (arith, b) }
@@ -41,12 +41,12 @@ loop-less : tie.Need-loop-smaller invariant-loop decreases-loop
 loop-less c = omega arith
 
 loop-again : tie.Need-loop-preserved invariant-loop decreases-loop
-loop-again c = texts-more _ _ _ c.before.before.before.loop.invariant c.before.before.loop-test.true c.before.sized-end.ensures (omega arith)
+loop-again c = texts_more _ _ _ c.before.before.before.loop.invariant c.before.before.loop-test.true c.before.sized-end.ensures (omega arith)
 
 returns-4 : tie.Need-returns-4 invariant-loop decreases-loop
 returns-4 c =
     let b = (c.before.before.before.before.before.shared-slice-known.given c.before.before.before.before.before.before.args.at).fits in
-    group-whole _ _ c.before.before.before.before.if1.false refl c.before.loop.invariant (omega arith) (omega (arith, b)) c.loop-test.false
+    group_whole _ _ c.before.before.before.before.if1.false refl c.before.loop.invariant (omega arith) (omega (arith, b)) c.loop-test.false
 
 pub group-end-spec : {M : Type 1} → statement M
 group-end-spec =

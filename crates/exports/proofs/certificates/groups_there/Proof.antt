@@ -2,7 +2,7 @@
 use Prim.Native.Nat.{◌-◌}
 use native.Mathlib.Omega.{arith}
 use borrow.Author.Rules.{rules}
-use Rattle.exports.proofs.Sized.{Passed, passed_start, passed-more, groups-cut, groups_whole}
+use Rattle.exports.proofs.Sized.{Passed, passed_start, passed_more, groups_cut, groups_whole}
 use Rattle.exports.proofs.certificates.groups_there.Statement.{statement}
 use Rattle.exports.proofs.certificates.groups_there.Tie as tie
 
@@ -19,7 +19,7 @@ group-end-requires : tie.Need-group-end-requires invariant-loop decreases-loop
 group-end-requires c κs = search rules
 
 returns : tie.Need-returns invariant-loop decreases-loop
-returns c = groups-cut _ _ c.before.before.before.loop.invariant c.before.before.loop-test.true c.before.group-end.ensures c.if1.true
+returns c = groups_cut _ _ c.before.before.before.loop.invariant c.before.before.loop-test.true c.before.group-end.ensures c.if1.true
 
 add-i : tie.Need-overflow-add-i invariant-loop decreases-loop
 add-i c = record { fits = omega arith }
@@ -28,7 +28,7 @@ loop-less : tie.Need-loop-smaller invariant-loop decreases-loop
 loop-less c = omega arith
 
 loop-again : tie.Need-loop-preserved invariant-loop decreases-loop
-loop-again c = passed-more _ _ c.before.before.before.loop.invariant c.before.before.loop-test.true c.before.group-end.ensures (omega arith)
+loop-again c = passed_more _ _ c.before.before.before.loop.invariant c.before.before.loop-test.true c.before.group-end.ensures (omega arith)
 
 returns-2 : tie.Need-returns-2 invariant-loop decreases-loop
 returns-2 c = groups_whole _ _ c.before.loop.invariant c.loop-test.false

@@ -5,8 +5,8 @@ use Rattle.exports.specs.Text.{every}
 use Rattle.exports.specs.Shape.{string}
 use Rattle.exports.specs.Reading.{canonical}
 use Rattle.exports.proofs.Arrays.{remains, string_opens}
-use Rattle.exports.proofs.Passing.{pass_start, pass-falls}
-use Rattle.exports.proofs.Quads.{Issuers, above, issuers_none, issuers-bad, issuers-more, issuers_end}
+use Rattle.exports.proofs.Passing.{pass_start, pass_falls}
+use Rattle.exports.proofs.Quads.{Issuers, above, issuers_none, issuers_bad, issuers_more, issuers_end}
 use Rattle.exports.proofs.certificates.issuers_good.Statement.{statement}
 use Rattle.exports.proofs.certificates.issuers_good.Tie as tie
 
@@ -32,16 +32,16 @@ canonical-at-requires : tie.Need-canonical-at-requires invariant-loop decreases-
 canonical-at-requires c κs = above c.before.part_at.ensures c.if1.false
 
 returns-2 : tie.Need-returns-2 invariant-loop decreases-loop
-returns-2 c = issuers-bad c.before.before.before.before.before.loop.invariant c.before.before.before.before.loop-test.true c.before.before.before.part_at.ensures c.before.canonical-at.ensures (not-true _ c.if2.true)
+returns-2 c = issuers_bad c.before.before.before.before.before.loop.invariant c.before.before.before.before.loop-test.true c.before.before.before.part_at.ensures c.before.canonical-at.ensures (not-true _ c.if2.true)
 
 follow-requires : tie.Need-follow-requires invariant-loop decreases-loop
 follow-requires c κs = c.before.before.before.part_at.ensures.reads.inside
 
 loop-less : tie.Need-loop-smaller invariant-loop decreases-loop
-loop-less c = pass-falls string c.before.before.before.before.before.before.loop.invariant c.before.before.before.before.before.loop-test.true c.before.before.before.before.part_at.ensures.reads c.before.before.before.if1.false c.follow.ensures
+loop-less c = pass_falls string c.before.before.before.before.before.before.loop.invariant c.before.before.before.before.before.loop-test.true c.before.before.before.before.part_at.ensures.reads c.before.before.before.if1.false c.follow.ensures
 
 loop-again : tie.Need-loop-preserved invariant-loop decreases-loop
-loop-again c = issuers-more c.before.before.before.before.before.before.loop.invariant c.before.before.before.before.before.loop-test.true c.before.before.before.before.part_at.ensures c.before.before.canonical-at.ensures (not-false _ c.before.if2.false) c.follow.ensures
+loop-again c = issuers_more c.before.before.before.before.before.before.loop.invariant c.before.before.before.before.before.loop-test.true c.before.before.before.before.part_at.ensures c.before.before.canonical-at.ensures (not-false _ c.before.if2.false) c.follow.ensures
 
 returns-3 : tie.Need-returns-3 invariant-loop decreases-loop
 returns-3 c = issuers_end c.before.loop.invariant c.loop-test.false

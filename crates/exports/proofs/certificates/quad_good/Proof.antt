@@ -1,6 +1,6 @@
 -- `certificates::quad_good` meets its contract.
 use borrow.Author.Rules.{rules}
-use Rattle.exports.proofs.Canonical.{upto-good, refused-bad, full-good}
+use Rattle.exports.proofs.Canonical.{upto_good, refused_bad, full_good}
 use Rattle.exports.proofs.certificates.quad_good.Statement.{statement}
 use Rattle.exports.proofs.certificates.quad_good.Tie as tie
 
@@ -23,13 +23,13 @@ enum-told-2 : tie.Need-enum-told-2
 enum-told-2 c = search rules
 
 returns : tie.Need-returns
-returns c = upto-good _ _ _ c.before.before.before.before.base64-decode.ensures.0 c.before.n.given.1
+returns c = upto_good _ _ _ c.before.before.before.before.base64-decode.ensures.0 c.before.n.given.1
 
 returns-2 : tie.Need-returns-2
-returns-2 c = refused-bad _ _ _ c.before.before.before.base64-decode.ensures.0 c.enum_told.given.1
+returns-2 c = refused_bad _ _ _ c.before.before.before.base64-decode.ensures.0 c.enum_told.given.1
 
 returns-3 : tie.Need-returns-3
-returns-3 c = full-good _ _ _ c.before.before.before.base64-decode.ensures.0 c.enum-told2.given.1
+returns-3 c = full_good _ _ _ c.before.before.before.base64-decode.ensures.0 c.enum-told2.given.1
 
 pub quad-good-spec : {M : Type 1} → statement M
 quad-good-spec =

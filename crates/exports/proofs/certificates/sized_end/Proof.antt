@@ -4,7 +4,7 @@ use mathlib.Core.Path.{refl, sym, ◌∙◌}
 use lib.ListN.{length}
 use native.Mathlib.Omega.{arith}
 use Rattle.primitives.proofs.Questions.{at_most, above}
-use Rattle.exports.proofs.Sized.{sized_room, sized-cut, sized-whole, sized_none}
+use Rattle.exports.proofs.Sized.{sized_room, sized_cut, sized_whole, sized_none}
 use borrow.Author.Rules.{rules}
 use Rattle.exports.proofs.certificates.sized_end.Statement.{statement}
 use Rattle.exports.proofs.certificates.sized_end.Tie as tie
@@ -22,7 +22,7 @@ has-room-requires : tie.Need-has-room-requires
 has-room-requires c κs = search rules
 
 returns : tie.Need-returns
-returns c = sized-cut _ _ (record { at = λ i. (c.before.before.before.before.before.before.shared-slice-known.given i).fits }) (sym c.before.before.before.before.before.number_at.ensures ∙ c.before.before.before.v.given.1) (above _ _ c.before.has_room.ensures c.if1.true)
+returns c = sized_cut _ _ (record { at = λ i. (c.before.before.before.before.before.before.shared-slice-known.given i).fits }) (sym c.before.before.before.before.before.number_at.ensures ∙ c.before.before.before.v.given.1) (above _ _ c.before.has_room.ensures c.if1.true)
 
 add-result : tie.Need-overflow-add-result
 add-result c =
@@ -34,7 +34,7 @@ enum_told : tie.Need-enum-told
 enum_told c = search rules
 
 returns-2 : tie.Need-returns-2
-returns-2 c = sized-whole _ _ (record { at = λ i. (c.before.before.before.before.before.before.shared-slice-known.given i).fits }) (sym c.before.before.before.before.before.number_at.ensures ∙ c.before.before.before.v.given.1) (at_most _ _ c.before.has_room.ensures c.if1.false) refl
+returns-2 c = sized_whole _ _ (record { at = λ i. (c.before.before.before.before.before.before.shared-slice-known.given i).fits }) (sym c.before.before.before.before.before.number_at.ensures ∙ c.before.before.before.v.given.1) (at_most _ _ c.before.has_room.ensures c.if1.false) refl
 
 returns-3 : tie.Need-returns-3
 returns-3 c = sized_none _ _ (sym c.before.before.number_at.ensures ∙ c.enum_told.given.1)

@@ -1,7 +1,7 @@
 -- `lexer::next` meets its contract.
 use borrow.Author.Rules.{rules}
 use mathlib.Core.Path.{refl, sym, ◌∙◌}
-use Rattle.exports.proofs.Lexing.{next_end, next-no-string, next-string, next-mark, next_other}
+use Rattle.exports.proofs.Lexing.{next_end, next_no_string, next_string, next_mark, next_other}
 use Rattle.exports.proofs.lexer.next.Statement.{statement}
 use Rattle.exports.proofs.lexer.next.Tie as tie
 
@@ -27,13 +27,13 @@ at-end-requires-2 : tie.Need-at-end-requires-2
 at-end-requires-2 c κs = search rules
 
 returns-2 : tie.Need-returns-2
-returns-2 c = next-no-string c.before.before.before.before.before.before.before.skip-blanks.ensures c.before.before.before.before.before.before.if1.false c.before.before.before.before.if2.true c.before.before.before.string-end.ensures c.at-end2.ensures c.before.if3.true
+returns-2 c = next_no_string c.before.before.before.before.before.before.before.skip-blanks.ensures c.before.before.before.before.before.before.if1.false c.before.before.before.before.if2.true c.before.before.before.string-end.ensures c.at-end2.ensures c.before.if3.true
 
 add-t10 : tie.Need-overflow-add-t10
 add-t10 c = search rules
 
 returns-3 : tie.Need-returns-3
-returns-3 c = next-string c.before.before.before.before.before.before.skip-blanks.ensures c.before.before.before.before.before.if1.false c.before.before.before.if2.true c.before.before.string-end.ensures c.if3.false
+returns-3 c = next_string c.before.before.before.before.before.before.skip-blanks.ensures c.before.before.before.before.before.if1.false c.before.before.before.if2.true c.before.before.string-end.ensures c.if3.false
 
 is-mark-requires : tie.Need-is-mark-requires
 is-mark-requires c κs = search rules
@@ -42,7 +42,7 @@ add-t13 : tie.Need-overflow-add-t13
 add-t13 c = search rules
 
 returns-4 : tie.Need-returns-4
-returns-4 c = next-mark c.before.before.before.before.before.skip-blanks.ensures c.before.before.before.before.if1.false _ refl c.before.before.if2.false (sym c.before.is-mark.ensures ∙ c.if4.true)
+returns-4 c = next_mark c.before.before.before.before.before.skip-blanks.ensures c.before.before.before.before.if1.false _ refl c.before.before.if2.false (sym c.before.is-mark.ensures ∙ c.if4.true)
 
 at-end-requires-3 : tie.Need-at-end-requires-3
 at-end-requires-3 c κs = search rules

@@ -2,7 +2,7 @@
 use borrow.Author.Rules.{rules}
 use Prim.Native.Nat.{◌-◌}
 use lib.ListN.{length}
-use Rattle.exports.proofs.Names.{Spelling, spell_start, spell_short, spell-differ, spell-more, spell_close, spell_all}
+use Rattle.exports.proofs.Names.{Spelling, spell_start, spell_short, spell_differ, spell_more, spell_close, spell_all}
 use Rattle.exports.proofs.lexer.spells.Statement.{statement}
 use Rattle.exports.proofs.lexer.spells.Tie as tie
 
@@ -25,7 +25,7 @@ shared-slice-read-if2-2 : tie.Need-shared-slice-read-if2-2 invariant-loop decrea
 shared-slice-read-if2-2 c = search rules
 
 returns-2 : tie.Need-returns-2 invariant-loop decreases-loop
-returns-2 c = spell-differ c.before.before.before.before.before.loop.invariant c.before.before.before.before.loop-test.true c.before.before.before.if1.false c.if2.true
+returns-2 c = spell_differ c.before.before.before.before.before.loop.invariant c.before.before.before.before.loop-test.true c.before.before.before.if1.false c.if2.true
 
 add_at : tie.Need-overflow-add-at invariant-loop decreases-loop
 add_at c = search rules
@@ -37,7 +37,7 @@ loop-less : tie.Need-loop-smaller invariant-loop decreases-loop
 loop-less c = search rules
 
 loop-again : tie.Need-loop-preserved invariant-loop decreases-loop
-loop-again c = spell-more c.before.before.before.before.before.loop.invariant c.before.before.before.before.loop-test.true c.before.before.before.if1.false c.if2.false
+loop-again c = spell_more c.before.before.before.before.before.loop.invariant c.before.before.before.before.loop-test.true c.before.before.before.if1.false c.if2.false
 
 shared-slice-read-result : tie.Need-shared-slice-read-result invariant-loop decreases-loop
 shared-slice-read-result c = search rules

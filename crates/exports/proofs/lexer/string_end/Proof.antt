@@ -4,7 +4,7 @@ use lib.ListN.{length}
 use borrow.Author.Rules.{rules}
 use borrow.Author.Tests.{not-true, not-false}
 use native.Mathlib.Omega.{arith}
-use Rattle.exports.proofs.Lexing.{Ending, string_start, string_open, string-close, string-wrong, string-more, escape-room}
+use Rattle.exports.proofs.Lexing.{Ending, string_start, string_open, string_close, string_wrong, string_more, escape_room}
 use Rattle.exports.proofs.lexer.string_end.Statement.{statement}
 use Rattle.exports.proofs.lexer.string_end.Tie as tie
 
@@ -30,7 +30,7 @@ add-t10 : tie.Need-overflow-add-t10 invariant-loop decreases-loop
 add-t10 c = search rules
 
 returns : tie.Need-returns invariant-loop decreases-loop
-returns c = string-close c.before.before.before.loop.invariant c.before.before.loop-test.true c.if1.true
+returns c = string_close c.before.before.before.loop.invariant c.before.before.loop-test.true c.if1.true
 
 escape-at-requires : tie.Need-escape-at-requires invariant-loop decreases-loop
 escape-at-requires c κs = search rules
@@ -39,28 +39,28 @@ not-closed-requires : tie.Need-not-closed-requires invariant-loop decreases-loop
 not-closed-requires c κs = search rules
 
 returns-2 : tie.Need-returns-2 invariant-loop decreases-loop
-returns-2 c = string-wrong c.before.before.before.before.before.before.loop.invariant c.before.before.before.before.before.loop-test.true c.not-closed.ensures c.before.before.before.if1.false c.before.before.escape-at.ensures (not-true _ c.before.if2.true)
+returns-2 c = string_wrong c.before.before.before.before.before.before.loop.invariant c.before.before.before.before.before.loop-test.true c.not-closed.ensures c.before.before.before.if1.false c.before.before.escape-at.ensures (not-true _ c.before.if2.true)
 
 add-e : tie.Need-overflow-add-e invariant-loop decreases-loop
-add-e c = omega (arith, escape-room c.before.before.before.before.before.loop.invariant c.before.before.before.before.loop-test.true c.before.escape-at.ensures (not-false _ c.if2.false))
+add-e c = omega (arith, escape_room c.before.before.before.before.before.loop.invariant c.before.before.before.before.loop-test.true c.before.escape-at.ensures (not-false _ c.if2.false))
 
 plain-end-requires-2 : tie.Need-plain-end-requires-2 invariant-loop decreases-loop
-plain-end-requires-2 c κs = escape-room c.before.before.before.before.before.loop.invariant c.before.before.before.before.loop-test.true c.before.escape-at.ensures (not-false _ c.if2.false)
+plain-end-requires-2 c κs = escape_room c.before.before.before.before.before.loop.invariant c.before.before.before.before.loop-test.true c.before.escape-at.ensures (not-false _ c.if2.false)
 
 add-n : tie.Need-overflow-add-n invariant-loop decreases-loop
-add-n c = omega (arith, c.before.before.before.before.before.before.loop.invariant.small, escape-room c.before.before.before.before.before.before.loop.invariant c.before.before.before.before.before.loop-test.true c.before.before.escape-at.ensures (not-false _ c.before.if2.false))
+add-n c = omega (arith, c.before.before.before.before.before.before.loop.invariant.small, escape_room c.before.before.before.before.before.before.loop.invariant c.before.before.before.before.before.loop-test.true c.before.before.escape-at.ensures (not-false _ c.before.if2.false))
 
 sub-n-2 : tie.Need-overflow-sub-n-2 invariant-loop decreases-loop
 sub-n-2 c = c.plain-end2.ensures.onward
 
 add-n-2 : tie.Need-overflow-add-n-2 invariant-loop decreases-loop
-add-n-2 c = omega (arith, (string-more c.before.before.before.before.before.before.loop.invariant c.before.before.before.before.before.loop-test.true c.before.before.escape-at.ensures (not-false _ c.before.if2.false) c.plain-end2.ensures).small, c.plain-end2.ensures.inside)
+add-n-2 c = omega (arith, (string_more c.before.before.before.before.before.before.loop.invariant c.before.before.before.before.before.loop-test.true c.before.before.escape-at.ensures (not-false _ c.before.if2.false) c.plain-end2.ensures).small, c.plain-end2.ensures.inside)
 
 loop-less : tie.Need-loop-smaller invariant-loop decreases-loop
 loop-less c = omega (arith, c.plain-end2.ensures.onward, c.before.before.before.before.before.loop-test.true)
 
 loop-again : tie.Need-loop-preserved invariant-loop decreases-loop
-loop-again c = string-more c.before.before.before.before.before.before.loop.invariant c.before.before.before.before.before.loop-test.true c.before.before.escape-at.ensures (not-false _ c.before.if2.false) c.plain-end2.ensures
+loop-again c = string_more c.before.before.before.before.before.before.loop.invariant c.before.before.before.before.before.loop-test.true c.before.before.escape-at.ensures (not-false _ c.before.if2.false) c.plain-end2.ensures
 
 not-closed-requires-2 : tie.Need-not-closed-requires-2 invariant-loop decreases-loop
 not-closed-requires-2 c κs = search rules

@@ -1,7 +1,7 @@
 -- `naming::canonical_url` meets its contract.
 use mathlib.Core.Path.{sym, ◌∙◌}
 use borrow.Author.Rules.{rules}
-use Rattle.exports.proofs.PayloadLetters.{canonical-read, canonical-refused, canonical-full}
+use Rattle.exports.proofs.PayloadLetters.{canonical_read, canonical_refused, canonical_full}
 use Rattle.exports.proofs.naming.canonical_url.Statement.{statement}
 use Rattle.exports.proofs.naming.canonical_url.Tie as tie
 
@@ -23,17 +23,17 @@ enum-told-2 c = search rules
 returns : tie.Need-returns
 returns c =
     let read = c.before.before.before.before in
-    canonical-read read.before.before.before.args.m.now _ _ _ (sym c.before.n.given.1 ∙ read.base64-decode.ensures.0)
+    canonical_read read.before.before.before.args.m.now _ _ _ (sym c.before.n.given.1 ∙ read.base64-decode.ensures.0)
 
 returns-2 : tie.Need-returns-2
 returns-2 c =
     let read = c.before.before.before in
-    canonical-refused read.before.before.before.args.m.now _ _ (sym c.enum_told.given.1 ∙ read.base64-decode.ensures.0)
+    canonical_refused read.before.before.before.args.m.now _ _ (sym c.enum_told.given.1 ∙ read.base64-decode.ensures.0)
 
 returns-3 : tie.Need-returns-3
 returns-3 c =
     let read = c.before.before.before in
-    canonical-full read.before.before.before.args.m.now _ _ (sym c.enum-told2.given.1 ∙ read.base64-decode.ensures.0)
+    canonical_full read.before.before.before.args.m.now _ _ (sym c.enum-told2.given.1 ∙ read.base64-decode.ensures.0)
 
 pub canonical-url-spec : {M : Type 1} → statement M
 canonical-url-spec =

@@ -13,11 +13,11 @@ next-mark-requires : tie.Need-next-mark-requires
 next-mark-requires c κs = search rules
 
 name-at-requires : tie.Need-name-at-requires
-name-at-requires c κs = (c.before.before.before.requires, place_ordered _ _ c.next-mark.ensures.0, c.next-mark.ensures.1)
+name-at-requires c κs = (c.before.before.before.requires, place_ordered _ _ c.next_mark.ensures.0, c.next_mark.ensures.1)
 
 returns : tie.Need-returns
 returns c =
-    c.name-at.ensures ∙ ap name_of (field_is _ _ _ c.before.before.skip-marks.ensures c.before.next-mark.ensures.0)
+    c.name-at.ensures ∙ ap name_of (field_is _ _ _ c.before.before.skip-marks.ensures c.before.next_mark.ensures.0)
 
 pub field-name-spec : {M : Type 1} → statement M
 field-name-spec =

@@ -1,6 +1,6 @@
 -- `naming::named_by` meets its contract.
 use borrow.Author.Rules.{rules}
-use Rattle.exports.proofs.PayloadNames.{names_not, names_short, names_unmarked, names_uncounted, first_long, names-unsized, names-unstarted, names-bad, names_good}
+use Rattle.exports.proofs.PayloadNames.{names_not, names_short, names_unmarked, names_uncounted, first_long, names_unsized, names_unstarted, names_bad, names_good}
 use Rattle.exports.proofs.naming.named_by.Statement.{statement}
 use Rattle.exports.proofs.naming.named_by.Tie as tie
 
@@ -32,7 +32,7 @@ not-named-requires-3 c κs = search rules
 
 returns-3 : tie.Need-returns-3
 returns-3 c =
-    names_not _ (names-unsized _ c.before.before.before.before.before.before.before.before.field-name.ensures c.before.if3.true) c.not-named3.ensures
+    names_not _ (names_unsized _ c.before.before.before.before.before.before.before.before.field-name.ensures c.before.if3.true) c.not-named3.ensures
 
 sub_same : tie.Need-overflow-sub-same
 sub_same c = search rules
@@ -56,7 +56,7 @@ not-named-requires-4 c κs = search rules
 
 returns-4 : tie.Need-returns-4
 returns-4 c =
-    names_not _ (names-unstarted _ c.before.before.before.before.before.before.before.before.before.before.before.before.before.field-name.ensures c.before.before.before.before.before.before.if3.false c.before.before.before.before.before.before.before.before.before.byte_at.ensures c.before.before.before.before.before.before.before.before.if2.false c.before.before.same.ensures c.before.if4.true) c.not-named4.ensures
+    names_not _ (names_unstarted _ c.before.before.before.before.before.before.before.before.before.before.before.before.before.field-name.ensures c.before.before.before.before.before.before.if3.false c.before.before.before.before.before.before.before.before.before.byte_at.ensures c.before.before.before.before.before.before.before.before.if2.false c.before.before.same.ensures c.before.if4.true) c.not-named4.ensures
 
 count-marks-requires : tie.Need-count-marks-requires
 count-marks-requires c κs = search rules
@@ -92,7 +92,7 @@ not-named-requires-6 c κs = search rules
 returns-6 : tie.Need-returns-6
 returns-6 c =
     names_not _
-    (names-bad _ c.before.before.before.before.before.before.before.before.before.before.before.before.before.before.before.before.before.before.before.field-name.ensures c.before.before.before.before.before.before.before.before.before.before.before.before.if3.false c.before.before.before.before.before.before.before.before.before.before.before.before.before.before.before.byte_at.ensures c.before.before.before.before.before.before.before.before.before.before.before.before.before.before.if2.false c.before.before.before.before.before.before.before.before.same.ensures c.before.before.before.before.before.before.before.if4.false
+    (names_bad _ c.before.before.before.before.before.before.before.before.before.before.before.before.before.before.before.before.before.before.before.field-name.ensures c.before.before.before.before.before.before.before.before.before.before.before.before.if3.false c.before.before.before.before.before.before.before.before.before.before.before.before.before.before.before.byte_at.ensures c.before.before.before.before.before.before.before.before.before.before.before.before.before.before.if2.false c.before.before.before.before.before.before.before.before.same.ensures c.before.before.before.before.before.before.before.if4.false
     c.before.before.before.before.field-name2.ensures c.before.before.before.field-name3.ensures c.before.before.settings_good_lem.ensures c.before.if6.true) c.not-named6.ensures
 
 returns-7 : tie.Need-returns-7

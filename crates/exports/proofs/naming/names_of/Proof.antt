@@ -2,7 +2,7 @@
 use mathlib.Core.Path.{sym, ◌∙◌}
 use borrow.Author.Tests.{not-false}
 use borrow.Author.Rules.{rules}
-use Rattle.exports.proofs.ReceiptDots.{dots-0, dots-1, middle-ordered, dots-3, dots-foreign, dots-good}
+use Rattle.exports.proofs.ReceiptDots.{dots_0, dots_1, middle_ordered, dots_3, dots_foreign, dots_good}
 use Rattle.exports.proofs.naming.names_of.Statement.{statement}
 use Rattle.exports.proofs.naming.names_of.Tie as tie
 
@@ -14,7 +14,7 @@ not-named-requires c κs = search rules
 
 returns : tie.Need-returns
 returns c =
-    dots-0 _ c.before.before.next-dot.ensures c.before.if1.true c.not_named.ensures
+    dots_0 _ c.before.before.next-dot.ensures c.before.if1.true c.not_named.ensures
 
 add-next-dot : tie.Need-overflow-add-next-dot
 add-next-dot c = search rules
@@ -27,7 +27,7 @@ not-named-requires-2 c κs = search rules
 
 returns-2 : tie.Need-returns-2
 returns-2 c =
-    dots-1 _ c.before.before.before.before.next-dot.ensures c.before.before.before.if1.false c.before.before.next-dot2.ensures c.before.if2.true c.not-named2.ensures
+    dots_1 _ c.before.before.before.before.next-dot.ensures c.before.before.before.if1.false c.before.before.next-dot2.ensures c.before.if2.true c.not-named2.ensures
 
 add-next-dot-2 : tie.Need-overflow-add-next-dot-2
 add-next-dot-2 c = search rules
@@ -40,18 +40,18 @@ not-named-requires-3 c κs = search rules
 
 returns-3 : tie.Need-returns-3
 returns-3 c =
-    dots-3 _ c.before.before.before.before.before.before.next-dot.ensures c.before.before.before.before.before.if1.false c.before.before.before.before.next-dot2.ensures c.before.before.before.if2.false c.before.before.next-dot3.ensures c.before.if3.true c.not-named3.ensures
+    dots_3 _ c.before.before.before.before.before.before.next-dot.ensures c.before.before.before.before.before.if1.false c.before.before.before.before.next-dot2.ensures c.before.before.before.if2.false c.before.before.next-dot3.ensures c.before.if3.true c.not-named3.ensures
 
 add-m : tie.Need-overflow-add-m
 add-m c = search rules
 
 sub-m : tie.Need-overflow-sub-m
 sub-m c =
-    middle-ordered _ c.before.before.before.before.before.next-dot.ensures c.before.before.before.before.if1.false c.before.before.before.next-dot2.ensures
+    middle_ordered _ c.before.before.before.before.before.next-dot.ensures c.before.before.before.before.if1.false c.before.before.before.next-dot2.ensures
 
 part-m-start : tie.Need-slice-bounds-m-start
 part-m-start c =
-    let h = middle-ordered _ c.before.before.before.before.before.next-dot.ensures c.before.before.before.before.if1.false c.before.before.before.next-dot2.ensures in search rules
+    let h = middle_ordered _ c.before.before.before.before.before.next-dot.ensures c.before.before.before.before.if1.false c.before.before.before.next-dot2.ensures in search rules
 
 part-m-end : tie.Need-slice-bounds-m-end
 part-m-end c = search rules
@@ -64,7 +64,7 @@ not-named-requires-4 c κs = search rules
 
 returns-4 : tie.Need-returns-4
 returns-4 c =
-    dots-foreign _ c.before.before.before.before.before.before.before.before.before.next-dot.ensures c.before.before.before.before.before.before.before.before.if1.false c.before.before.before.before.before.before.before.next-dot2.ensures c.before.before.before.before.before.before.if2.false c.before.before.before.before.before.next-dot3.ensures c.before.before.before.before.if3.false c.before.before.canonical-url.ensures
+    dots_foreign _ c.before.before.before.before.before.before.before.before.before.next-dot.ensures c.before.before.before.before.before.before.before.before.if1.false c.before.before.before.before.before.before.before.next-dot2.ensures c.before.before.before.before.before.before.if2.false c.before.before.before.before.before.next-dot3.ensures c.before.before.before.before.if3.false c.before.before.canonical-url.ensures
     c.before.if4.true c.not-named4.ensures
 
 named-by-requires : tie.Need-named-by-requires
@@ -73,7 +73,7 @@ named-by-requires c κs =
 
 returns-5 : tie.Need-returns-5
 returns-5 c =
-    dots-good _ c.before.before.before.before.before.before.before.before.before.next-dot.ensures c.before.before.before.before.before.before.before.before.if1.false c.before.before.before.before.before.before.before.next-dot2.ensures c.before.before.before.before.before.before.if2.false c.before.before.before.before.before.next-dot3.ensures c.before.before.before.before.if3.false c.before.before.canonical-url.ensures
+    dots_good _ c.before.before.before.before.before.before.before.before.before.next-dot.ensures c.before.before.before.before.before.before.before.before.if1.false c.before.before.before.before.before.before.before.next-dot2.ensures c.before.before.before.before.before.before.if2.false c.before.before.before.before.before.next-dot3.ensures c.before.before.before.before.if3.false c.before.before.canonical-url.ensures
     c.before.if4.false c.named_by.ensures
 
 pub names-of-spec : {M : Type 1} → statement M

@@ -38,7 +38,7 @@ loop-again : tie.Need-loop-preserved invariant-loop decreases-loop
 loop-again c =
     let loop = c.before.before.before in (
       omega (arith, c.before.before.loop-test.true),
-      place_next _ _ _ loop.loop.invariant.1 loop.before.payload_length.ensures c.before.next-mark.ensures
+      place_next _ _ _ loop.loop.invariant.1 loop.before.payload_length.ensures c.before.next_mark.ensures
           (⊎_elim (λ w. inl (w.0.taken, w.1)) (λ w. inr (w.0.left, w.1)) c.if1.branch),
     )
 

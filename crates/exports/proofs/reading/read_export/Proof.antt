@@ -4,7 +4,7 @@ use native.Mathlib.Omega.{arith}
 use lib.ListN.{length}
 use borrow.Author.Rules.{rules}
 use borrow.Author.Tests.{not-true, not-false}
-use Rattle.exports.proofs.Restoring.{read_none, read-survey, read_refused, read_all}
+use Rattle.exports.proofs.Restoring.{read_none, read_survey, read_refused, read_all}
 use Rattle.exports.proofs.reading.read_export.Statement.{statement}
 use Rattle.exports.proofs.reading.read_export.Tie as tie
 
@@ -31,7 +31,7 @@ not-read-requires-2 : tie.Need-not-read-requires-2
 not-read-requires-2 c κs = search rules
 
 returns-2 : tie.Need-returns-2
-returns-2 c = read-survey _ _ _ _ c.before.before.before.before.before.before.has-shape.ensures (not-false _ c.before.before.before.before.before.if1.false) c.before.before.before.before.owner-named.ensures.0 c.before.before.before.survey-text.ensures c.not-read2.ensures c.before.if2.true
+returns-2 c = read_survey _ _ _ _ c.before.before.before.before.before.before.has-shape.ensures (not-false _ c.before.before.before.before.before.if1.false) c.before.before.before.before.owner-named.ensures.0 c.before.before.before.survey-text.ensures c.not-read2.ensures c.before.if2.true
 
 retake-requires : tie.Need-retake-requires
 retake-requires c κs = search rules

@@ -2,7 +2,7 @@
 use Prim.Native.Nat.{◌-◌}
 use native.Mathlib.Omega.{arith}
 use lib.ListN.{length}
-use Rattle.exports.proofs.Carrying.{Copying, copy_start, copy-room, copy-letters-at, copy_falls, copy_more, copy_long, copy_end}
+use Rattle.exports.proofs.Carrying.{Copying, copy_start, copy_room, copy_letters_at, copy_falls, copy_more, copy_long, copy_end}
 use Rattle.exports.proofs.rebuilding.copy_letters.Statement.{statement}
 use Rattle.exports.proofs.rebuilding.copy_letters.Tie as tie
 
@@ -19,13 +19,13 @@ loop-holds : tie.Need-loop-init invariant-loop decreases-loop
 loop-holds c = copy_start c.before.before.before.requires.0 c.before.before.before.requires.1 c.letter_at.ensures
 
 slice-write-out : tie.Need-slice-write-out invariant-loop decreases-loop
-slice-write-out c = copy-room c.before.loop.invariant c.loop-test.true
+slice-write-out c = copy_room c.before.loop.invariant c.loop-test.true
 
 add-o : tie.Need-overflow-add-o invariant-loop decreases-loop
-add-o c = omega (arith, copy-room c.before.loop.invariant c.loop-test.true, copy_long c.before.loop.invariant, c.before.before.before.before.before.well-formed)
+add-o c = omega (arith, copy_room c.before.loop.invariant c.loop-test.true, copy_long c.before.loop.invariant, c.before.before.before.before.before.well-formed)
 
 letter-at-requires-2 : tie.Need-letter-at-requires-2 invariant-loop decreases-loop
-letter-at-requires-2 c κs = copy-letters-at c.before.loop.invariant c.loop-test.true
+letter-at-requires-2 c κs = copy_letters_at c.before.loop.invariant c.loop-test.true
 
 loop-less : tie.Need-loop-smaller invariant-loop decreases-loop
 loop-less c = copy_falls c.before.before.loop.invariant c.before.loop-test.true

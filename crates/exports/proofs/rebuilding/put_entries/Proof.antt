@@ -1,7 +1,7 @@
 -- `rebuilding::put_entries` meets its contract.
 use native.Mathlib.Omega.{arith}
 use Rattle.exports.proofs.Arrays.{remains}
-use Rattle.exports.proofs.Carrying.{Entries, entries_start, entries_next, entries-fall, entries_end, entries-refused, part_letters}
+use Rattle.exports.proofs.Carrying.{Entries, entries_start, entries_next, entries_fall, entries_end, entries_refused, part_letters}
 use borrow.Author.Rules.{rules}
 use Rattle.exports.proofs.rebuilding.put_entries.Statement.{statement}
 use Rattle.exports.proofs.rebuilding.put_entries.Tie as tie
@@ -28,7 +28,7 @@ same_length : tie.Need-same-length invariant-loop decreases-loop
 same_length c = c.before.before.before.loop.invariant.long
 
 returns : tie.Need-returns invariant-loop decreases-loop
-returns c = entries-refused c.before.before.before.loop.invariant c.before.before.loop-test.true c.before.part_at.ensures _ c.if1.true
+returns c = entries_refused c.before.before.before.loop.invariant c.before.before.loop-test.true c.before.part_at.ensures _ c.if1.true
 
 put-entry-requires : tie.Need-put-entry-requires invariant-loop decreases-loop
 put-entry-requires c κs = part_letters c.before.before.part_at.ensures c.before.if1.false
@@ -40,7 +40,7 @@ follow-requires : tie.Need-follow-requires invariant-loop decreases-loop
 follow-requires c κs = c.before.before.before.before.before.part_at.ensures.reads.inside
 
 loop-less : tie.Need-loop-smaller invariant-loop decreases-loop
-loop-less c = entries-fall c.before.before.before.before.before.before.before.before.loop.invariant c.before.before.before.before.before.before.before.loop-test.true c.before.before.before.before.before.before.part_at.ensures c.before.before.before.before.before.if1.false c.follow.ensures
+loop-less c = entries_fall c.before.before.before.before.before.before.before.before.loop.invariant c.before.before.before.before.before.before.before.loop-test.true c.before.before.before.before.before.before.part_at.ensures c.before.before.before.before.before.if1.false c.follow.ensures
 
 loop-again : tie.Need-loop-preserved invariant-loop decreases-loop
 loop-again c = entries_next c.before.before.before.before.before.before.before.before.loop.invariant c.before.before.before.before.before.before.before.loop-test.true c.before.before.before.before.before.before.part_at.ensures c.before.before.before.before.before.if1.false c.follow.ensures c.before.before.before.put-entry.ensures

@@ -2,7 +2,7 @@
 use mathlib.Core.Path.{◌∙◌}
 use native.Mathlib.Omega.{arith}
 use Rattle.exports.proofs.Arrays.{remains}
-use Rattle.exports.proofs.Carrying.{Pairing, pairs_start, pairs_next, pairs-fall, journal_put, journal_refused}
+use Rattle.exports.proofs.Carrying.{Pairing, pairs_start, pairs_next, pairs_fall, journal_put, journal_refused}
 use borrow.Author.Rules.{rules}
 use Rattle.exports.proofs.rebuilding.put_journal.Statement.{statement}
 use Rattle.exports.proofs.rebuilding.put_journal.Tie as tie
@@ -44,7 +44,7 @@ follow-requires : tie.Need-follow-requires invariant-loop decreases-loop
 follow-requires c κs = c.before.before.element-end.ensures.inside
 
 loop-less : tie.Need-loop-smaller invariant-loop decreases-loop
-loop-less c = pairs-fall c.before.before.before.before.before.before.before.before.before.before.before.loop.invariant c.before.before.before.before.before.before.before.before.before.before.loop-test.true c.before.before.before.before.before.before.before.before.before.receipts-place.ensures c.before.before.before.before.before.before.before.put-pair.ensures c.before.before.before.element-end.ensures (omega (arith, c.before.if1.false)) c.follow.ensures
+loop-less c = pairs_fall c.before.before.before.before.before.before.before.before.before.before.before.loop.invariant c.before.before.before.before.before.before.before.before.before.before.loop-test.true c.before.before.before.before.before.before.before.before.before.receipts-place.ensures c.before.before.before.before.before.before.before.put-pair.ensures c.before.before.before.element-end.ensures (omega (arith, c.before.if1.false)) c.follow.ensures
 
 loop-again : tie.Need-loop-preserved invariant-loop decreases-loop
 loop-again c = pairs_next c.before.before.before.before.before.before.before.before.before.before.before.loop.invariant c.before.before.before.before.before.before.before.before.before.before.loop-test.true c.before.before.before.before.before.before.before.before.before.receipts-place.ensures c.before.before.before.before.before.before.before.put-pair.ensures c.before.before.before.element-end.ensures (omega (arith, c.before.if1.false)) c.follow.ensures

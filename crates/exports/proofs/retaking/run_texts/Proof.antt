@@ -4,8 +4,8 @@ use native.Mathlib.Omega.{arith}
 use Rattle.exports.specs.Shape.{string}
 use Rattle.exports.specs.Running.{run_texts}
 use Rattle.exports.proofs.Arrays.{remains, string_opens}
-use Rattle.exports.proofs.Passing.{Crossing, cross-start, pass-falls}
-use Rattle.exports.proofs.RunsAlong.{texts_end, texts_none, texts-refused, texts-more}
+use Rattle.exports.proofs.Passing.{Crossing, cross_start, pass_falls}
+use Rattle.exports.proofs.RunsAlong.{texts_end, texts_none, texts_refused, texts_more}
 use Rattle.exports.proofs.retaking.run_texts.Statement.{statement}
 use Rattle.exports.proofs.retaking.run_texts.Tie as tie
 
@@ -19,7 +19,7 @@ begin-requires : tie.Need-begin-requires invariant-loop decreases-loop
 begin-requires c κs = search rules
 
 loop-holds : tie.Need-loop-init invariant-loop decreases-loop
-loop-holds c = cross-start string (run_texts _ _) string_opens c.begin.ensures
+loop-holds c = cross_start string (run_texts _ _) string_opens c.begin.ensures
 
 part-at-requires : tie.Need-part-at-requires invariant-loop decreases-loop
 part-at-requires c κs = c.before.loop.invariant.pass.inside
@@ -43,16 +43,16 @@ check-entry-requires : tie.Need-check-entry-requires invariant-loop decreases-lo
 check-entry-requires c κs = search rules
 
 returns-2 : tie.Need-returns-2 invariant-loop decreases-loop
-returns-2 c = texts-refused _ _ _ c.before.before.before.before.before.before.before.before.loop.invariant c.before.before.before.before.before.before.before.loop-test.true c.before.before.before.before.before.before.part_at.ensures c.before.before.before.before.before.if1.false c.before.before.check-entry.ensures c.if2.true
+returns-2 c = texts_refused _ _ _ c.before.before.before.before.before.before.before.before.loop.invariant c.before.before.before.before.before.before.before.loop-test.true c.before.before.before.before.before.before.part_at.ensures c.before.before.before.before.before.if1.false c.before.before.check-entry.ensures c.if2.true
 
 follow-requires : tie.Need-follow-requires invariant-loop decreases-loop
 follow-requires c κs = c.before.before.before.before.before.before.before.part_at.ensures.reads.inside
 
 loop-less : tie.Need-loop-smaller invariant-loop decreases-loop
-loop-less c = pass-falls string c.before.before.before.before.before.before.before.before.before.before.loop.invariant.pass c.before.before.before.before.before.before.before.before.before.loop-test.true c.before.before.before.before.before.before.before.before.part_at.ensures.reads c.before.before.before.before.before.before.before.if1.false c.follow.ensures
+loop-less c = pass_falls string c.before.before.before.before.before.before.before.before.before.before.loop.invariant.pass c.before.before.before.before.before.before.before.before.before.loop-test.true c.before.before.before.before.before.before.before.before.part_at.ensures.reads c.before.before.before.before.before.before.before.if1.false c.follow.ensures
 
 loop-again : tie.Need-loop-preserved invariant-loop decreases-loop
-loop-again c = texts-more _ _ _ c.before.before.before.before.before.before.before.before.before.before.loop.invariant c.before.before.before.before.before.before.before.before.before.loop-test.true c.before.before.before.before.before.before.before.before.part_at.ensures c.before.before.before.before.before.before.before.if1.false c.before.before.before.before.check-entry.ensures c.before.before.if2.false c.follow.ensures
+loop-again c = texts_more _ _ _ c.before.before.before.before.before.before.before.before.before.before.loop.invariant c.before.before.before.before.before.before.before.before.before.loop-test.true c.before.before.before.before.before.before.before.before.part_at.ensures c.before.before.before.before.before.before.before.if1.false c.before.before.before.before.check-entry.ensures c.before.before.if2.false c.follow.ensures
 
 returns-3 : tie.Need-returns-3 invariant-loop decreases-loop
 returns-3 c = texts_end _ _ _ c.before.loop.invariant c.loop-test.false

@@ -1,6 +1,6 @@
 -- `shape::elements` meets its contract.
 use borrow.Author.Rules.{rules}
-use Rattle.exports.proofs.Arrays.{Walk, remains, walk_start, walk_refused, walk_more, walk-falls, walk_end}
+use Rattle.exports.proofs.Arrays.{Walk, remains, walk_start, walk_refused, walk_more, walk_falls, walk_end}
 use Rattle.exports.proofs.Objects.{written_opens}
 use Rattle.exports.specs.Shape.{written}
 use Rattle.exports.proofs.shape.elements.Statement.{statement}
@@ -28,7 +28,7 @@ follow-requires : tie.Need-follow-requires invariant-loop decreases-loop
 follow-requires c κs = c.before.element.ensures.reads.inside
 
 loop-less : tie.Need-loop-smaller invariant-loop decreases-loop
-loop-less c = walk-falls written c.before.before.before.before.loop.invariant c.before.before.before.loop-test.true c.before.before.element.ensures.reads c.before.if1.false c.follow.ensures
+loop-less c = walk_falls written c.before.before.before.before.loop.invariant c.before.before.before.loop-test.true c.before.before.element.ensures.reads c.before.if1.false c.follow.ensures
 
 loop-again : tie.Need-loop-preserved invariant-loop decreases-loop
 loop-again c = walk_more written c.before.before.before.before.loop.invariant c.before.before.before.loop-test.true c.before.before.element.ensures.reads c.before.if1.false c.follow.ensures

@@ -1,6 +1,6 @@
 -- `shape::member` meets its contract.
 use borrow.Author.Rules.{rules}
-use Rattle.exports.proofs.Members.{member_no_key, member-found}
+use Rattle.exports.proofs.Members.{member_no_key, member_found}
 use Rattle.exports.proofs.shape.member.Statement.{statement}
 use Rattle.exports.proofs.shape.member.Tie as tie
 
@@ -17,7 +17,7 @@ value-end-requires : tie.Need-value-end-requires
 value-end-requires c κs = c.before.before.member-key.ensures.inside
 
 returns-2 : tie.Need-returns-2
-returns-2 c = member-found c.before.before.before.member-key.ensures c.value-end.ensures c.before.if1.false
+returns-2 c = member_found c.before.before.before.member-key.ensures c.value-end.ensures c.before.if1.false
 
 pub member-spec : {M : Type 1} → statement M
 member-spec = tie.close (tie.spec member-key-requires no-value-requires returns value-end-requires returns-2)

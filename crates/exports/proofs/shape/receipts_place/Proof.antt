@@ -1,7 +1,7 @@
 -- `shape::receipts_place` meets its contract.
 use borrow.Author.Rules.{rules}
 use Rattle.exports.specs.Text.{is_mark}
-use Rattle.exports.proofs.Closings.{Seeking, remains, seek_start, seek_none, seek-no-value, seek-falls, seek-more, seek_found}
+use Rattle.exports.proofs.Closings.{Seeking, remains, seek_start, seek_none, seek_no_value, seek_falls, seek_more, seek_found}
 use Rattle.exports.proofs.shape.receipts_place.Statement.{statement}
 use Rattle.exports.proofs.shape.receipts_place.Tie as tie
 
@@ -25,17 +25,17 @@ value-end-requires : tie.Need-value-end-requires invariant-loop decreases-loop
 value-end-requires c κs = c.before.before.before.before.loop.invariant.inside
 
 returns-2 : tie.Need-returns-2 invariant-loop decreases-loop
-returns-2 c = seek-no-value c.before.before.before.before.before.before.loop.invariant c.before.value-end.ensures c.if3.true
+returns-2 c = seek_no_value c.before.before.before.before.before.before.loop.invariant c.before.value-end.ensures c.if3.true
 
 member-key-requires-2 : tie.Need-member-key-requires-2 invariant-loop decreases-loop
 unfolding is_mark
 member-key-requires-2 c κs = (c.before.value-end.ensures.inside, search rules)
 
 loop-less : tie.Need-loop-smaller invariant-loop decreases-loop
-loop-less c = seek-falls c.before.before.before.before.before.before.before.loop.invariant c.before.before.value-end.ensures c.before.if3.false c.member-key2.ensures c.before.before.before.if2.false
+loop-less c = seek_falls c.before.before.before.before.before.before.before.loop.invariant c.before.before.value-end.ensures c.before.if3.false c.member-key2.ensures c.before.before.before.if2.false
 
 loop-again : tie.Need-loop-preserved invariant-loop decreases-loop
-loop-again c = seek-more c.before.before.before.before.before.before.before.loop.invariant c.before.before.value-end.ensures c.before.if3.false c.member-key2.ensures c.before.before.before.before.before.if1.true
+loop-again c = seek_more c.before.before.before.before.before.before.before.loop.invariant c.before.before.value-end.ensures c.before.if3.false c.member-key2.ensures c.before.before.before.before.before.if1.true
 
 returns-3 : tie.Need-returns-3 invariant-loop decreases-loop
 returns-3 c = seek_found c.before.before.loop.invariant c.if1.false

@@ -2,7 +2,7 @@
 use borrow.Author.Rules.{rules}
 use borrow.Author.Tests.{not-true, not-false}
 use native.Mathlib.Omega.{arith}
-use Rattle.exports.proofs.Surveying.{named_none, named-refused, named-first, raw_inside}
+use Rattle.exports.proofs.Surveying.{named_none, named_refused, named_first, raw_inside}
 use Rattle.exports.proofs.survey.first_named.Statement.{statement}
 use Rattle.exports.proofs.survey.first_named.Tie as tie
 
@@ -22,7 +22,7 @@ not-named-requires-2 : tie.Need-not-named-requires-2
 not-named-requires-2 c κs = search rules
 
 returns-2 : tie.Need-returns-2
-returns-2 c = named-refused c.before.before.before.before.before.before.begin.ensures (not-false _ c.before.before.before.before.if1.false) c.before.before.before.part_at.ensures c.before.if2.true c.not-named2.ensures
+returns-2 c = named_refused c.before.before.before.before.before.before.begin.ensures (not-false _ c.before.before.before.before.if1.false) c.before.before.before.part_at.ensures c.before.if2.true c.not-named2.ensures
 
 sub-e : tie.Need-overflow-sub-e
 sub-e c = search rules
@@ -40,7 +40,7 @@ names-of-requires : tie.Need-names-of-requires
 names-of-requires c κs = search rules
 
 returns-3 : tie.Need-returns-3
-returns-3 c = named-first c.before.before.before.before.before.before.before.before.begin.ensures (not-false _ c.before.before.before.before.before.before.if1.false) c.before.before.before.before.before.part_at.ensures c.names_of.ensures
+returns-3 c = named_first c.before.before.before.before.before.before.before.before.begin.ensures (not-false _ c.before.before.before.before.before.before.if1.false) c.before.before.before.before.before.part_at.ensures c.names_of.ensures
 
 pub first-named-spec : {M : Type 1} → statement M
 first-named-spec =

@@ -3,8 +3,8 @@ use native.Mathlib.Omega.{arith}
 use borrow.Author.Rules.{rules}
 use Rattle.exports.specs.Shape.{string}
 use Rattle.exports.proofs.Arrays.{remains}
-use Rattle.exports.proofs.Passing.{pass-falls}
-use Rattle.exports.proofs.Surveying.{Measures, measure_start, measure-refused, measure-more, measure_end}
+use Rattle.exports.proofs.Passing.{pass_falls}
+use Rattle.exports.proofs.Surveying.{Measures, measure_start, measure_refused, measure_more, measure_end}
 use Rattle.exports.proofs.survey.measure_receipts.Statement.{statement}
 use Rattle.exports.proofs.survey.measure_receipts.Tie as tie
 
@@ -27,7 +27,7 @@ part-at-requires : tie.Need-part-at-requires invariant-loop decreases-loop
 part-at-requires c κs = c.before.loop.invariant.pass.inside
 
 returns : tie.Need-returns invariant-loop decreases-loop
-returns c = measure-refused c.before.before.before.loop.invariant c.before.before.loop-test.true c.before.part_at.ensures _ _ c.if1.true
+returns c = measure_refused c.before.before.before.loop.invariant c.before.before.loop-test.true c.before.part_at.ensures _ _ c.if1.true
 
 both-requires : tie.Need-both-requires invariant-loop decreases-loop
 both-requires c κs = search rules
@@ -45,10 +45,10 @@ follow-requires : tie.Need-follow-requires invariant-loop decreases-loop
 follow-requires c κs = c.before.before.before.before.before.part_at.ensures.reads.inside
 
 loop-less : tie.Need-loop-smaller invariant-loop decreases-loop
-loop-less c = pass-falls string c.before.before.before.before.before.before.before.before.loop.invariant.pass c.before.before.before.before.before.before.before.loop-test.true c.before.before.before.before.before.before.part_at.ensures.reads c.before.before.before.before.before.if1.false c.follow.ensures
+loop-less c = pass_falls string c.before.before.before.before.before.before.before.before.loop.invariant.pass c.before.before.before.before.before.before.before.loop-test.true c.before.before.before.before.before.before.part_at.ensures.reads c.before.before.before.before.before.if1.false c.follow.ensures
 
 loop-again : tie.Need-loop-preserved invariant-loop decreases-loop
-loop-again c = measure-more c.before.before.before.before.before.before.before.before.loop.invariant c.before.before.before.before.before.before.before.loop-test.true c.before.before.before.before.before.before.part_at.ensures c.before.before.before.before.before.if1.false c.before.before.before.both.ensures c.before.before.moved2.ensures c.before.moved3.ensures c.follow.ensures
+loop-again c = measure_more c.before.before.before.before.before.before.before.before.loop.invariant c.before.before.before.before.before.before.before.loop-test.true c.before.before.before.before.before.before.part_at.ensures c.before.before.before.before.before.if1.false c.before.before.before.both.ensures c.before.before.moved2.ensures c.before.moved3.ensures c.follow.ensures
 
 both-requires-2 : tie.Need-both-requires-2 invariant-loop decreases-loop
 both-requires-2 c κs = search rules

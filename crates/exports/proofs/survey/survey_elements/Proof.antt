@@ -2,8 +2,8 @@
 use borrow.Author.Rules.{rules}
 use Rattle.exports.specs.Shape.{written}
 use Rattle.exports.proofs.Arrays.{remains}
-use Rattle.exports.proofs.Passing.{pass-falls}
-use Rattle.exports.proofs.Surveying.{SurveyPass, survey_start, survey_end, survey-refused, survey-more, places_inside}
+use Rattle.exports.proofs.Passing.{pass_falls}
+use Rattle.exports.proofs.Surveying.{SurveyPass, survey_start, survey_end, survey_refused, survey_more, places_inside}
 use Rattle.exports.proofs.survey.survey_elements.Statement.{statement}
 use Rattle.exports.proofs.survey.survey_elements.Tie as tie
 
@@ -26,7 +26,7 @@ element-requires : tie.Need-element-requires invariant-loop decreases-loop
 element-requires c κs = c.before.loop.invariant.pass.inside
 
 returns : tie.Need-returns invariant-loop decreases-loop
-returns c = survey-refused _ _ c.before.before.before.loop.invariant c.before.before.loop-test.true c.before.element.ensures c.if1.true
+returns c = survey_refused _ _ c.before.before.before.loop.invariant c.before.before.loop-test.true c.before.element.ensures c.if1.true
 
 survey-element-requires : tie.Need-survey-element-requires invariant-loop decreases-loop
 survey-element-requires c κs = places_inside c.before.element.ensures
@@ -35,10 +35,10 @@ follow-requires : tie.Need-follow-requires invariant-loop decreases-loop
 follow-requires c κs = c.before.before.element.ensures.reads.inside
 
 loop-less : tie.Need-loop-smaller invariant-loop decreases-loop
-loop-less c = pass-falls written c.before.before.before.before.before.loop.invariant.pass c.before.before.before.before.loop-test.true c.before.before.before.element.ensures.reads c.before.before.if1.false c.follow.ensures
+loop-less c = pass_falls written c.before.before.before.before.before.loop.invariant.pass c.before.before.before.before.loop-test.true c.before.before.before.element.ensures.reads c.before.before.if1.false c.follow.ensures
 
 loop-again : tie.Need-loop-preserved invariant-loop decreases-loop
-loop-again c = survey-more _ _ c.before.before.before.before.before.loop.invariant c.before.before.before.before.loop-test.true c.before.before.before.element.ensures c.before.survey-element.ensures c.follow.ensures
+loop-again c = survey_more _ _ c.before.before.before.before.before.loop.invariant c.before.before.before.before.loop-test.true c.before.before.before.element.ensures c.before.survey-element.ensures c.follow.ensures
 
 returns-2 : tie.Need-returns-2 invariant-loop decreases-loop
 returns-2 c = survey_end _ _ c.before.loop.invariant c.loop-test.false

@@ -1,6 +1,6 @@
 -- `walk::expect` meets its contract.
 use borrow.Author.Rules.{rules}
-use Rattle.exports.proofs.Tokening.{expect_end, expect-found, expect-other}
+use Rattle.exports.proofs.Tokening.{expect_end, expect_found, expect_other}
 use Rattle.exports.proofs.walk.expect.Statement.{statement}
 use Rattle.exports.proofs.walk.expect.Tie as tie
 
@@ -17,10 +17,10 @@ add-result : tie.Need-overflow-add-result
 add-result c = search rules
 
 returns-2 : tie.Need-returns-2
-returns-2 c = expect-found c.before.before.before.skip-blanks.ensures c.before.before.before.before.before.requires.1 c.before.before.if1.false c.if2.true
+returns-2 c = expect_found c.before.before.before.skip-blanks.ensures c.before.before.before.before.before.requires.1 c.before.before.if1.false c.if2.true
 
 returns-3 : tie.Need-returns-3
-returns-3 c = expect-other c.before.before.before.skip-blanks.ensures c.before.before.before.before.before.requires.1 c.before.before.if1.false c.if2.false
+returns-3 c = expect_other c.before.before.before.skip-blanks.ensures c.before.before.before.before.before.requires.1 c.before.before.if1.false c.if2.false
 
 pub expect-spec : {M : Type 1} → statement M
 expect-spec =

@@ -1,6 +1,6 @@
 -- `walk::strings` meets its contract.
 use borrow.Author.Rules.{rules}
-use Rattle.exports.proofs.Arrays.{Walk, remains, walk_start, walk_refused, walk_more, walk-falls, walk_end, string_opens}
+use Rattle.exports.proofs.Arrays.{Walk, remains, walk_start, walk_refused, walk_more, walk_falls, walk_end, string_opens}
 use Rattle.exports.specs.Shape.{string}
 use Rattle.exports.proofs.walk.strings.Statement.{statement}
 use Rattle.exports.proofs.walk.strings.Tie as tie
@@ -27,7 +27,7 @@ follow-requires : tie.Need-follow-requires invariant-loop decreases-loop
 follow-requires c κs = c.before.string.ensures.inside
 
 loop-less : tie.Need-loop-smaller invariant-loop decreases-loop
-loop-less c = walk-falls string c.before.before.before.before.loop.invariant c.before.before.before.loop-test.true c.before.before.string.ensures c.before.if1.false c.follow.ensures
+loop-less c = walk_falls string c.before.before.before.before.loop.invariant c.before.before.before.loop-test.true c.before.before.string.ensures c.before.if1.false c.follow.ensures
 
 loop-again : tie.Need-loop-preserved invariant-loop decreases-loop
 loop-again c = walk_more string c.before.before.before.before.loop.invariant c.before.before.before.loop-test.true c.before.before.string.ensures c.before.if1.false c.follow.ensures

@@ -1,7 +1,7 @@
 -- `writing::put_group` meets its contract.
 use native.Mathlib.Omega.{arith}
 use Rattle.exports.specs.Writing.{before_issuers, before_receipts}
-use Rattle.exports.proofs.Exporting.{group_none, group-zero, group-put}
+use Rattle.exports.proofs.Exporting.{group_none, group_zero, group_put}
 use borrow.Author.Rules.{rules}
 use Rattle.exports.proofs.writing.put_group.Statement.{statement}
 use Rattle.exports.proofs.writing.put_group.Tie as tie
@@ -16,7 +16,7 @@ cast-count : tie.Need-overflow-cast-count
 cast-count c = let b = (c.before.before.before.shared-slice-known.given c.before.before.before.before.args.at).fits in record { fits = omega (arith, b) }
 
 returns-2 : tie.Need-returns-2
-returns-2 c = group-zero _ _ _ _ _ _ c.before.before.if1.false c.if2.true _
+returns-2 c = group_zero _ _ _ _ _ _ c.before.before.if1.false c.if2.true _
 
 add-put-signing : tie.Need-overflow-add-put-signing
 add-put-signing c = search rules
@@ -47,7 +47,7 @@ same_length c = search rules
 
 returns-3 : tie.Need-returns-3
 unfolding before_issuers before_receipts
-returns-3 c = group-put _ _ _ _ _ _ c.before.before.before.before.before.before.before.before.before.before.before.before.before.before.before.before.before.before.before.before.if1.false c.before.before.before.before.before.before.before.before.before.before.before.before.before.before.before.before.put-signing.ensures c.before.before.before.before.before.before.before.before.before.before.before.put-bytes.ensures c.before.before.before.before.before.before.before.put-strings.ensures c.before.before.put-bytes2.ensures
+returns-3 c = group_put _ _ _ _ _ _ c.before.before.before.before.before.before.before.before.before.before.before.before.before.before.before.before.before.before.before.before.if1.false c.before.before.before.before.before.before.before.before.before.before.before.before.before.before.before.before.put-signing.ensures c.before.before.before.before.before.before.before.before.before.before.before.put-bytes.ensures c.before.before.before.before.before.before.before.put-strings.ensures c.before.before.put-bytes2.ensures
 
 pub put-group-spec : {M : Type 1} → statement M
 put-group-spec =

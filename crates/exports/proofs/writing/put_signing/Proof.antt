@@ -1,7 +1,7 @@
 -- `writing::put_signing` meets its contract.
 use Rattle.exports.specs.Writing.{before_certificate}
 use native.Mathlib.Omega.{arith}
-use Rattle.exports.proofs.Exporting.{signing_none, signing-put}
+use Rattle.exports.proofs.Exporting.{signing_none, signing_put}
 use borrow.Author.Rules.{rules}
 use Rattle.exports.proofs.writing.put_signing.Statement.{statement}
 use Rattle.exports.proofs.writing.put_signing.Tie as tie
@@ -41,7 +41,7 @@ same_length c = search rules
 
 returns-2 : tie.Need-returns-2
 unfolding before_certificate
-returns-2 c = signing-put c.before.before.before.before.before.before.before.before.before.before.before.before.before.before.before.before.before.before.args.more _ _ c.before.before.before.before.before.before.before.before.before.before.before.before.before.before.before.sized-end.ensures c.before.before.before.before.before.before.before.before.before.before.before.before.put-comma.ensures c.before.before.before.before.before.before.before.put-bytes.ensures c.before.before.put-string.ensures
+returns-2 c = signing_put c.before.before.before.before.before.before.before.before.before.before.before.before.before.before.before.before.before.before.args.more _ _ c.before.before.before.before.before.before.before.before.before.before.before.before.before.before.before.sized-end.ensures c.before.before.before.before.before.before.before.before.before.before.before.before.put-comma.ensures c.before.before.before.before.before.before.before.put-bytes.ensures c.before.before.put-string.ensures
 
 pub put-signing-spec : {M : Type 1} → statement M
 put-signing-spec =

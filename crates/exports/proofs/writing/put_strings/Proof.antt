@@ -2,7 +2,7 @@
 use Prim.Native.Nat.{◌-◌}
 use native.Mathlib.Omega.{arith}
 use borrow.Author.Rules.{rules}
-use Rattle.exports.proofs.Copying.{Copies, copies_start, copies-cut, copies-more, copies_whole}
+use Rattle.exports.proofs.Copying.{Copies, copies_start, copies_cut, copies_more, copies_whole}
 use Rattle.exports.proofs.writing.put_strings.Statement.{statement}
 use Rattle.exports.proofs.writing.put_strings.Tie as tie
 
@@ -25,7 +25,7 @@ same_length : tie.Need-same-length invariant-loop decreases-loop
 same_length c = c.before.before.before.loop.invariant.long
 
 returns : tie.Need-returns invariant-loop decreases-loop
-returns c = copies-cut _ c.before.before.before.loop.invariant c.before.before.loop-test.true c.before.sized-end.ensures c.if1.true _
+returns c = copies_cut _ c.before.before.before.loop.invariant c.before.before.loop-test.true c.before.sized-end.ensures c.if1.true _
 
 add-s : tie.Need-overflow-add-s invariant-loop decreases-loop
 add-s c = let o = c.before.sized-end.ensures in record { fits = omega (arith, o.onward (omega arith), o.inside) }
@@ -49,7 +49,7 @@ loop-less : tie.Need-loop-smaller invariant-loop decreases-loop
 loop-less c = omega arith
 
 loop-again : tie.Need-loop-preserved invariant-loop decreases-loop
-loop-again c = copies-more _ c.before.before.before.before.before.before.before.before.loop.invariant c.before.before.before.before.before.before.before.loop-test.true c.before.before.before.before.before.before.sized-end.ensures c.before.before.put-string.ensures
+loop-again c = copies_more _ c.before.before.before.before.before.before.before.before.loop.invariant c.before.before.before.before.before.before.before.loop-test.true c.before.before.before.before.before.before.sized-end.ensures c.before.before.put-string.ensures
 
 same-length-2 : tie.Need-same-length-2 invariant-loop decreases-loop
 same-length-2 c = c.before.loop.invariant.long

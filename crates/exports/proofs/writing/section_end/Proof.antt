@@ -3,7 +3,7 @@ use Prim.Native.Nat.{◌+◌, ◌≤◌}
 use lib.ListN.{length}
 use native.Mathlib.Omega.{arith}
 use Rattle.primitives.proofs.Questions.{at_most, above}
-use Rattle.exports.proofs.Exporting.{section_short, section-cut, section-whole}
+use Rattle.exports.proofs.Exporting.{section_short, section_cut, section_whole}
 use borrow.Author.Rules.{rules}
 use Rattle.exports.proofs.writing.section_end.Statement.{statement}
 use Rattle.exports.proofs.writing.section_end.Tie as tie
@@ -27,7 +27,7 @@ has-room-requires-2 : tie.Need-has-room-requires-2
 has-room-requires-2 c κs = search rules
 
 returns-2 : tie.Need-returns-2
-returns-2 c = section-cut _ _ c.before.before.four-at.ensures (at_most _ _ c.before.before.before.before.has_room.ensures c.before.before.before.if1.false) (above _ _ c.before.has-room2.ensures c.if2.true)
+returns-2 c = section_cut _ _ c.before.before.four-at.ensures (at_most _ _ c.before.before.before.before.has_room.ensures c.before.before.before.if1.false) (above _ _ c.before.has-room2.ensures c.if2.true)
 
 add-result : tie.Need-overflow-add-result
 add-result c =
@@ -36,7 +36,7 @@ add-result c =
     record { fits = omega arith }
 
 returns-3 : tie.Need-returns-3
-returns-3 c = section-whole _ _ c.before.before.four-at.ensures (at_most _ _ c.before.before.before.before.has_room.ensures c.before.before.before.if1.false) (at_most _ _ c.before.has-room2.ensures c.if2.false)
+returns-3 c = section_whole _ _ c.before.before.four-at.ensures (at_most _ _ c.before.before.before.before.has_room.ensures c.before.before.before.if1.false) (at_most _ _ c.before.has-room2.ensures c.if2.false)
 
 pub section-end-spec : {M : Type 1} → statement M
 section-end-spec =

@@ -1,5 +1,5 @@
 -- `changing::change` meets its contract.
-use Rattle.journal.proofs.ChangeCalls.{change_refused, change-room, change-serials, change-done}
+use Rattle.journal.proofs.ChangeCalls.{change_refused, change_room, change_serials, change_done}
 use borrow.Author.Rules.{rules}
 use native.Mathlib.Omega.{arith}
 use Rattle.journal.proofs.changing.change.Statement.{statement}
@@ -15,14 +15,14 @@ returns c =
 
 put-start-requires : tie.Need-put-start-requires
 put-start-requires c κs =
-    change-room c.before.before.before.before.args.st c.before.before.before.before.args.serial
+    change_room c.before.before.before.before.args.st c.before.before.before.before.args.serial
     c.before.before.before.before.args.buf.now c.before.before.change_number_lem.ensures c.before.if1.false
 
 renewed-requires : tie.Need-renewed-requires
 renewed-requires c κs =
     let start = c.before.before.before.before.before.before.before in
-    let s = change-serials start.args.st start.args.serial start.args.buf.now c.before.before.before.before.before.change_number_lem.ensures c.before.before.before.before.if1.false in
-    let r = change-room start.args.st start.args.serial start.args.buf.now c.before.before.before.before.before.change_number_lem.ensures c.before.before.before.before.if1.false in
+    let s = change_serials start.args.st start.args.serial start.args.buf.now c.before.before.before.before.before.change_number_lem.ensures c.before.before.before.before.if1.false in
+    let r = change_room start.args.st start.args.serial start.args.buf.now c.before.before.before.before.before.change_number_lem.ensures c.before.before.before.before.if1.false in
     (s.0, s.1, omega (arith, r.1, start.well-formed))
 
 same_length : tie.Need-same-length
@@ -31,7 +31,7 @@ same_length c = search rules
 returns-2 : tie.Need-returns-2
 returns-2 c =
     let start = c.before.before.before.before.before.before.before.before in
-    change-done start.args.st start.args.serial start.args.buf.now
+    change_done start.args.st start.args.serial start.args.buf.now
     c.before.before.before.before.before.before.change_number_lem.ensures c.before.before.before.before.before.if1.false
     c.before.before.before.put_start.ensures c.renewed.ensures
 

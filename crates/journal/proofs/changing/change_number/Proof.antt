@@ -2,7 +2,7 @@
 use Rattle.primitives.proofs.Questions.{yes, no}
 use Rattle.receipt.specs.declared.settings.Letters.TheVariants.{Serial}
 use Rattle.receipt.proofs.Names.{good_name}
-use Rattle.journal.proofs.ChangeCalls.{change_unsound, change-bad, change-serial, change-full, change-none}
+use Rattle.journal.proofs.ChangeCalls.{change_unsound, change_bad, change_serial, change_full, change_none}
 use borrow.Author.Rules.{rules}
 use native.Mathlib.Omega.{arith}
 use Rattle.journal.proofs.changing.change_number.Statement.{statement}
@@ -19,7 +19,7 @@ serial-good-requires c κs = search rules
 
 returns-2 : tie.Need-returns-2
 returns-2 c =
-    change-bad c.before.before.before.before.args.st c.before.before.before.before.args.serial _
+    change_bad c.before.before.before.before.args.st c.before.before.before.before.args.serial _
     (yes c.before.before.before.sound.ensures c.before.before.if1.false) (no c.before.serial-good.ensures c.if2.true)
 
 renew-number-requires : tie.Need-renew-number-requires
@@ -28,7 +28,7 @@ renew-number-requires c κs = search rules
 returns-3 : tie.Need-returns-3
 returns-3 c =
     let s = c.before.before.before.before.before.before.args in
-    change-serial s.st s.serial _
+    change_serial s.st s.serial _
     (yes c.before.before.before.before.before.sound.ensures c.before.before.before.before.if1.false)
     (yes c.before.before.before.serial-good.ensures c.before.before.if2.false) c.before.renew-number.ensures c.if3.true
 
@@ -43,7 +43,7 @@ has-room-requires c κs = search rules
 returns-4 : tie.Need-returns-4
 returns-4 c =
     let s = c.before.before.before.before.before.before.before.before.before.args in
-    change-full s.st s.serial s.room
+    change_full s.st s.serial s.room
     (yes c.before.before.before.before.before.before.before.before.sound.ensures c.before.before.before.before.before.before.before.if1.false)
     (yes c.before.before.before.before.before.before.serial-good.ensures c.before.before.before.before.before.if2.false)
     c.before.before.before.before.renew-number.ensures c.before.before.before.if3.false
@@ -52,7 +52,7 @@ returns-4 c =
 returns-5 : tie.Need-returns-5
 returns-5 c =
     let s = c.before.before.before.before.before.before.before.before.before.args in
-    change-none s.st s.serial s.room
+    change_none s.st s.serial s.room
     (yes c.before.before.before.before.before.before.before.before.sound.ensures c.before.before.before.before.before.before.before.if1.false)
     (yes c.before.before.before.before.before.before.serial-good.ensures c.before.before.before.before.before.if2.false)
     c.before.before.before.before.renew-number.ensures c.before.before.before.if3.false

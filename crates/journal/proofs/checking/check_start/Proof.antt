@@ -4,7 +4,7 @@ use mathlib.Core.Bool.{true}
 use Rattle.primitives.proofs.Questions.{yes, no}
 use Rattle.journal.specs.Head.{start_there}
 use Rattle.journal.proofs.Readings.{start_section}
-use Rattle.journal.proofs.CheckCalls.{start_missing, start-stopped, start_fits, start-made}
+use Rattle.journal.proofs.CheckCalls.{start_missing, start_stopped, start_fits, start_made}
 use borrow.Author.Rules.{rules}
 use native.Mathlib.Omega.{arith}
 use Rattle.journal.proofs.checking.check_start.Statement.{statement}
@@ -12,7 +12,7 @@ use Rattle.journal.proofs.checking.check_start.Tie as tie
 
 -- the start is complete
 whole : (c : tie.Else1) → start_there c.before.before.before.args.j.now c.before.before.before.args.st.length ≡ true
-whole c = yes c.before.start-there.ensures c.if1.false
+whole c = yes c.before.start_there_lem.ensures c.if1.false
 
 start-there-requires : tie.Need-start-there-requires
 start-there-requires c κs = search rules
@@ -23,7 +23,7 @@ stopped-requires c κs = search rules
 returns : tie.Need-returns
 returns c =
     start_missing c.before.before.before.before.args.st c.before.before.before.before.args.j.now
-    (no c.before.before.start-there.ensures c.before.if1.true) c.stopped.ensures
+    (no c.before.before.start_there_lem.ensures c.before.if1.true) c.stopped.ensures
 
 serial-at-requires : tie.Need-serial-at-requires
 serial-at-requires c κs = start_section c.before.before.before.args.j.now _ (whole c)
@@ -36,7 +36,7 @@ stopped-requires-2 c κs = search rules
 
 returns-2 : tie.Need-returns-2
 returns-2 c =
-    start-stopped c.before.before.before.before.before.before.before.args.st
+    start_stopped c.before.before.before.before.before.before.before.args.st
     c.before.before.before.before.before.before.before.args.j.now (whole c.before.before.before.before)
     c.before.before.before.serial-at.ensures c.before.before.renew-number.ensures c.before.if2.true c.stopped2.ensures
 
@@ -51,7 +51,7 @@ stopped-requires-3 c κs = search rules
 
 returns-3 : tie.Need-returns-3
 returns-3 c =
-    start-made c.before.before.before.before.before.before.before.before.args.st
+    start_made c.before.before.before.before.before.before.before.before.args.st
     c.before.before.before.before.before.before.before.before.args.j.now (whole c.before.before.before.before.before)
     c.before.before.before.before.serial-at.ensures c.before.before.before.renew-number.ensures c.before.before.if2.false
     c.before.renewed.ensures c.stopped3.ensures

@@ -9,7 +9,7 @@ use Rattle.journal.proofs.checking.stopped.Reads as stopped-reads
 use Rattle.journal.proofs.state.settings_now.Reads as settings-now-reads
 use Rattle.journal.proofs.step.next.Reads as next-reads
 use Rattle.receipt.proofs.read_entry.Reads as read-entry-reads
-use Rattle.journal.proofs.CheckCalls.{above_of, text_unread, text-refused, text-passed}
+use Rattle.journal.proofs.CheckCalls.{above_of, text_unread, text_refused, text_passed}
 use native.Mathlib.Omega.{arith}
 use mathlib.Core.Path.{◌≡◌, sym, ap, ◌∙◌}
 use borrow.Author.Tests.{not-true, not-false}
@@ -48,7 +48,7 @@ stopped-requires-2 : tie.Need-stopped-requires-2
 stopped-requires-2 c κs = search rules
 
 returns-2 : tie.Need-returns-2
-returns-2 c = text-refused _ c.before.before.before.before.before.before.before.before.before.before.args.st c.before.before.before.before.before.before.before.before.before.before.args.text.now (read c.before.before.before.before.before.before.before) (not-false _ c.before.before.before.before.before.if1.false) c.before.before.context-number.ensures c.before.if2.true c.stopped2.ensures
+returns-2 c = text_refused _ c.before.before.before.before.before.before.before.before.before.before.args.st c.before.before.before.before.before.before.before.before.before.before.args.text.now (read c.before.before.before.before.before.before.before) (not-false _ c.before.before.before.before.before.if1.false) c.before.before.context-number.ensures c.before.if2.true c.stopped2.ensures
 
 next-requires : tie.Need-next-requires
 next-requires c κs =
@@ -58,7 +58,7 @@ next-requires c κs =
     (omega (arith, a, start.requires.0, n), omega (arith, a, start.requires.0, start.requires.1, n), start.requires.2)
 
 returns-3 : tie.Need-returns-3
-returns-3 c = text-passed _ c.before.before.before.before.before.before.before.before.before.before.before.args.st c.before.before.before.before.before.before.before.before.before.before.before.args.text.now (read c.before.before.before.before.before.before.before.before) (not-false _ c.before.before.before.before.before.before.if1.false) c.before.before.before.context-number.ensures c.before.before.if2.false c.next.ensures
+returns-3 c = text_passed _ c.before.before.before.before.before.before.before.before.before.before.before.args.st c.before.before.before.before.before.before.before.before.before.before.before.args.text.now (read c.before.before.before.before.before.before.before.before) (not-false _ c.before.before.before.before.before.before.if1.false) c.before.before.before.context-number.ensures c.before.before.if2.false c.next.ensures
 
 pub check-text-spec : {M : Type 1} → statement M
 check-text-spec =

@@ -5,7 +5,7 @@ use Rattle.journal.proofs.CheckCalls.{after_back}
 use mathlib.Core.Path.{ap}
 use borrow.Author.Tests.{not-true, not-false}
 use Rattle.receipt.specs.Details.{standard}
-use Rattle.journal.proofs.CheckCalls.{counter_no, counter-other, counter-standard}
+use Rattle.journal.proofs.CheckCalls.{counter_no, counter_other, counter_standard}
 use borrow.Author.Rules.{rules}
 use Rattle.journal.proofs.checking.counter_right.Statement.{statement}
 use Rattle.journal.proofs.checking.counter_right.Tie as tie
@@ -36,13 +36,13 @@ enum-told-3 : tie.Need-enum-told-3
 enum-told-3 c = search rules
 
 returns-2 : tie.Need-returns-2
-returns-2 c = counter-standard _ c.before.before.before.before.before.before.before.before.before.args.st c.before.before.before.before.before.before.before.before.before.args.f (after_back c.before.before.before.before.before.before.before.before.before.args.st _ (fits c.before.before.before.before.before.before.before.before.before) c.before.before.before.before.before.before.counter_after_lem.ensures) (not-false _ c.before.before.before.before.if1.false) (ap standard c.before.before.enum_told.given.1) (fits-new c.before.before.before.before.before.before) c.decrypts-to.ensures
+returns-2 c = counter_standard _ c.before.before.before.before.before.before.before.before.before.args.st c.before.before.before.before.before.before.before.before.before.args.f (after_back c.before.before.before.before.before.before.before.before.before.args.st _ (fits c.before.before.before.before.before.before.before.before.before) c.before.before.before.before.before.before.counter_after_lem.ensures) (not-false _ c.before.before.before.before.if1.false) (ap standard c.before.before.enum_told.given.1) (fits-new c.before.before.before.before.before.before) c.decrypts-to.ensures
 
 returns-3 : tie.Need-returns-3
-returns-3 c = counter-other _ c.before.before.before.before.before.before.before.args.st c.before.before.before.before.before.before.before.args.f (after_back c.before.before.before.before.before.before.before.args.st _ (fits c.before.before.before.before.before.before.before) c.before.before.before.before.counter_after_lem.ensures) (not-false _ c.before.before.if1.false) (ap standard c.enum-told2.given.1)
+returns-3 c = counter_other _ c.before.before.before.before.before.before.before.args.st c.before.before.before.before.before.before.before.args.f (after_back c.before.before.before.before.before.before.before.args.st _ (fits c.before.before.before.before.before.before.before) c.before.before.before.before.counter_after_lem.ensures) (not-false _ c.before.before.if1.false) (ap standard c.enum-told2.given.1)
 
 returns-4 : tie.Need-returns-4
-returns-4 c = counter-other _ c.before.before.before.before.before.before.before.args.st c.before.before.before.before.before.before.before.args.f (after_back c.before.before.before.before.before.before.before.args.st _ (fits c.before.before.before.before.before.before.before) c.before.before.before.before.counter_after_lem.ensures) (not-false _ c.before.before.if1.false) (ap standard c.enum-told3.given.1)
+returns-4 c = counter_other _ c.before.before.before.before.before.before.before.args.st c.before.before.before.before.before.before.before.args.f (after_back c.before.before.before.before.before.before.before.args.st _ (fits c.before.before.before.before.before.before.before) c.before.before.before.before.counter_after_lem.ensures) (not-false _ c.before.before.if1.false) (ap standard c.enum-told3.given.1)
 
 pub counter-right-spec : {M : Type 1} → statement M
 counter-right-spec =

@@ -4,7 +4,7 @@ use mathlib.Core.Path.{◌≡◌, refl, sym, ◌∙◌}
 use mathlib.Core.List.{List}
 use Rattle.journal.specs.Checking.{Steady, steps}
 use Rattle.journal.specs.declared.state.State.{State}
-use Rattle.journal.proofs.CheckCalls.{steps_none, turn-no, turn-stays, turn-yes, turn-steady}
+use Rattle.journal.proofs.CheckCalls.{steps_none, turn_no, turn_stays, turn_yes, turn_steady}
 use borrow.Author.Rules.{rules}
 use native.Mathlib.Omega.{arith}
 use Rattle.journal.proofs.checking.steps.Statement.{statement}
@@ -31,13 +31,13 @@ returns : tie.Need-returns invariant-loop decreases-loop
 returns c =
     let l = c.before.before.before.before.loop in
     sym
-    (l.invariant.same ∙ turn-no _ l.st c.before.before.before.before.before.before.args.j.now c.before.before.take_step.ensures l.left c.before.before.before.loop-test.true c.if1.true)
+    (l.invariant.same ∙ turn_no _ l.st c.before.before.before.before.before.before.args.j.now c.before.before.take_step.ensures l.left c.before.before.before.loop-test.true c.if1.true)
 
 returns-2 : tie.Need-returns-2 invariant-loop decreases-loop
 returns-2 c =
     let l = c.before.before.before.before.before.before.before.before.loop in
     sym
-    (l.invariant.same ∙ turn-stays _ l.st c.before.before.before.before.before.before.before.before.before.before.args.j.now c.before.before.before.before.before.before.take_step.ensures c.before.before.before.before.if1.false l.left c.if2.true)
+    (l.invariant.same ∙ turn_stays _ l.st c.before.before.before.before.before.before.before.before.before.before.args.j.now c.before.before.before.before.before.before.take_step.ensures c.before.before.before.before.if1.false l.left c.if2.true)
 
 sub-left : tie.Need-overflow-sub-left invariant-loop decreases-loop
 sub-left c = search rules
@@ -52,8 +52,8 @@ loop-again c =
     let e = c.before.before.before.before.before.before.take_step.ensures in
     let z = c.before.before.before.before.if1.false in
     record {
-      steady = turn-steady _ l.st j e z l.invariant.steady;
-      same = l.invariant.same ∙ turn-yes _ l.st j e z l.left c.before.before.before.before.before.before.before.loop-test.true;
+      steady = turn_steady _ l.st j e z l.invariant.steady;
+      same = l.invariant.same ∙ turn_yes _ l.st j e z l.left c.before.before.before.before.before.before.before.loop-test.true;
     }
 
 returns-3 : tie.Need-returns-3 invariant-loop decreases-loop

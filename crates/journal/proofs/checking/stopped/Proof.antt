@@ -12,7 +12,7 @@ no-entry-requires c κs = search rules
 
 returns : tie.Need-returns
 unfolding stopped
-returns c = λ i. record { number = c.before.args.number; found = c.no-entry.ensures i; state = c.before.args.st }
+returns c = λ i. record { number = c.before.args.number; found = c.no_entry_lem.ensures i; state = c.before.args.st }
 
 pub stopped-spec : {M : Type 1} → statement M
 stopped-spec = tie.close (tie.spec no-entry-requires returns)

@@ -1,6 +1,6 @@
 -- `checking::take_step` meets its contract.
 use mathlib.Core.Path.{sym, ◌∙◌}
-use Rattle.journal.proofs.Stepping.{step_end, step-entry}
+use Rattle.journal.proofs.Stepping.{step_end, step_entry}
 use Rattle.journal.proofs.checking.take_step.Statement.{statement}
 use Rattle.journal.proofs.checking.take_step.Tie as tie
 
@@ -21,7 +21,7 @@ check-place-requires c κs = (c.before.before.before.requires.issued, c.before.b
 returns-2 : tie.Need-returns-2
 returns-2 c =
     c.check-place.ensures ∙ sym
-    (step-entry _ c.before.before.before.before.args.st c.before.before.before.before.args.j.now (sym c.before.before.full.ensures ∙ c.before.if1.false))
+    (step_entry _ c.before.before.before.before.args.st c.before.before.before.before.args.j.now (sym c.before.before.full.ensures ∙ c.before.if1.false))
 
 pub take-step-spec : {M : Type 1} → statement M
 take-step-spec =

@@ -1,7 +1,7 @@
 -- The end of a section, its part, and the serial after it.
 use Prim.Native.Nat.{◌≤◌}
 use lib.ListN.{length}
-use Rattle.journal.proofs.Readings.{id_room, second-room, id-ends, settings_read}
+use Rattle.journal.proofs.Readings.{id_room, second_room, id_ends, settings_read}
 use borrow.Author.Rules.{rules}
 use native.Mathlib.Omega.{arith}
 use Rattle.journal.proofs.head.head_settings.Statement.{statement}
@@ -9,7 +9,7 @@ use Rattle.journal.proofs.head.head_settings.Tie as tie
 
 -- where the section of the ID ends
 ends : (c : tie.After-section-end) → (11 ≤ c.section_end_lem.result) × (c.section_end_lem.result ≤ length c.before.before.args.j.now)
-ends c = id-ends c.before.before.args.j.now c.before.before.requires.0 c.before.before.requires.1 c.section_end_lem.ensures
+ends c = id_ends c.before.before.args.j.now c.before.before.requires.0 c.before.before.requires.1 c.section_end_lem.ensures
 
 section-end-requires : tie.Need-section-end-requires
 section-end-requires c κs = id_room c.before.args.j.now c.before.requires.0 c.before.requires.1
@@ -28,7 +28,7 @@ name-of-requires c κs = search rules
 
 serial-at-requires : tie.Need-serial-at-requires
 serial-at-requires c κs =
-    second-room c.before.before.before.before.args.j.now c.before.before.before.before.requires.0
+    second_room c.before.before.before.before.args.j.now c.before.before.before.before.requires.0
     c.before.before.before.before.requires.1 c.before.before.section_end_lem.ensures
 
 shared-slice-read-t10 : tie.Need-shared-slice-read-t10

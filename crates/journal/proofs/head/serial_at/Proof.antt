@@ -1,5 +1,5 @@
 -- The end of a section, and the part before it.
-use Rattle.journal.proofs.Readings.{count_there, section-ends, serial_is}
+use Rattle.journal.proofs.Readings.{count_there, section_ends, serial_is}
 use borrow.Author.Rules.{rules}
 use native.Mathlib.Omega.{arith}
 use Rattle.journal.proofs.head.serial_at.Statement.{statement}
@@ -12,13 +12,13 @@ section-end-requires : tie.Need-section-end-requires
 section-end-requires c κs = search rules
 
 sub-name-of : tie.Need-overflow-sub-name-of
-sub-name-of c = (section-ends c.before.before.args.j.now _ c.before.before.requires c.section_end_lem.ensures).0
+sub-name-of c = (section_ends c.before.before.args.j.now _ c.before.before.requires c.section_end_lem.ensures).0
 
 part-name-of-start : tie.Need-slice-bounds-name-of-start
-part-name-of-start c = (section-ends c.before.before.args.j.now _ c.before.before.requires c.section_end_lem.ensures).0
+part-name-of-start c = (section_ends c.before.before.args.j.now _ c.before.before.requires c.section_end_lem.ensures).0
 
 part-name-of-end : tie.Need-slice-bounds-name-of-end
-part-name-of-end c = (section-ends c.before.before.args.j.now _ c.before.before.requires c.section_end_lem.ensures).1
+part-name-of-end c = (section_ends c.before.before.args.j.now _ c.before.before.requires c.section_end_lem.ensures).1
 
 name-of-requires : tie.Need-name-of-requires
 name-of-requires c κs = search rules

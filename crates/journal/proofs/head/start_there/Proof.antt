@@ -2,7 +2,7 @@
 use Prim.Native.Nat.{◌+◌, ◌≤◌}
 use lib.ListN.{length}
 use Rattle.primitives.proofs.Questions.{at_most, above}
-use Rattle.journal.proofs.Readings.{start_short, start-long, start-room, start_is}
+use Rattle.journal.proofs.Readings.{start_short, start_long, start_room, start_is}
 use borrow.Author.Rules.{rules}
 use native.Mathlib.Omega.{arith}
 use Rattle.journal.proofs.head.start_there.Statement.{statement}
@@ -30,12 +30,12 @@ count-at-requires c κs = (omega arith, omega (arith, room c))
 
 returns-2 : tie.Need-returns-2
 returns-2 c =
-    start-long c.before.before.before.before.before.args.j.now _ (room c.before.before) c.before.count_at.ensures.0
+    start_long c.before.before.before.before.before.args.j.now _ (room c.before.before) c.before.count_at.ensures.0
     c.if2.true
 
 serial-at-requires : tie.Need-serial-at-requires
 serial-at-requires c κs =
-    start-room c.before.before.before.before.before.args.j.now _ (room c.before.before) c.before.count_at.ensures.0 c.if2.false
+    start_room c.before.before.before.before.before.args.j.now _ (room c.before.before) c.before.count_at.ensures.0 c.if2.false
 
 serial-good-requires : tie.Need-serial-good-requires
 serial-good-requires c κs = search rules

@@ -4,7 +4,7 @@ use mathlib.Core.Path.{ap, ◌∙◌}
 use lib.ListN.{length}
 use Rattle.receipt.specs.Compact.{spellable}
 use Rattle.journal.specs.State.{settings_now}
-use Rattle.journal.proofs.IssueCalls.{Asked, Made, asked_alone, spellable_asked, append_count, append_place, append-refused, append-made, append-done}
+use Rattle.journal.proofs.IssueCalls.{Asked, Made, asked_alone, spellable_asked, append_count, append_place, append_refused, append_made, append_done}
 use borrow.Author.Rules.{rules}
 use native.Mathlib.Omega.{arith}
 use Rattle.journal.proofs.issuing.append.Statement.{statement}
@@ -25,7 +25,7 @@ counts c = append_count _ _ _ c.args.buf.now (asked c) (below c)
 -- what is known where there was room
 made : (c : tie.Else1) → Made c.before.before.before.before.before.before.before.before.args.st c.before.before.before.before.before.before.before.before.args.buf.now c.before.before.before.put-entry.new.1.1.0 c.before.before.before.put-entry.result
 made c =
-    append-made _ _ _ c.before.before.before.before.before.before.before.before.args.buf.now
+    append_made _ _ _ c.before.before.before.before.before.before.before.before.args.buf.now
     (asked c.before.before.before.before.before.before.before.before) c.before.before.before.before.before.entry_of.ensures
     c.before.before.before.put-entry.ensures c.if1.false
 
@@ -44,7 +44,7 @@ same_length c = search rules
 
 returns : tie.Need-returns
 returns c =
-    append-refused _ _ _ c.before.before.before.before.before.before.before.before.args.buf.now
+    append_refused _ _ _ c.before.before.before.before.before.before.before.before.args.buf.now
     (asked c.before.before.before.before.before.before.before.before) c.before.before.before.before.before.entry_of.ensures
     c.before.before.before.put-entry.ensures c.if1.true
 
@@ -84,7 +84,7 @@ same-length-2 c = search rules
 returns-2 : tie.Need-returns-2
 returns-2 c =
     let start = c.before.before.before.before.before.before.before.before.before.before.before.before.before.before.before.before in
-    append-done _ _ _ start.args.buf.now (asked start)
+    append_done _ _ _ start.args.buf.now (asked start)
     c.before.before.before.before.before.before.before.before.before.before.before.before.before.entry_of.ensures
     c.before.before.before.before.before.before.before.before.before.before.before.put-entry.ensures
     c.before.before.before.before.before.before.before.before.if1.false c.before.before.before.before.before.next.ensures

@@ -1,5 +1,5 @@
 -- `issuing::put_entry` meets its contract.
-use Rattle.journal.proofs.IssueCalls.{moved, compact_some, as_compact, entry_short, entry-full, entry-placed}
+use Rattle.journal.proofs.IssueCalls.{moved, compact_some, as_compact, entry_short, entry_full, entry_placed}
 use lib.ListN.{length}
 use Prim.Native.Nat.{◌+◌}
 use native.Mathlib.Omega.{arith}
@@ -31,7 +31,7 @@ returns-2 c =
     let start = c.before.before.before.before.before.before.before.before.before in
     let s = start.args.st in
     let w = as_compact _ _ _ start.requires start.args.buf.now (s.length + 2) c.before.before.before.before.before.before.before.settings-now.ensures c.before.before.before.put-compact.ensures in
-    entry-full _ start.args.buf.now s.length (compact_some _ _ _) w c.if2.true
+    entry_full _ start.args.buf.now s.length (compact_some _ _ _) w c.if2.true
 
 sub-put-number : tie.Need-overflow-sub-put-number
 sub-put-number c =
@@ -52,7 +52,7 @@ returns-3 c =
     let start = c.before.before.before.before.before.before.before.before.before.before.before.before.before in
     let s = start.args.st in
     let w = as_compact _ _ _ start.requires start.args.buf.now (s.length + 2) c.before.before.before.before.before.before.before.before.before.before.before.settings-now.ensures c.before.before.before.before.before.before.before.put-compact.ensures in
-    entry-placed _ start.args.buf.now s.length (compact_some _ _ _) w c.before.before.before.before.if2.false c.before.before.put-number.ensures.1
+    entry_placed _ start.args.buf.now s.length (compact_some _ _ _) w c.before.before.before.before.if2.false c.before.before.put-number.ensures.1
 
 pub put-entry-spec : {M : Type 1} → statement M
 put-entry-spec =

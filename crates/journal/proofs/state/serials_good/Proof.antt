@@ -1,6 +1,6 @@
 -- `state::serials_good` meets its contract.
 use Rattle.primitives.proofs.Questions.{yes, no}
-use Rattle.journal.proofs.Serials.{good_empty, good-bad, good-rest}
+use Rattle.journal.proofs.Serials.{good_empty, good_bad, good_rest}
 use borrow.Author.Rules.{rules}
 use Rattle.journal.proofs.state.serials_good.Statement.{statement}
 use Rattle.journal.proofs.state.serials_good.Tie as tie
@@ -16,7 +16,7 @@ good-before-requires c κs = search rules
 
 returns-2 : tie.Need-returns-2
 returns-2 c =
-    good-bad c.before.before.before.before.args.slots c.before.before.before.used-count.ensures c.before.before.if1.false
+    good_bad c.before.before.before.before.args.slots c.before.before.before.used-count.ensures c.before.before.if1.false
     (no c.before.good-before.ensures c.if2.true)
 
 empty-from-requires : tie.Need-empty-from-requires
@@ -24,7 +24,7 @@ empty-from-requires c κs = search rules
 
 returns-3 : tie.Need-returns-3
 returns-3 c =
-    good-rest c.before.before.before.before.before.args.slots c.before.before.before.before.used-count.ensures
+    good_rest c.before.before.before.before.before.args.slots c.before.before.before.before.used-count.ensures
     c.before.before.before.if1.false (yes c.before.before.good-before.ensures c.before.if2.false) c.empty-from.ensures
 
 pub serials-good-spec : {M : Type 1} → statement M

@@ -14,7 +14,7 @@ start-good-requires c κs = search rules
 
 returns-2 : tie.Need-returns-2
 unfolding first_good
-returns-2 c = rw (eq-eqb _ 0 c.before.if1.false) c.start-good.ensures
+returns-2 c = rw (eq-eqb _ 0 c.before.if1.false) c.start_good_lem.ensures
 
 pub first-good-spec : {M : Type 1} → statement M
 first-good-spec = tie.close (tie.spec returns start-good-requires returns-2)

@@ -1,5 +1,5 @@
 use Rattle.std.proofs.Common.{◌+◌, arith}
-use Rattle.primitives.proofs.Base32Code.{value_start, value_small, digit_small, value-one, value_all}
+use Rattle.primitives.proofs.Base32Code.{value_start, value_small, digit_small, value_one, value_all}
 use Rattle.primitives.proofs.base32.letters_value.Goals as goal
 
 pub loop-i-init : goal.loop-i-init
@@ -27,7 +27,7 @@ pub overflow_add-v : goal.overflow_add-v
 overflow_add-v c = omega (arith, value_small c.loop-i.invariant c.loop-i-test.true, digit_small c.loop-i.invariant c.loop-i-test.true c.requires.0 c.requires.3 (c.type_inv.s _).fits)
 
 pub loop-i-preserved : goal.loop-i-preserved
-loop-i-preserved c = value-one c.loop-i.invariant c.loop-i-test.true c.requires.0 c.requires.3 (c.type_inv.s _).fits
+loop-i-preserved c = value_one c.loop-i.invariant c.loop-i-test.true c.requires.0 c.requires.3 (c.type_inv.s _).fits
 
 pub returns : goal.returns
 returns c = value_all c.loop-i.invariant c.loop-i-test.false

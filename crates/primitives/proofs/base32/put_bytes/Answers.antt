@@ -2,7 +2,7 @@ use Rattle.std.proofs.Common.{◌∙◌, arith, rules}
 use Rattle.primitives.specs.BaseRule.{bytes_in}
 use Rattle.primitives.specs.Base32.{base32}
 use Rattle.primitives.proofs.Base64Loops.{pass_start, pass_long}
-use Rattle.primitives.proofs.Base32Code.{bytes-room, bytes-more, rest_room, rest_end}
+use Rattle.primitives.proofs.Base32Code.{bytes_room, bytes_more, rest_room, rest_end}
 use Rattle.primitives.proofs.base32.put_bytes.Goals as goal
 
 pub loop-i-init : goal.loop-i-init
@@ -12,13 +12,13 @@ pub letters_value-v-requires : goal.letters_value-v-requires
 letters_value-v-requires c = (c.requires.0, search rules, omega arith, c.requires.1)
 
 pub put_be-requires : goal.put_be-requires
-put_be-requires c = bytes-room c.loop-i.invariant c.requires.1 c.loop-i-test.true
+put_be-requires c = bytes_room c.loop-i.invariant c.requires.1 c.loop-i-test.true
 
 pub overflow_add-o : goal.overflow_add-o
-overflow_add-o c = omega (arith, pass_long c.loop-i.invariant, bytes-room c.loop-i.invariant c.requires.1 c.loop-i-test.true)
+overflow_add-o c = omega (arith, pass_long c.loop-i.invariant, bytes_room c.loop-i.invariant c.requires.1 c.loop-i-test.true)
 
 pub loop-i-preserved : goal.loop-i-preserved
-loop-i-preserved c = bytes-more c.loop-i.invariant c.requires.1 c.loop-i-test.true c.letters_value-v.ensures c.put_be.ensures
+loop-i-preserved c = bytes_more c.loop-i.invariant c.requires.1 c.loop-i-test.true c.letters_value-v.ensures c.put_be.ensures
 
 pub letters_value-v-requires-2 : goal.letters_value-v-requires-2
 letters_value-v-requires-2 c = (c.requires.0, omega arith, omega arith, c.requires.1)

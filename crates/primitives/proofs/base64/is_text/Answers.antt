@@ -2,7 +2,7 @@
 use Rattle.std.proofs.Common.{ap, not}
 use Rattle.std.proofs.Common.{sym, ◌∙◌, length-take-le}
 use borrow.Author.Tests.{not-true, not-false}
-use Rattle.primitives.proofs.Base64Answers.{not_whole, not-ended, all-ended}
+use Rattle.primitives.proofs.Base64Answers.{not_whole, not_ended, all_ended}
 use Rattle.primitives.proofs.base64.is_text.Goals as goal
 
 pub returns-then-not-is_whole : goal.returns-then-not-is_whole
@@ -15,8 +15,8 @@ slice_bounds-letters-end c =
 
 pub returns-then-not-well_ended : goal.returns-then-not-well_ended
 returns-then-not-well_ended c =
-    not-ended c.args.alphabet c.args.s.now c.requires.1 (sym (not-false _ (ap not c.if-not-is_whole.false)) ∙ c.is_whole.ensures) (sym (not-true _ (ap not c.if-not-well_ended.true)) ∙ c.well_ended.ensures)
+    not_ended c.args.alphabet c.args.s.now c.requires.1 (sym (not-false _ (ap not c.if-not-is_whole.false)) ∙ c.is_whole.ensures) (sym (not-true _ (ap not c.if-not-well_ended.true)) ∙ c.well_ended.ensures)
 
 pub returns : goal.returns
 returns c =
-    all-ended c.args.alphabet c.args.s.now c.requires.1 (sym (not-false _ (ap not c.if-not-is_whole.false)) ∙ c.is_whole.ensures) (sym (not-false _ (ap not c.if-not-well_ended.false)) ∙ c.well_ended.ensures) c.all_known.ensures
+    all_ended c.args.alphabet c.args.s.now c.requires.1 (sym (not-false _ (ap not c.if-not-is_whole.false)) ∙ c.is_whole.ensures) (sym (not-false _ (ap not c.if-not-well_ended.false)) ∙ c.well_ended.ensures) c.all_known.ensures

@@ -1,10 +1,10 @@
 -- `base64::well_ended` meets its contract: the last letter alone says how a text ends.
 use Rattle.std.proofs.Common.{ℕ, ◌-◌, ◌%◌, eqb, length, get_or, sym, ap, ◌∙◌, arith}
-use Rattle.primitives.proofs.Base64Loops.{ended-0, ended_1, ended_2, ended_3}
+use Rattle.primitives.proofs.Base64Loops.{ended_0, ended_1, ended_2, ended_3}
 use Rattle.primitives.proofs.base64.well_ended.Goals as goal
 
 pub returns-then-n-eq0 : goal.returns-then-n-eq0
-returns-then-n-eq0 c = sym (ended-0 c.args.alphabet c.args.s.now c.if-n-eq0.true)
+returns-then-n-eq0 c = sym (ended_0 c.args.alphabet c.args.s.now c.if-n-eq0.true)
 
 pub overflow_cast-d : goal.overflow_cast-d
 overflow_cast-d c = omega (arith, c.type_inv.s (length c.args.s.now - 1))

@@ -1,18 +1,18 @@
 -- `signed` meets its contract, in the lower half and in the upper one.
-use Rattle.primitives.proofs.CounterCode.{lower-fits, lower-is, upper-some, upper-within, upper_fits, upper_is}
+use Rattle.primitives.proofs.CounterCode.{lower_fits, lower_is, upper_some, upper_within, upper_fits, upper_is}
 use Rattle.primitives.proofs.counter.signed.Goals as goal
 
 pub overflow_cast-result : goal.overflow_cast-result
-overflow_cast-result c = lower-fits c.args.n c.args.v c.half_of-h.ensures c.requires.1.0 c.if-v-h.true
+overflow_cast-result c = lower_fits c.args.n c.args.v c.half_of-h.ensures c.requires.1.0 c.if-v-h.true
 
 pub returns-then-v-h : goal.returns-then-v-h
-returns-then-v-h c = lower-is c.args.n c.args.v c.half_of-h.ensures c.requires.1.0 c.if-v-h.true
+returns-then-v-h c = lower_is c.args.n c.args.v c.half_of-h.ensures c.requires.1.0 c.if-v-h.true
 
 pub overflow_sub-result : goal.overflow_sub-result
-overflow_sub-result c = upper-some c.args.n c.args.v c.half_of-h.ensures c.requires.1.0 c.requires.0 c.if-v-h.false c.requires.1.1
+overflow_sub-result c = upper_some c.args.n c.args.v c.half_of-h.ensures c.requires.1.0 c.requires.0 c.if-v-h.false c.requires.1.1
 
 pub overflow_sub-result-3 : goal.overflow_sub-result-3
-overflow_sub-result-3 c = upper-within c.args.n c.args.v c.half_of-h.ensures c.requires.1.0 c.requires.0 c.if-v-h.false c.requires.1.1
+overflow_sub-result-3 c = upper_within c.args.n c.args.v c.half_of-h.ensures c.requires.1.0 c.requires.0 c.if-v-h.false c.requires.1.1
 
 pub overflow_cast-result-2 : goal.overflow_cast-result-2
 overflow_cast-result-2 c = upper_fits c.args.n c.args.v c.half_of-h.ensures c.requires.1.0 c.requires.0 c.if-v-h.false c.requires.1.1

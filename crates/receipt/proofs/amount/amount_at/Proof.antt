@@ -1,5 +1,5 @@
 -- `amount::amount_at` meets its contract.
-use Rattle.receipt.proofs.Cents.{below_fits, read_below, read-from, read_none}
+use Rattle.receipt.proofs.Cents.{below_fits, read_below, read_from, read_none}
 use borrow.Author.Rules.{rules}
 use Rattle.receipt.proofs.amount.amount_at.Statement.{statement}
 use Rattle.receipt.proofs.amount.amount_at.Tie as tie
@@ -24,7 +24,7 @@ returns c =
 returns-2 : tie.Need-returns-2
 returns-2 c =
     let start = c.before.before.before.before.before in
-    read-from c.before.before.before.value-at.ensures.1 start.args.text.now start.args.at c.before.before.before.value-at.ensures.0 c.if2.false
+    read_from c.before.before.before.value-at.ensures.1 start.args.text.now start.args.at c.before.before.before.value-at.ensures.0 c.if2.false
 
 returns-3 : tie.Need-returns-3
 returns-3 c =

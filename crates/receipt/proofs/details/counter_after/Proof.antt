@@ -6,7 +6,7 @@ use mir.Syntax.{w64}
 use mir.Val.{SFits}
 use Rattle.primitives.proofs.Questions.{yes, no}
 use Rattle.receipt.specs.Details.{amounts_good}
-use Rattle.receipt.proofs.Counting.{refused-beyond, refused_over, refused-fit, accepted-fit}
+use Rattle.receipt.proofs.Counting.{refused_beyond, refused_over, refused_fit, accepted_fit}
 use Rattle.receipt.proofs.details.counter_after.Statement.{statement}
 use Rattle.receipt.proofs.details.counter_after.Tie as tie
 
@@ -18,7 +18,7 @@ amounts-good-requires : tie.Need-amounts-good-requires
 amounts-good-requires c κs = search rules
 
 returns : tie.Need-returns
-returns c = let start = c.before.before.before in refused-beyond _ _ _ start.ranges.counter (no c.before.amounts-good.ensures c.if1.true)
+returns c = let start = c.before.before.before in refused_beyond _ _ _ start.ranges.counter (no c.before.amounts-good.ensures c.if1.true)
 
 counted-requires : tie.Need-counted-requires
 counted-requires c κs = yes c.before.amounts-good.ensures c.if1.false
@@ -40,7 +40,7 @@ returns-2 c =
     let start = c.before.before.before.before.before.before.before.before.before.before in
     let add = c.before.before.before.before.before in
     let f : SFits w64 add.before.counted.result = search rules in
-    refused-fit _ _ _ start.ranges.counter (good add) f add.before.counted.ensures add.checked-add.ensures c.before.before.before.z.given.1 (no c.before.counter_fits_lem.ensures c.if2.true)
+    refused_fit _ _ _ start.ranges.counter (good add) f add.before.counted.ensures add.checked-add.ensures c.before.before.before.z.given.1 (no c.before.counter_fits_lem.ensures c.if2.true)
 
 returns-3 : tie.Need-returns-3
 returns-3 c =
@@ -54,7 +54,7 @@ returns-4 c =
     let start = c.before.before.before.before.before.before.before.before.before.before in
     let add = c.before.before.before.before.before in
     let f : SFits w64 add.before.counted.result = search rules in
-    accepted-fit _ _ _ start.ranges.counter (good add) f add.before.counted.ensures add.checked-add.ensures c.before.before.before.z.given.1 (yes c.before.counter_fits_lem.ensures c.if2.false)
+    accepted_fit _ _ _ start.ranges.counter (good add) f add.before.counted.ensures add.checked-add.ensures c.before.before.before.z.given.1 (yes c.before.counter_fits_lem.ensures c.if2.false)
 
 pub counter-after-spec : {M : Type 1} → statement M
 counter-after-spec =

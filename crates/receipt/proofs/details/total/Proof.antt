@@ -4,7 +4,7 @@ use Prim.Native.Nat.{◌-◌}
 use mathlib.Core.Path.{◌≡◌}
 use native.Mathlib.Omega.{arith}
 use lib.ListN.{length}
-use Rattle.receipt.proofs.Counting.{Summing, summing_start, adding-fits, summing-more, summing_end}
+use Rattle.receipt.proofs.Counting.{Summing, summing_start, adding_fits, summing_more, summing_end}
 use Rattle.receipt.proofs.details.total.Statement.{statement}
 use Rattle.receipt.proofs.details.total.Tie as tie
 
@@ -28,7 +28,7 @@ array-copy-out-sum : tie.Need-array-copy-out-sum invariant-loop decreases-loop
 array-copy-out-sum c = search rules
 
 add-sum : tie.Need-overflow-add-sum invariant-loop decreases-loop
-add-sum c = adding-fits c.before.before.loop.invariant (five c.before.before.before) c.before.loop-test.true
+add-sum c = adding_fits c.before.before.loop.invariant (five c.before.before.before) c.before.loop-test.true
 
 add-i : tie.Need-overflow-add-i invariant-loop decreases-loop
 add-i c = search rules
@@ -37,7 +37,7 @@ loop-less : tie.Need-loop-smaller invariant-loop decreases-loop
 loop-less c = search rules
 
 loop-again : tie.Need-loop-preserved invariant-loop decreases-loop
-loop-again c = summing-more c.before.before.loop.invariant (five c.before.before.before) c.before.loop-test.true
+loop-again c = summing_more c.before.before.loop.invariant (five c.before.before.before) c.before.loop-test.true
 
 returns : tie.Need-returns invariant-loop decreases-loop
 returns c = summing_end c.before.loop.invariant (five c.before.before) c.loop-test.false

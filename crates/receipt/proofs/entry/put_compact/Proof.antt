@@ -3,7 +3,7 @@ use mathlib.Core.Path.{◌≡◌}
 use borrow.Author.Rules.{rules}
 use lib.ListN.{length}
 use Rattle.primitives.proofs.Rows.{not_no, not_yes}
-use Rattle.receipt.proofs.EntryCalls.{unprepared, is-prepared, payload_is, no_payload, stray-bytes, wrote-compact}
+use Rattle.receipt.proofs.EntryCalls.{unprepared, is_prepared, payload_is, no_payload, stray_bytes, wrote_compact}
 use Rattle.receipt.proofs.entry.put_compact.Statement.{statement}
 use Rattle.receipt.proofs.entry.put_compact.Tie as tie
 use Rattle.receipt.proofs.entry.put_compact.Reads as reads
@@ -35,7 +35,7 @@ signature-zero-requires c κs = search rules
 returns-2 : tie.Need-returns-2
 returns-2 c =
     let start = c.before.before.before.before.before.before.before.before.before in
-    stray-bytes start.args.out.now start.args.at start.args.s start.args.n start.args.e
+    stray_bytes start.args.out.now start.args.at start.args.s start.args.n start.args.e
     (not_no _ _ c.before.signature-zero.ensures c.if2.true)
 
 sub-put-signed : tie.Need-overflow-sub-put-signed
@@ -59,8 +59,8 @@ returns-3 c =
     let p = c.before.before.before.before.before.before.before.before.before.before.write-payload in
     let l = long c.before.before.before.before.before.before.before.before.before in
     let some = c.before.before.before.before.before.before.before.before.if1.false in
-    wrote-compact start.args.out.now start.args.at start.args.s start.args.n start.args.e
-    (is-prepared _ _ _ _ p.new.1.1.1.0 l p.ensures some) (not_yes _ _ c.before.before.before.before.before.before.before.signature-zero.ensures c.before.before.before.before.before.before.if2.false)
+    wrote_compact start.args.out.now start.args.at start.args.s start.args.n start.args.e
+    (is_prepared _ _ _ _ p.new.1.1.1.0 l p.ensures some) (not_yes _ _ c.before.before.before.before.before.before.before.signature-zero.ensures c.before.before.before.before.before.before.if2.false)
     (payload_is _ _ _ _ p.new.1.1.1.0 l p.ensures some) c.before.before.put-signed.ensures
 
 pub put-compact-spec : {M : Type 1} → statement M

@@ -2,7 +2,7 @@
 use mathlib.Core.Path.{◌≡◌}
 use borrow.Author.Rules.{rules}
 use lib.ListN.{length}
-use Rattle.receipt.proofs.EntryCalls.{unprepared, is-prepared, payload_is, no-input, wrote-input}
+use Rattle.receipt.proofs.EntryCalls.{unprepared, is_prepared, payload_is, no_input, wrote_input}
 use Rattle.receipt.proofs.entry.put_signing_input.Statement.{statement}
 use Rattle.receipt.proofs.entry.put_signing_input.Tie as tie
 use Rattle.receipt.proofs.entry.put_signing_input.Reads as reads
@@ -24,7 +24,7 @@ write-payload-requires c κs = search rules
 returns : tie.Need-returns
 returns c =
     let start = c.before.before.before.before.before in
-    no-input start.args.out.now start.args.at start.args.s start.args.n start.args.f
+    no_input start.args.out.now start.args.at start.args.s start.args.n start.args.f
     (unprepared _ _ _ _ c.before.before.write-payload.new.1.1.1.0 (long c.before) c.before.before.write-payload.ensures c.if1.true)
 
 sub-put-signed-input : tie.Need-overflow-sub-put-signed-input
@@ -48,8 +48,8 @@ returns-2 c =
     let p = c.before.before.before.before.before.before.before.before.write-payload in
     let l = long c.before.before.before.before.before.before.before in
     let some = c.before.before.before.before.before.before.if1.false in
-    wrote-input start.args.out.now start.args.at start.args.s start.args.n start.args.f
-    (is-prepared _ _ _ _ p.new.1.1.1.0 l p.ensures some) (payload_is _ _ _ _ p.new.1.1.1.0 l p.ensures some)
+    wrote_input start.args.out.now start.args.at start.args.s start.args.n start.args.f
+    (is_prepared _ _ _ _ p.new.1.1.1.0 l p.ensures some) (payload_is _ _ _ _ p.new.1.1.1.0 l p.ensures some)
     c.before.before.put_signed_input.ensures
 
 pub put-signing-input-spec : {M : Type 1} → statement M

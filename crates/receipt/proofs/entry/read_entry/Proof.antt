@@ -2,7 +2,7 @@
 use mathlib.Core.Path.{◌∙◌}
 use borrow.Author.Rules.{rules}
 use Rattle.primitives.proofs.Rows.{not_no, not_yes}
-use Rattle.receipt.proofs.EntryCalls.{read_refused, read-other, read_found}
+use Rattle.receipt.proofs.EntryCalls.{read_refused, read_other, read_found}
 use Rattle.receipt.proofs.entry.read_entry.Statement.{statement}
 use Rattle.receipt.proofs.entry.read_entry.Tie as tie
 use Rattle.receipt.proofs.entry.read_entry.Reads as reads
@@ -29,7 +29,7 @@ returns : tie.Need-returns
 returns c =
     let r = c.before.before.before.before.before.read-form in
     let start = c.before.before.before.before.before.before.before.before.before in
-    c.no-entry.ensures
+    c.no_entry_lem.ensures
     ∙ read_refused start.args.s start.args.n _ r.new.1.0 r.new.1.1.0 r.result r.ensures.2 c.before.if1.true
 
 sub-read-payload : tie.Need-overflow-sub-read-payload
@@ -64,7 +64,7 @@ returns-2 c =
     let r = c.before.before.before.before.before.before.before.before.before.before.before.before.read-form in
     let start = c.before.before.before.before.before.before.before.before.before.before.before.before.before.before.before.before in
     c.no-entry2.ensures
-    ∙ read-other start.args.s start.args.n _ r.new.1.0 r.new.1.1.0 r.result r.ensures.2 c.before.before.before.before.before.before.before.before.if1.false
+    ∙ read_other start.args.s start.args.n _ r.new.1.0 r.new.1.1.0 r.result r.ensures.2 c.before.before.before.before.before.before.before.before.if1.false
     _ c.before.before.before.before.before.read-payload.ensures (not_no _ _ c.before.before.spells.ensures c.before.if2.true)
 
 signature-of-requires : tie.Need-signature-of-requires

@@ -3,7 +3,7 @@ use mathlib.Core.Path.{◌≡◌}
 use borrow.Author.Rules.{rules}
 use lib.ListN.{length}
 use Rattle.primitives.proofs.same.Reads as same_Reads
-use Rattle.receipt.proofs.EntryCalls.{unprepared, is-prepared, payload_is, spells_none, spells_some}
+use Rattle.receipt.proofs.EntryCalls.{unprepared, is_prepared, payload_is, spells_none, spells_some}
 use Rattle.receipt.proofs.entry.spells.Statement.{statement}
 use Rattle.receipt.proofs.entry.spells.Tie as tie
 use Rattle.receipt.proofs.entry.spells.Reads as reads
@@ -46,7 +46,7 @@ returns-2 c =
     let l = long c.before.before.before.before in
     let some = c.before.before.before.if1.false in
     spells_some start.args.s start.args.n start.args.f start.args.text.now
-    (is-prepared _ _ _ _ p.new.1.1.1.0 l p.ensures some) (payload_is _ _ _ _ p.new.1.1.1.0 l p.ensures some)
+    (is_prepared _ _ _ _ p.new.1.1.1.0 l p.ensures some) (payload_is _ _ _ _ p.new.1.1.1.0 l p.ensures some)
     c.same.ensures
 
 pub spells-spec : {M : Type 1} → statement M

@@ -3,7 +3,7 @@ use borrow.Author.Rules.{rules}
 use Rattle.receipt.specs.Settings.{SettingsLengths}
 use Rattle.receipt.proofs.Written.{Sizes}
 use Rattle.primitives.proofs.Rows.{not_no, not_yes}
-use Rattle.receipt.proofs.EntryCalls.{payload_none, payload-room, payload-some}
+use Rattle.receipt.proofs.EntryCalls.{payload_none, payload_room, payload_some}
 use Rattle.receipt.proofs.entry.write_payload.Statement.{statement}
 use Rattle.receipt.proofs.entry.write_payload.Tie as tie
 use Rattle.receipt.proofs.entry.write_payload.Reads as reads
@@ -29,7 +29,7 @@ returns c =
 put-payload-requires : tie.Need-put-payload-requires
 put-payload-requires c κs =
     let start = c.before.before.before.before in
-    payload-room start.args.s start.args.n start.args.f (settings start) (sizes start) start.args.out.now start.requires
+    payload_room start.args.s start.args.n start.args.f (settings start) (sizes start) start.args.out.now start.requires
     (not_yes _ _ c.before.before.preparable.ensures c.before.if1.false)
 
 same_length : tie.Need-same-length
@@ -38,7 +38,7 @@ same_length c = search rules
 returns-2 : tie.Need-returns-2
 returns-2 c =
     let start = c.before.before.before.before.before.before.before in
-    payload-some start.args.s start.args.n start.args.f (settings start) (sizes start) start.args.out.now start.requires
+    payload_some start.args.s start.args.n start.args.f (settings start) (sizes start) start.args.out.now start.requires
     (not_yes _ _ c.before.before.before.before.before.preparable.ensures c.before.before.before.before.if1.false) c.before.before.put_payload.ensures
 
 pub write-payload-spec : {M : Type 1} → statement M

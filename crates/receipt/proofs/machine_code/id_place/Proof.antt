@@ -1,7 +1,7 @@
 -- The marks are found in the payload, which stands at the start of the code.
 use native.Mathlib.Omega.{arith}
 use Prim.Native.Nat.{◌+◌, ◌≤◌}
-use Rattle.receipt.proofs.CodeCalls.{no_id, second-small, id-unended, id-empty, id_there_lem}
+use Rattle.receipt.proofs.CodeCalls.{no_id, second_small, id_unended, id_empty, id_there_lem}
 use borrow.Author.Rules.{rules}
 use Rattle.receipt.proofs.machine_code.id_place.Statement.{statement}
 use Rattle.receipt.proofs.machine_code.id_place.Tie as tie
@@ -36,7 +36,7 @@ next-at-requires c κs = search rules
 add_a : tie.Need-overflow-add-a
 add_a c =
     let r = c.before.before.before.before.before.read-code in
-    let h : c.next-at.result ≤ longest_payload + 1 = second-small _ r.new.1.0 r.result r.ensures.2 c.before.before.if1.false c.next-at.ensures in
+    let h : c.next-at.result ≤ longest_payload + 1 = second_small _ r.new.1.0 r.result r.ensures.2 c.before.before.if1.false c.next-at.ensures in
     omega arith
 
 next-at-requires-2 : tie.Need-next-at-requires-2
@@ -48,7 +48,7 @@ nowhere-requires-2 c κs = search rules
 returns-2 : tie.Need-returns-2
 returns-2 c =
     let r = c.before.before.before.before.before.before.before.before.read-code in
-    id-unended _ r.new.1.0 r.result r.ensures.2 c.before.before.before.before.before.if1.false c.before.before.before.next-at.ensures c.before.before.next-at2.ensures r.ensures.0
+    id_unended _ r.new.1.0 r.result r.ensures.2 c.before.before.before.before.before.if1.false c.before.before.before.next-at.ensures c.before.before.next-at2.ensures r.ensures.0
     c.nowhere2.ensures c.before.if2.true
 
 nowhere-requires-3 : tie.Need-nowhere-requires-3
@@ -57,7 +57,7 @@ nowhere-requires-3 c κs = search rules
 returns-3 : tie.Need-returns-3
 returns-3 c =
     let r = c.before.before.before.before.before.before.before.before.before.read-code in
-    id-empty _ r.new.1.0 r.result r.ensures.2 c.before.before.before.before.before.before.if1.false c.before.before.before.before.next-at.ensures c.before.before.before.next-at2.ensures r.ensures.0
+    id_empty _ r.new.1.0 r.result r.ensures.2 c.before.before.before.before.before.before.if1.false c.before.before.before.before.next-at.ensures c.before.before.before.next-at2.ensures r.ensures.0
     c.before.before.if2.false c.nowhere3.ensures c.before.if3.true
 
 returns-4 : tie.Need-returns-4

@@ -1,5 +1,5 @@
 -- What was read is what the definition reads.
-use Rattle.receipt.proofs.CodeCalls.{uncode_refused, code_lengths, uncode-full, uncode-written}
+use Rattle.receipt.proofs.CodeCalls.{uncode_refused, code_lengths, uncode_full, uncode_written}
 use borrow.Author.Rules.{rules}
 use Rattle.receipt.proofs.machine_code.uncode.Statement.{statement}
 use Rattle.receipt.proofs.machine_code.uncode.Tie as tie
@@ -48,7 +48,7 @@ same_length c = search rules
 returns-2 : tie.Need-returns-2
 returns-2 c =
     let r = c.before.before.before.before.before.before.before.before.before.before.before.read-code in
-    uncode-full _ _ r.new.1.0 r.result r.ensures.2 c.before.before.before.before.before.before.before.before.if1.false c.before.before.before.put_form.ensures c.if2.true
+    uncode_full _ _ r.new.1.0 r.result r.ensures.2 c.before.before.before.before.before.before.before.before.if1.false c.before.before.before.put_form.ensures c.if2.true
 
 same-length-2 : tie.Need-same-length-2
 same-length-2 c = search rules
@@ -56,7 +56,7 @@ same-length-2 c = search rules
 returns-3 : tie.Need-returns-3
 returns-3 c =
     let r = c.before.before.before.before.before.before.before.before.before.before.before.read-code in
-    uncode-written _ _ r.new.1.0 r.result r.ensures.2 c.before.before.before.before.before.before.before.before.if1.false c.before.before.before.put_form.ensures c.if2.false
+    uncode_written _ _ r.new.1.0 r.result r.ensures.2 c.before.before.before.before.before.before.before.before.if1.false c.before.before.before.put_form.ensures c.if2.false
 
 pub uncode-spec : {M : Type 1} → statement M
 uncode-spec =

@@ -1,7 +1,7 @@
 -- The questions in their row.
 use Prim.Native.Nat.{zero-le}
 use borrow.Author.Rules.{rules}
-use Rattle.receipt.proofs.LineCalls.{Places, places, ends_in, not_nine, not-started, fits₁, fits₂, fits₃, fits₄, too_long, then-signature}
+use Rattle.receipt.proofs.LineCalls.{Places, places, ends_in, not_nine, not_started, fits₁, fits₂, fits₃, fits₄, too_long, then_signature}
 use Rattle.receipt.proofs.optical_line.fields_good.Statement.{statement}
 use Rattle.receipt.proofs.optical_line.fields_good.Tie as tie
 
@@ -32,7 +32,7 @@ payload-good-requires c κs = search rules
 returns-2 : tie.Need-returns-2
 returns-2 c =
     let start = c.before.before.before.before.before.before.before in
-    not-started start.args.text.now start.args.e start.args.bytes.now start.requires.0 c.before.before.before.count_of.ensures c.before.before.if1.false c.before.payload_good_lem.ensures c.if2.true
+    not_started start.args.text.now start.args.e start.args.bytes.now start.requires.0 c.before.before.before.count_of.ensures c.before.before.if1.false c.before.payload_good_lem.ensures c.if2.true
 
 sub-base64-length : tie.Need-overflow-sub-base64-length
 sub-base64-length c = zero-le
@@ -101,7 +101,7 @@ signature-good-requires c κs = search rules
 returns-4 : tie.Need-returns-4
 returns-4 c =
     let start = c.before.before.before.before.before.before.before.before.before.before.before.before.before.before.before in
-    then-signature start.args.text.now start.args.e start.args.bytes.now start.requires.0 c.before.before.before.before.before.before.before.before.before.before.before.count_of.ensures c.before.before.before.before.before.before.before.before.before.before.if1.false c.before.before.before.before.before.before.before.before.before.payload_good_lem.ensures c.before.before.before.before.before.before.before.before.if2.false start.requires.1 start.requires.2 start.well-formed.0.1 c.before.before.before.before.before.before.base64-length.ensures c.before.before.before.before.base64-length2.ensures c.before.before.if3.false c.signature-good.ensures
+    then_signature start.args.text.now start.args.e start.args.bytes.now start.requires.0 c.before.before.before.before.before.before.before.before.before.before.before.count_of.ensures c.before.before.before.before.before.before.before.before.before.before.if1.false c.before.before.before.before.before.before.before.before.before.payload_good_lem.ensures c.before.before.before.before.before.before.before.before.if2.false start.requires.1 start.requires.2 start.well-formed.0.1 c.before.before.before.before.before.before.base64-length.ensures c.before.before.before.before.base64-length2.ensures c.before.before.if3.false c.signature-good.ensures
 
 pub fields-good-spec : {M : Type 1} → statement M
 fields-good-spec =

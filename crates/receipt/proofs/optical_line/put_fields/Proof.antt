@@ -1,7 +1,7 @@
 -- Three pieces in a row, where there is room for all.
 use Prim.Native.Nat.{zero-le}
 use mathlib.Core.Path.{refl, ◌∙◌}
-use Rattle.receipt.proofs.LineCalls.{Places, places, ends_in, copied-fits, spelled-short, sum_fits, length-fits, no_place, room-first, room-second, room_third, put-fields}
+use Rattle.receipt.proofs.LineCalls.{Places, places, ends_in, copied_fits, spelled_short, sum_fits, length_fits, no_place, room_first, room_second, room_third, put_fields}
 use Rattle.receipt.proofs.optical_line.put_fields.Statement.{statement}
 use Rattle.receipt.proofs.optical_line.put_fields.Tie as tie
 
@@ -48,12 +48,12 @@ sub-length c = (at c.before.before.before.before.before.before.before.before).se
 add-length : tie.Need-overflow-add-length
 add-length c =
     let start = c.before.before.before.before.before.before.before.before in
-    copied-fits start.args.spelling start.args.m start.args.text.now start.args.e start.args.bytes.now start.requires.0 start.requires.2
+    copied_fits start.args.spelling start.args.m start.args.text.now start.args.e start.args.bytes.now start.requires.0 start.requires.2
 
 spelled-lengths-requires : tie.Need-spelled-lengths-requires
 spelled-lengths-requires c κs =
     let start = c.before.before.before.before.before.before.before.before in
-    spelled-short start.args.spelling start.args.m start.args.text.now start.args.e start.args.bytes.now start.requires.0 start.requires.2
+    spelled_short start.args.spelling start.args.m start.args.text.now start.args.e start.args.bytes.now start.requires.0 start.requires.2
 
 add-length-2 : tie.Need-overflow-add-length-2
 add-length-2 c =
@@ -63,7 +63,7 @@ add-length-2 c =
 add-length-3 : tie.Need-overflow-add-length-3
 add-length-3 c =
     let start = c.before.before.before.before.before.before.before.before.before in
-    length-fits start.args.spelling start.args.m start.args.text.now start.args.e start.args.bytes.now start.requires.0 start.requires.2 c.spelled-lengths.ensures
+    length_fits start.args.spelling start.args.m start.args.text.now start.args.e start.args.bytes.now start.requires.0 start.requires.2 c.spelled-lengths.ensures
 
 returns : tie.Need-returns
 returns c =
@@ -82,7 +82,7 @@ part-put-piece-end c = (at c.before.before.before.before.before.before.before.be
 put-piece-requires : tie.Need-put-piece-requires
 put-piece-requires c κs =
     let start = c.before.before.before.before.before.before.before.before.before.before.before.before in
-    room-first start.args.spelling start.args.m start.args.text.now start.args.e start.args.bytes.now start.requires.0 start.requires.2 c.before.before.before.spelled-lengths.ensures start.args.out.now c.before.before.if1.false
+    room_first start.args.spelling start.args.m start.args.text.now start.args.e start.args.bytes.now start.requires.0 start.requires.2 c.before.before.before.spelled-lengths.ensures start.args.out.now c.before.before.if1.false
 
 sub-put-piece-2 : tie.Need-overflow-sub-put-piece-2
 sub-put-piece-2 c = (at c.before.before.before.before.before.before.before.before.before.before.before.before.before.before.before).serial_part
@@ -96,7 +96,7 @@ part-put-piece-end-2 c = (at c.before.before.before.before.before.before.before.
 put-piece-requires-2 : tie.Need-put-piece-requires-2
 put-piece-requires-2 c κs =
     let start = c.before.before.before.before.before.before.before.before.before.before.before.before.before.before.before.before.before in
-    room-second start.args.spelling start.args.m start.args.text.now start.args.e start.args.bytes.now start.requires.0 start.requires.2 c.before.before.before.before.before.before.before.before.spelled-lengths.ensures start.args.out.now c.before.before.before.before.before.before.before.if1.false c.before.before.before.before.put_piece.ensures
+    room_second start.args.spelling start.args.m start.args.text.now start.args.e start.args.bytes.now start.requires.0 start.requires.2 c.before.before.before.before.before.before.before.before.spelled-lengths.ensures start.args.out.now c.before.before.before.before.before.before.before.if1.false c.before.before.before.before.put_piece.ensures
 
 slice-aggregate-put-piece : tie.Need-slice-aggregate-put-piece
 slice-aggregate-put-piece c = refl
@@ -112,7 +112,7 @@ same_length c = c.before.before.put-piece3.auto.1.1.1.0 ∙ c.before.before.befo
 returns-2 : tie.Need-returns-2
 returns-2 c =
     let start = c.before.before.before.before.before.before.before.before.before.before.before.before.before.before.before.before.before.before.before.before.before.before.before.before.before in
-    put-fields start.args.spelling start.args.m start.args.text.now start.args.e start.args.bytes.now start.requires.0 start.requires.2 c.before.before.before.before.before.before.before.before.before.before.before.before.before.before.before.before.spelled-lengths.ensures start.args.out.now c.before.before.before.before.before.before.before.before.before.before.before.before.before.before.before.if1.false c.before.before.before.before.before.before.before.before.before.before.before.before.put_piece.ensures c.before.before.before.before.before.before.before.put-piece2.ensures c.before.before.put-piece3.ensures.1
+    put_fields start.args.spelling start.args.m start.args.text.now start.args.e start.args.bytes.now start.requires.0 start.requires.2 c.before.before.before.before.before.before.before.before.before.before.before.before.before.before.before.before.spelled-lengths.ensures start.args.out.now c.before.before.before.before.before.before.before.before.before.before.before.before.before.before.before.if1.false c.before.before.before.before.before.before.before.before.before.before.before.before.put_piece.ensures c.before.before.before.before.before.before.before.put-piece2.ensures c.before.before.put-piece3.ensures.1
 
 pub put-fields-spec : {M : Type 1} → statement M
 put-fields-spec =

@@ -1,7 +1,7 @@
 -- Each field is read after the one before it; the first that is refused or does not fit ends it.
 use mathlib.Core.Path.{◌∙◌}
 use native.Mathlib.Nat.{le_refl}
-use Rattle.receipt.proofs.LineCalls.{Places, places, ends_none, no-counter, no-chain, no_signature, three-found}
+use Rattle.receipt.proofs.LineCalls.{Places, places, ends_none, no_counter, no_chain, no_signature, three_found}
 use Rattle.receipt.proofs.optical_line.read_fields.Statement.{statement}
 use Rattle.receipt.proofs.optical_line.read_fields.Tie as tie
 
@@ -33,7 +33,7 @@ same_length c = c.before.before.before.decode-spelled.auto.1.1.0
 returns : tie.Need-returns
 returns c =
     let start = c.before.before.before.before.before.before.before.before.before in
-    ends_none _ (no-counter start.args.spelling start.args.text.now start.args.m start.requires.0.is start.args.out.now start.requires.1 c.before.before.before.decode-spelled.ensures c.match.keys2)
+    ends_none _ (no_counter start.args.spelling start.args.text.now start.args.m start.requires.0.is start.args.out.now start.requires.1 c.before.before.before.decode-spelled.ensures c.match.keys2)
 
 add-c : tie.Need-overflow-add-c
 add-c c = (at c.before.before.before.before.before.before.before.before.before.before.before.before).chain_fits
@@ -60,7 +60,7 @@ returns-2 : tie.Need-returns-2
 returns-2 c =
     let start = c.before.before.before.before.before.before.before.before.before.before.before.before.before.before.before.before.before.before in
     ends_none _
-    (no-chain start.args.spelling start.args.text.now start.args.m start.requires.0.is start.args.out.now start.requires.1 c.before.before.before.before.before.before.before.before.before.before.before.before.decode-spelled.ensures c.before.before.before.before.before.before.before.before.x.given.1 c.before.before.before.decode-spelled2.ensures c.match2.keys2)
+    (no_chain start.args.spelling start.args.text.now start.args.m start.requires.0.is start.args.out.now start.requires.1 c.before.before.before.before.before.before.before.before.before.before.before.before.decode-spelled.ensures c.before.before.before.before.before.before.before.before.x.given.1 c.before.before.before.decode-spelled2.ensures c.match2.keys2)
 
 add-rest : tie.Need-overflow-add-rest
 add-rest c = (at c.before.before.before.before.before.before.before.before.before.before.before.before.before.before.before.before.before.before.before.before).signature_fits
@@ -96,7 +96,7 @@ same-length-4 c = c.before.before.before.before.before.decode-spelled3.auto.1.1.
 returns-4 : tie.Need-returns-4
 returns-4 c =
     let start = c.before.before.before.before.before.before.before.before.before.before.before.before.before.before.before.before.before.before.before.before.before.before.before.before.before.before.before.before in
-    three-found start.args.spelling start.args.text.now start.args.m start.requires.0.is start.args.out.now start.requires.1 c.before.before.before.before.before.before.before.before.before.before.before.before.before.before.before.before.before.before.before.before.before.before.decode-spelled.ensures c.before.before.before.before.before.before.before.before.before.before.before.before.before.before.before.before.before.before.x.given.1 c.before.before.before.before.before.before.before.before.before.before.before.before.before.decode-spelled2.ensures c.before.before.before.before.before.before.before.before.before.y.given.1
+    three_found start.args.spelling start.args.text.now start.args.m start.requires.0.is start.args.out.now start.requires.1 c.before.before.before.before.before.before.before.before.before.before.before.before.before.before.before.before.before.before.before.before.before.before.decode-spelled.ensures c.before.before.before.before.before.before.before.before.before.before.before.before.before.before.before.before.before.before.x.given.1 c.before.before.before.before.before.before.before.before.before.before.before.before.before.decode-spelled2.ensures c.before.before.before.before.before.before.before.before.before.y.given.1
     c.before.before.before.before.before.decode-spelled3.ensures c.before.z.given.1
 
 pub read-fields-spec : {M : Type 1} → statement M

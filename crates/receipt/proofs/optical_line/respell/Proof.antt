@@ -1,7 +1,7 @@
 -- What was read is what the definition reads.
 use borrow.Author.Rules.{rules}
 use Rattle.primitives.proofs.Questions.{yes}
-use Rattle.receipt.proofs.LineCalls.{all_there, no_marks, no_fields, bad-fields, good-fields}
+use Rattle.receipt.proofs.LineCalls.{all_there, no_marks, no_fields, bad_fields, good_fields_lem}
 use Rattle.receipt.proofs.optical_line.respell.Statement.{statement}
 use Rattle.receipt.proofs.optical_line.respell.Tie as tie
 
@@ -35,7 +35,7 @@ returns-3 : tie.Need-returns-3
 returns-3 c =
     let start = c.before.before.before.before.before.before.before.before.before.before.before.before.before in
     let e = c.before.before.before.before.before.before.read-fields in
-    bad-fields start.args.from start.args.to start.args.text.now start.args.out.now start.args.refused c.before.before.before.before.before.before.before.before.before.before.marks-of.ensures c.before.before.before.before.before.before.before.before.if1.false e.result e.new.1.1.1.0 e.ensures.1 c.before.before.before.if2.false c.before.fields_good_lem.ensures c.if3.true
+    bad_fields start.args.from start.args.to start.args.text.now start.args.out.now start.args.refused c.before.before.before.before.before.before.before.before.before.before.marks-of.ensures c.before.before.before.before.before.before.before.before.if1.false e.result e.new.1.1.1.0 e.ensures.1 c.before.before.before.if2.false c.before.fields_good_lem.ensures c.if3.true
 
 slice-aggregate-put-fields : tie.Need-slice-aggregate-put-fields
 slice-aggregate-put-fields c = search rules
@@ -50,7 +50,7 @@ returns-4 : tie.Need-returns-4
 returns-4 c =
     let start = c.before.before.before.before.before.before.before.before.before.before.before.before.before.before.before.before.before.before in
     let e = c.before.before.before.before.before.before.before.before.before.before.before.read-fields in
-    good-fields start.args.from start.args.to start.args.text.now start.args.out.now start.args.refused c.before.before.before.before.before.before.before.before.before.before.before.before.before.before.before.marks-of.ensures c.before.before.before.before.before.before.before.before.before.before.before.before.before.if1.false e.result e.new.1.1.1.0 e.ensures.1 c.before.before.before.before.before.before.before.before.if2.false c.before.before.before.before.before.before.fields_good_lem.ensures c.before.before.before.before.before.if3.false c.before.before.put-fields.ensures
+    good_fields_lem start.args.from start.args.to start.args.text.now start.args.out.now start.args.refused c.before.before.before.before.before.before.before.before.before.before.before.before.before.before.before.marks-of.ensures c.before.before.before.before.before.before.before.before.before.before.before.before.before.if1.false e.result e.new.1.1.1.0 e.ensures.1 c.before.before.before.before.before.before.before.before.if2.false c.before.before.before.before.before.before.fields_good_lem.ensures c.before.before.before.before.before.if3.false c.before.before.put_fields.ensures
 
 pub respell-spec : {M : Type 1} → statement M
 respell-spec =

@@ -23,7 +23,7 @@ returns : tie.Need-returns
 returns c =
     let start = c.before.before.before.before in
     fields_read start.args.n start.args.text.now (drop start.args.at start.args.text.now) start.args.p start.requires.1
-    c.before.before.read-details.ensures c.before.read-counter.ensures c.read-chain.ensures
+    c.before.before.read_details_lem.ensures c.before.read-counter.ensures c.read-chain.ensures
 
 pub read-fields-spec : {M : Type 1} → statement M
 read-fields-spec = tie.close (tie.spec read-details-requires read-counter-requires read-chain-requires returns)

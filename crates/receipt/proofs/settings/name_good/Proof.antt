@@ -3,7 +3,7 @@ use borrow.Author.Rules.{rules}
 use native.Mathlib.Omega.{arith}
 use mathlib.Core.Path.{◌≡◌}
 use lib.ListN.{length}
-use Rattle.receipt.proofs.Names.{name_empty, name_long, name-letters, name-zeros}
+use Rattle.receipt.proofs.Names.{name_empty, name_long, name_letters, name_zeros}
 use Rattle.receipt.proofs.settings.name_good.Statement.{statement}
 use Rattle.receipt.proofs.settings.name_good.Tie as tie
 
@@ -30,7 +30,7 @@ every-requires : tie.Need-every-requires
 every-requires c κs = search rules
 
 returns-3 : tie.Need-returns-3
-returns-3 c = name-letters _ _ c.before.before.before.before.before.before.if1.false c.before.before.before.before.before.if2.false c.before.every.ensures c.if3.true
+returns-3 c = name_letters _ _ c.before.before.before.before.before.before.if1.false c.before.before.before.before.before.if2.false c.before.every.ensures c.if3.true
 
 part-every-start-2 : tie.Need-slice-bounds-every-start-2
 part-every-start-2 c = search rules
@@ -42,7 +42,7 @@ every-requires-2 : tie.Need-every-requires-2
 every-requires-2 c κs = search rules
 
 returns-4 : tie.Need-returns-4
-returns-4 c = name-zeros _ _ c.before.before.before.before.before.before.before.before.before.if1.false c.before.before.before.before.before.before.before.before.if2.false c.before.before.before.before.every.ensures (thirty_two c.before.before.before.before.before.before.before.before.before.before) c.before.before.before.if3.false c.every2.ensures
+returns-4 c = name_zeros _ _ c.before.before.before.before.before.before.before.before.before.if1.false c.before.before.before.before.before.before.before.before.if2.false c.before.before.before.before.every.ensures (thirty_two c.before.before.before.before.before.before.before.before.before.before) c.before.before.before.if3.false c.every2.ensures
 
 pub name-good-spec : {M : Type 1} → statement M
 name-good-spec =
