@@ -15,7 +15,7 @@ use receipt::Number;
 // ---- in strings
 
 // Four letters of a string, the escape read, and the place after them; fewer where the string ends.
-#[derive(Drop)]
+#[derive(Clone, Copy)]
 pub(crate) struct Quad {
     pub(crate) count: usize,
     pub(crate) bytes: [u8; 4],

@@ -7,7 +7,7 @@ ghost use Rattle.exports.specs.Places.{Skipped, Stopped, EscapeAt, not_closed, C
 
 // A token: its kind is 0 at the end, 1 for a wrong byte, 34 for a string, or the mark itself.
 // The letters of a string begin at `start`, and `length` is how many bytes it spells; `next` is the place after the token.
-#[derive(Drop)]
+#[derive(Clone, Copy)]
 pub struct Found {
     pub kind: u8,
     pub start: usize,
@@ -16,7 +16,7 @@ pub struct Found {
 }
 
 // How many bytes a string spells, and the place after the quote that closes it; that place is 0 where the string is wrong or not closed.
-#[derive(Drop)]
+#[derive(Clone, Copy)]
 pub struct Close {
     pub length: usize,
     pub next: usize,

@@ -14,7 +14,7 @@ ghost use Rattle.exports.specs.Running.{PayloadPlace};
 use primitives::{Alphabet, Decoded};
 use receipt::{Name, Settings};
 
-#[derive(Drop)]
+#[derive(Clone, Copy)]
 pub struct Named {
     pub good: bool,
     pub settings: Settings,

@@ -9,7 +9,7 @@ use primitives::Alphabet;
 use receipt::has_room;
 
 // The place after what was written or measured so far, if it fits the output.
-#[derive(Drop)]
+#[derive(Clone, Copy)]
 pub struct End {
     pub fits: bool,
     pub at: usize,

@@ -9,7 +9,7 @@ use super::survey::{owner_named, survey_text};
 use journal::{State, unopened};
 
 // The length of the journal and the state after it; or the number of the first question answered no, with Take over's index, or 0 for 28, 29 and 23.
-#[derive(Drop)]
+#[derive(Clone, Copy)]
 pub struct Restored {
     pub number: u32,
     pub index: u32,

@@ -20,7 +20,7 @@ use super::walk::{begin, follow};
 use receipt::Name;
 
 // What a writer has written: the place after it in the output, how many strings, and the place after them in the text.
-#[derive(Drop)]
+#[derive(Clone, Copy)]
 pub(crate) struct Wrote {
     pub(crate) end: End,
     pub(crate) count: usize,

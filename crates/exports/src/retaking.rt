@@ -11,7 +11,7 @@ use super::walk::{begin, follow};
 use journal::{Checked, State, Step, TakenOver};
 
 // The number of a refused step and the state before it; or 0, the state after the last step, and the place after the array. The place is 0 where not all of it was read.
-#[derive(Drop)]
+#[derive(Clone, Copy)]
 pub(crate) struct Ran {
     pub(crate) number: u32,
     pub(crate) state: State,

@@ -8,7 +8,7 @@ use super::lexer::next;
 use super::walk::{Key, begin, expect, follow, key_at, string, strings};
 
 // A member: its name's number, the place of its value and the place after it, or 0.
-#[derive(Drop)]
+#[derive(Clone, Copy)]
 pub struct Value {
     pub number: u8,
     pub place: usize,
@@ -16,7 +16,7 @@ pub struct Value {
 }
 
 // The places of an element's three values, and the place after it, or 0.
-#[derive(Drop)]
+#[derive(Clone, Copy)]
 pub struct Places {
     pub certificate: usize,
     pub issuers: usize,

@@ -7,7 +7,7 @@ use super::lexer::next;
 use super::walk::{expect, key_at};
 
 // A string where it lies: its letters begin at `start`, and `length` is how many bytes it spells. `next` is the place after its quote, or 0.
-#[derive(Drop)]
+#[derive(Clone, Copy)]
 pub struct Part {
     pub start: usize,
     pub length: usize,
@@ -41,7 +41,7 @@ pub(crate) fn part_at(text: &[u8], at: usize) -> Part
 }
 
 // A letter of a string, the escape read, and the place after it; none at the quote.
-#[derive(Drop)]
+#[derive(Clone, Copy)]
 pub struct Letter {
     pub some: bool,
     pub byte: u8,

@@ -17,7 +17,7 @@ use super::strings::{group_place, part_at};
 use super::walk::{begin, follow};
 
 // Of all elements so far: each is good, each has a receipt, and the first receipt of each names the register; and the place after their pairs in an output.
-#[derive(Drop)]
+#[derive(Clone, Copy)]
 pub(crate) struct Survey {
     pub(crate) good: bool,
     pub(crate) some: bool,
@@ -26,14 +26,14 @@ pub(crate) struct Survey {
 }
 
 // Of the receipts of an element: none is over 65,535 bytes long, and their count fits four bytes; and the place after their entries in an output.
-#[derive(Drop)]
+#[derive(Clone, Copy)]
 pub(crate) struct Measured {
     pub(crate) good: bool,
     pub(crate) end: End,
 }
 
 // The number of the first question answered no; or 0 and the length of the journal. With another number the length means nothing.
-#[derive(Drop)]
+#[derive(Clone, Copy)]
 pub(crate) struct Surveyed {
     pub(crate) number: u32,
     pub(crate) length: usize,

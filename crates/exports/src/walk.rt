@@ -8,14 +8,14 @@ ghost use Rattle.exports.specs.Places.{Reads, one, name_number, Keyed, Begun, Fo
 use super::lexer::{next, skip_blanks, spells};
 
 // A name's number, 0 for another, and the place after its ":".
-#[derive(Drop)]
+#[derive(Clone, Copy)]
 pub struct Key {
     pub number: u8,
     pub next: usize,
 }
 
 // In an array: where the next item stands, if there is one more; else the place after the array, or 0.
-#[derive(Drop)]
+#[derive(Clone, Copy)]
 pub struct Cursor {
     pub more: bool,
     pub at: usize,

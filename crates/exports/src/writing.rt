@@ -9,7 +9,7 @@ use super::output::{End, moved, put_base64, put_bytes};
 use receipt::Number;
 
 // The length of the text; or the number of the first question answered no, with Take over's index, or 0 for 28 and 23.
-#[derive(Drop)]
+#[derive(Clone, Copy)]
 pub struct Exported {
     pub number: u32,
     pub index: u32,
@@ -17,7 +17,7 @@ pub struct Exported {
 }
 
 // Where a writer is: its place in the output, and in what it copies from.
-#[derive(Drop)]
+#[derive(Clone, Copy)]
 pub(crate) struct Copied {
     pub(crate) end: End,
     pub(crate) at: usize,

@@ -71,7 +71,7 @@ fn context_number(schedule: &[[u8; 4]; 60], st: State, f: PayloadFields) -> u32
 
 // The answer of a step: the number of the question answered "no" and the state that it was given; or 0 and the state after it.
 // A step that reads an entry says what it read. One that starts a pair reads no entry. At the end of the journal the state stays as it was.
-#[derive(Drop)]
+#[derive(Clone, Copy)]
 pub struct Checked {
     pub number: u32,
     pub found: Found,
@@ -182,7 +182,7 @@ fn take_step(schedule: &[[u8; 4]; 60], st: State, j: &[u8]) -> Checked
 // ---- all steps
 
 // The number of a refused step and the state before it; or 0 and the state after the last step.
-#[derive(Drop)]
+#[derive(Clone, Copy)]
 pub struct Step {
     pub number: u32,
     pub state: State,

@@ -6,7 +6,7 @@ ghost use Rattle.journal.specs.State.{no_name, unopened, same_name, used, newest
 use receipt::{Name, Settings};
 
 // What a register keeps between calls. Its journal is its buffer up to the length.
-#[derive(Drop)]
+#[derive(Clone, Copy)]
 pub struct State {
     pub csp: [u8; 3],
     pub id: Name,
@@ -25,34 +25,34 @@ pub struct State {
 }
 
 // The number is 0, or that of the first question answered no.
-#[derive(Drop)]
+#[derive(Clone, Copy)]
 pub struct Opened {
     pub number: u32,
     pub state: State,
 }
 
-#[derive(Drop)]
+#[derive(Clone, Copy)]
 pub struct Issued {
     pub number: u32,
     pub state: State,
 }
 
 // The count is the number of receipts issued, all of them before the refused one.
-#[derive(Drop)]
+#[derive(Clone, Copy)]
 pub struct IssuedList {
     pub number: u32,
     pub count: usize,
     pub state: State,
 }
 
-#[derive(Drop)]
+#[derive(Clone, Copy)]
 pub struct Changed {
     pub number: u32,
     pub state: State,
 }
 
 // The index is the number of receipts before the refused place.
-#[derive(Drop)]
+#[derive(Clone, Copy)]
 pub struct TakenOver {
     pub number: u32,
     pub index: u32,

@@ -55,7 +55,7 @@ pub fn put_number(out: &mut [u8], at: usize, n: usize, x: u64) -> usize
 }
 
 // A number that may be missing.
-#[derive(Drop)]
+#[derive(Clone, Copy)]
 pub enum Number {
     Is(u64),
     Missing,

@@ -125,7 +125,7 @@ pub fn xor_first(n: usize, b: [u8; 8], stream: [u8; 16]) -> [u8; 8]
 }
 
 // A sum that may be out of range.
-#[derive(Drop)]
+#[derive(Clone, Copy)]
 pub enum Sum {
     Is(i64),
     Over,

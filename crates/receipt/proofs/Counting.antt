@@ -1,6 +1,6 @@
 -- The counter after a receipt: the sum of its amounts, and what fits.
 use Prim.Native.Nat.{ℕ, suc, ◌+◌, ◌-◌, ◌*◌, ◌<◌, ◌≤◌}
-use mathlib.Core.Path.{◌≡◌, refl, sym, ap, ◌∙◌, subst}
+use mathlib.Core.Path.{◌≡◌, refl, sym, ap, ◌∙◌}
 use mathlib.Core.Bool.{Bool, true, false, cond, ◌&&◌}
 use mathlib.Core.List.{List, [], ◌∷◌}
 use native.Mathlib.Omega.{arith}
@@ -48,24 +48,16 @@ mag_abs (pos n) = omega arith
 mag_abs (negsuc n) = omega arith
 
 -- the loop that adds: `sum` has the bits of what was added of the first i amounts
-pub record Summing (zs : List ℤ) (sum i : ℕ) : Type 0 where
-  pub value : ℤ
-  pub bits : sum ≡ of_z w64 value
-  pub small : nat_abs value ≤ i * amount_limit
+pub record Summing (zs : List ℤ) (sum : ℤ) (i : ℕ) : Type 0 where
+  pub small : nat_abs sum ≤ i * amount_limit
   pub within : i ≤ 5
   pub good : amounts_good (drop i zs) ≡ true
-  pub left : value +ℤ total (drop i zs) ≡ total zs
+  pub left : sum +ℤ total (drop i zs) ≡ total zs
 
-pub summing_start : (zs : List ℤ) → amounts_good zs ≡ true → Summing zs 0 0
-summing_start zs e = record { value = pos 0; bits = refl; small = omega arith; within = omega arith; good = e; left = +ℤ_idl (total zs) }
+pub summing_start : (zs : List ℤ) → amounts_good zs ≡ true → Summing zs (pos 0) 0
+summing_start zs e = record { small = omega arith; within = omega arith; good = e; left = +ℤ_idl (total zs) }
 
-module _ {zs : List ℤ} {sum i : ℕ} (s : Summing zs sum i) where
-  value_fits : SFits w64 s.value
-  value_fits = record { sfits = omega (arith, mag_abs s.value, s.small, s.within) }
-
-  read : to_z w64 sum ≡ s.value
-  read = ap (to_z w64) s.bits ∙ to_z-of_z value_fits
-
+module _ {zs : List ℤ} {sum : ℤ} {i : ℕ} (s : Summing zs sum i) where
   module _ (l : length zs ≡ 5) (h : i < 5) where
     abbrev z : ℤ
     z = get_or zs i (pos 0)
@@ -76,32 +68,36 @@ module _ {zs : List ℤ} {sum i : ℕ} (s : Summing zs sum i) where
     limited : nat_abs z ≤ amount_limit
     limited = within_most z here.0
 
-    added_small : nat_abs (s.value +ℤ z) ≤ (i + 1) * amount_limit
-    added_small = omega (arith, sum_abs s.value z, s.small, limited)
+    added_small : nat_abs (sum +ℤ z) ≤ (i + 1) * amount_limit
+    added_small = omega (arith, sum_abs sum z, s.small, limited)
 
-    plain : to_z w64 sum +ℤ to_z w64 (of_z w64 z) ≡ s.value +ℤ z
-    plain = let f : SFits w64 z = record { sfits = omega (arith, mag_abs z, limited) } in (λ j. read j +ℤ to_z-of_z f j)
+    next_fits : SFits w64 (sum +ℤ z)
+    next_fits = record { sfits = omega (arith, mag_abs (sum +ℤ z), added_small) }
 
-    pub adding_fits : SFits w64 (to_z w64 sum +ℤ to_z w64 (of_z w64 z))
-    adding_fits = subst (SFits w64) (sym plain) (record { sfits = omega (arith, mag_abs (s.value +ℤ z), added_small) })
+    plain : to_z w64 (of_z w64 z) ≡ z
+    plain = let f : SFits w64 z = record { sfits = omega (arith, mag_abs z, limited) } in to_z-of_z f
 
-    pub summing_more : Summing zs (of_z w64 (to_z w64 sum +ℤ to_z w64 (of_z w64 z))) (i + 1)
+    pub adding_fits : SFits w64 (sum +ℤ to_z w64 (of_z w64 z))
+    adding_fits = rw plain next_fits
+
+    added : Summing zs (sum +ℤ z) (i + 1)
     unfolding total
-    summing_more =
+    added =
         record {
-          value = s.value +ℤ z;
-          bits = ap (of_z w64) plain;
           small = added_small;
           within = omega arith;
           good = here.1;
-          left = +ℤ_assoc s.value z (total (drop (i + 1) zs)) ∙ ap (λ (l : List ℤ). s.value +ℤ total l) (sym (drop_here zs i (omega arith))) ∙ s.left;
+          left = +ℤ_assoc sum z (total (drop (i + 1) zs)) ∙ ap (λ (l : List ℤ). sum +ℤ total l) (sym (drop_here zs i (omega arith))) ∙ s.left;
         }
 
-  pub summing_end : length zs ≡ 5 → 5 ≤ i → to_z w64 sum ≡ total zs
+    pub summing_more : Summing zs (to_z w64 (of_z w64 (sum +ℤ to_z w64 (of_z w64 z)))) (i + 1)
+    summing_more = rw (plain, to_z-of_z next_fits) added
+
+  pub summing_end : length zs ≡ 5 → 5 ≤ i → sum ≡ total zs
   unfolding total
   summing_end l h =
       let k : length zs ≤ i = omega arith in
-      read ∙ sym (+ℤ_idr s.value) ∙ ap (λ (l : List ℤ). s.value +ℤ total l) (sym (drop_of_length-le zs k)) ∙ s.left
+      sym (+ℤ_idr sum) ∙ ap (λ (l : List ℤ). sum +ℤ total l) (sym (drop_of_length-le zs k)) ∙ s.left
 
 -- ---- zeros
 

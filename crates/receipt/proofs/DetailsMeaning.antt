@@ -12,7 +12,7 @@ use lib.ListN.{length, get_or}
 use Rattle.primitives.proofs.Rows.{both, true-is-not-false}
 use Rattle.receipt.specs.Amount.{amount_limit, within}
 use Rattle.receipt.specs.DateTime.{leap, days_in, day_good, time_good, date_good}
-use Rattle.receipt.specs.Details.{amounts_within, amounts_good, all_zero, standard, start_good, total, counted_of, counted, counter_after}
+use Rattle.receipt.specs.Details.{amounts_within, amounts_good, all_zero, start_good, total, counted_of, counted, counter_after}
 use Rattle.receipt.specs.Payload.{counter_content, counter_field}
 use Rattle.receipt.specs.DetailsWords.{LeapYear, GoodDate, DateGoodMeans, AmountsGoodMeans, GoodStart, StartGoodMeans, CountedIsTheAmounts, amounts_taken, added_up, CountedIsAddedUp, CounterAfterAdds, CounterFieldsAre}
 use Rattle.receipt.specs.declared.datetime.DateTime.{DateTime}

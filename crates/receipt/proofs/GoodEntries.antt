@@ -4,17 +4,15 @@ use mathlib.Core.Path.{◌≡◌, refl, sym, ap, ◌∙◌}
 use mathlib.Core.Bool.{Bool, true, false, not, ◌||◌}
 use mathlib.Core.List.{List}
 use borrow.Author.Tests.{leb-true, le-leb}
-use lib.ListN.{length, drop, replicate}
+use lib.ListN.{length, drop}
 use Rattle.primitives.proofs.Rows.{both, true-is-not-false}
 use Rattle.receipt.specs.Settings.{sized, zeros}
 use Rattle.receipt.specs.Payload.{counter_good}
 use Rattle.receipt.specs.Compact.{signature_zero}
-use Rattle.receipt.specs.PayloadWords.{Zeros, GoodEntry, SpellableMeans}
+use Rattle.receipt.specs.PayloadWords.{Zeros, SpellableMeans}
 use Rattle.receipt.specs.declared.details.Kind.{Kind}
 use Rattle.receipt.specs.declared.details.Kind.TheVariants.{Standard, Cancellation, Training}
 use Rattle.receipt.specs.declared.settings.Settings.{Settings}
-use Rattle.receipt.specs.declared.entry.Entry.{Entry}
-use Rattle.receipt.specs.declared.entry.Signature.{Signature}
 use Rattle.receipt.proofs.Names.{zeros_are, zeros_good}
 use Rattle.receipt.proofs.Entries.{admitted, spellable_yes}
 use Rattle.receipt.proofs.SettingsMeaning.{width_means}

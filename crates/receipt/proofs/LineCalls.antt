@@ -11,7 +11,7 @@ use borrow.Author.Tests.{lt-ltb, ltb-true, ltb-false, le-leb, lt-leb, leb-true, 
 use denote.Enum.Declared.{tag_of}
 use mir.Syntax.{w64}
 use mir.Val.{Fits}
-use lib.Dec.{ltb, leb, eqb}
+use lib.Dec.{ltb, leb}
 use lib.ListN.{length, get_or, take, drop, length-append, length-take, length-drop, drop_of_length-le}
 use lib.Seq.{drop-cons, take-suc, take-append-le, take_all, take_at, drop_at, length-take-le, get_or-take, get_or-drop}
 use Rattle.primitives.specs.Place.{overwrite, placed, place_after}

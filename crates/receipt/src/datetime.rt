@@ -6,7 +6,7 @@ ghost use Rattle.receipt.specs.DateTime.{leap, days_in, day_good, time_good, dat
 use super::bytes::put8;
 use super::decimal::put_fixed;
 
-#[derive(Drop)]
+#[derive(Clone, Copy)]
 pub struct DateTime {
     pub year: u32,
     pub month: u32,

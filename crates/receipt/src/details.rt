@@ -6,14 +6,14 @@ use super::amounts::amounts_good;
 use super::datetime::DateTime;
 use primitives::{Sum, checked_add, counter_fits};
 
-#[derive(Drop)]
+#[derive(Clone, Copy)]
 pub enum Kind {
     Standard,
     Cancellation,
     Training,
 }
 
-#[derive(Drop)]
+#[derive(Clone, Copy)]
 pub struct Details {
     pub number: u32,
     pub date: DateTime,
@@ -22,7 +22,7 @@ pub struct Details {
 }
 
 // The counter after a receipt, and whether it fits; if it does not, the counter before the receipt.
-#[derive(Drop)]
+#[derive(Clone, Copy)]
 pub struct After {
     pub fits: bool,
     pub counter: i64,

@@ -12,20 +12,20 @@ use super::settings::{Letters, Settings, every};
 use primitives::{same, width_good};
 
 // If the device has failed, the bytes are zero.
-#[derive(Drop)]
+#[derive(Clone, Copy)]
 pub struct Signature {
     pub failed: bool,
     pub bytes: [u8; 64],
 }
 
-#[derive(Drop)]
+#[derive(Clone, Copy)]
 pub struct Entry {
     pub fields: PayloadFields,
     pub signature: Signature,
 }
 
 // What a reader finds: whether the text spells an entry, and that entry, or a blank one if it does not.
-#[derive(Drop)]
+#[derive(Clone, Copy)]
 pub struct Found {
     pub ok: bool,
     pub entry: Entry,

@@ -92,7 +92,7 @@ pub(crate) fn decode(alphabet: Alphabet, text: &[u8], out: &mut [u8]) -> usize
 }
 
 // What a reader found: whether the text has good parts, and their lengths.
-#[derive(Drop)]
+#[derive(Clone, Copy)]
 pub(crate) struct Reading {
     pub(crate) good: bool,
     pub(crate) payload: usize,

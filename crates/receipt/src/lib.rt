@@ -1,4 +1,6 @@
 // Receipts as text: how they are spelled, and how they are read back.
+#![tactic(auto)]
+
 mod amount;
 mod amounts;
 mod bytes;

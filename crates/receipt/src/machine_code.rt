@@ -130,7 +130,7 @@ pub fn uncode(code: &[u8], out: &mut [u8]) -> Answer
 // ---- the ID field
 
 // The bytes from one place up to another.
-#[derive(Drop)]
+#[derive(Clone, Copy)]
 pub struct Part {
     pub start: usize,
     pub end: usize,

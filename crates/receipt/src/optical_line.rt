@@ -15,7 +15,7 @@ use primitives::{
 };
 
 // How counter field, chain field and signature are spelled: in a code in BASE64, in a line in BASE32.
-#[derive(Drop)]
+#[derive(Clone, Copy)]
 pub(crate) enum Spelling {
     Base64,
     Base32,
@@ -61,7 +61,7 @@ fn decode_spelled(spelling: Spelling, text: &[u8], out: &mut [u8], at: usize) ->
 // ---- reading
 
 // The last four '_' of a text: whether all are there, and their places, before counter field, serial, chain field and signature.
-#[derive(Drop)]
+#[derive(Clone, Copy)]
 struct Marks {
     there: bool,
     counter: usize,
@@ -88,7 +88,7 @@ fn marks_of(text: &[u8]) -> Marks
 }
 
 // The three spelled fields in a buffer: whether all are canonical and fit, and where the bytes of each end.
-#[derive(Drop)]
+#[derive(Clone, Copy)]
 struct Ends {
     good: bool,
     counter: usize,

@@ -18,7 +18,7 @@ use super::settings::{Letters, Settings, every, lesser};
 use primitives::Alphabet;
 
 // What a payload spells. The counter is N bytes, then zeros; eight zeros if the kind is not Standard.
-#[derive(Drop)]
+#[derive(Clone, Copy)]
 pub struct PayloadFields {
     pub details: Details,
     pub counter: [u8; 8],
@@ -64,7 +64,7 @@ fn put_moment(out: &mut [u8], at: usize, number: u32, date: DateTime) -> usize
 }
 
 // What a counter field holds: the first `len` of the bytes.
-#[derive(Drop)]
+#[derive(Clone, Copy)]
 struct Content {
     bytes: [u8; 8],
     len: usize,
@@ -194,7 +194,7 @@ pub(crate) fn fields_good(n: usize, f: PayloadFields) -> bool
 // ---- reading
 
 // Where the fields stand.
-#[derive(Drop)]
+#[derive(Clone, Copy)]
 struct Places {
     date: usize,
     amounts: usize,

@@ -5,13 +5,13 @@ ghost use Rattle.receipt.specs.Settings.{between, id_letter, serial_letter, lett
 use primitives::width_good;
 
 // A register ID or a serial: its bytes up to its length, then zeros.
-#[derive(Drop)]
+#[derive(Clone, Copy)]
 pub struct Name {
     pub bytes: [u8; 32],
     pub len: usize,
 }
 
-#[derive(Drop)]
+#[derive(Clone, Copy)]
 pub struct Settings {
     pub csp: [u8; 3],
     pub id: Name,
@@ -19,7 +19,7 @@ pub struct Settings {
 }
 
 // What a byte of a name may be: a letter of an ID, a letter of a serial, or the zero after the end.
-#[derive(Drop)]
+#[derive(Clone, Copy)]
 pub enum Letters {
     Id,
     Serial,

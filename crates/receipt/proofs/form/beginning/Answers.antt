@@ -1,0 +1,8 @@
+-- `form::beginning` meets its contract.
+use mathlib.Core.Path.{refl}
+use Rattle.receipt.specs.Texts.{beginning}
+use Rattle.receipt.proofs.form.beginning.Goals as goal
+
+pub returns : goal.returns
+unfolding beginning
+returns c = refl
