@@ -7,7 +7,7 @@ use native.Mathlib.Omega.{arith}
 use native.Mathlib.Nat.{pow-le-pow_right}
 use borrow.Author.Tests.{eq-eqb, ne_eqb, le-leb}
 use lib.Dec.{eqb, lit<}
-use lib.IntN.{ℤ, pos}
+use lib.IntN.{pos}
 use lib.ListN.{length, replicate, get_or, length-append}
 use lib.Seq.{take_all, length-take-le}
 use Rattle.primitives.specs.Bytes.{AllBytes}
@@ -33,15 +33,15 @@ use Rattle.receipt.specs.declared.entry.Entry.{Entry}
 use Rattle.receipt.proofs.Entries.{Admitted, admitted, standard_is, counter_after_lem, counter_none, failed_bytes, encrypt_back}
 use Rattle.receipt.proofs.Names.{settings_yes, id_own}
 use Rattle.journal.specs.Head.{head_length, entry_text}
-use Rattle.journal.specs.State.{no_name, used, in_eight, is_in, all_good, settings_now, TypedName}
+use Rattle.journal.specs.State.{no_name, used, in_eight, is_in, all_good, settings_now}
 use Rattle.journal.specs.Step.{new_counter, fields_of}
 use Rattle.journal.specs.Opening.{open_number}
 use Rattle.journal.specs.Issuing.{signature_sized, given_signature, entry_of, text_of, issue_number}
 use Rattle.journal.specs.Changing.{change_number}
 use Rattle.journal.specs.Checking.{accepted, take_over}
-use Rattle.journal.specs.Valid.{Owner, Pair, settings_for, texts, pair_texts, owner_text, journal_text, Placed, placed_under, all_placed, serials_of, GoodOwner, Valid, head_of}
+use Rattle.journal.specs.Valid.{Owner, Pair, settings_for, texts, pair_texts, owner_text, journal_text, Placed, placed_under, all_placed, serials_of, GoodOwner, head_of}
 use Rattle.journal.specs.Calls.{Order, TypedOrder, Call, issue, change, issues, changes, TypedCalls, none, more, Register, opening, number_of, call, calls, calls_within, numbers_of, order_of, issues_of, later_calls, calls_of}
-use Rattle.journal.specs.Demands.{before_count, Again, AcceptedIsWritten}
+use Rattle.journal.specs.Demands.{before_count, AcceptedIsWritten}
 use Rattle.journal.specs.declared.state.State.{State}
 use Rattle.journal.specs.declared.state.TakenOver.{TakenOver}
 use Rattle.journal.proofs.Check.{RightAt, text_in, step, first_yes, right_new, step_length}

@@ -24,8 +24,8 @@ use Rattle.receipt.proofs.Names.{good_name}
 use Rattle.journal.specs.Head.{section, front, head, head_length, count_place, head_settings, head_good, entry_text, text_at, pair_start, serial_at}
 use Rattle.journal.specs.State.{used, in_eight, added, is_in, TypedName}
 use Rattle.journal.specs.Step.{fresh, next, renewed}
-use Rattle.journal.specs.Checking.{head_number, after, entry_number, full, one_step, steps, refused, accepted, last_answer, take_over}
-use Rattle.journal.specs.Valid.{Owner, Pair, settings_for, texts, pair_text, pair_texts, owner_text, journal_text, Placed, placed_under, all_placed, GoodOwner, Valid}
+use Rattle.journal.specs.Checking.{head_number, after, entry_number, one_step, steps, refused, accepted, last_answer, take_over}
+use Rattle.journal.specs.Valid.{Owner, Pair, settings_for, texts, pair_text, pair_texts, owner_text, journal_text, placed_under, all_placed, GoodOwner, Valid}
 use Rattle.journal.specs.declared.state.State.{State}
 use Rattle.journal.specs.declared.state.TakenOver.{TakenOver}
 use Rattle.journal.specs.declared.checking.Checked.{Checked}
@@ -33,7 +33,7 @@ use Rattle.journal.specs.declared.checking.Step.{Step}
 use Rattle.journal.proofs.Places.{length_entry, there_entry}
 use Rattle.journal.proofs.Heads.{length_head, read_settings, head_good_lem, good_head, read_typed, read_few, read_back, count_of, read_count_at, read_place_is, read_length}
 use Rattle.journal.proofs.Check.{RightAt, text_in, step, passes_right, after_passed, bytes_text, step_length}
-use Rattle.journal.proofs.Stepping.{after_within, full_true, full_false, Starts, Case, an_entry, at_end_lem, a_start, step_case, end_none, full_yes, idle, answer_zero}
+use Rattle.journal.proofs.Stepping.{after_within, full_true, full_false, Case, an_entry, at_end_lem, a_start, step_case, end_none, full_yes, idle, answer_zero}
 use Rattle.journal.proofs.Starting.{StartAt, start_at}
 use Rattle.journal.proofs.Placing.{Core, start_core, step_core, RightFor, AllRight, all_each, each_all, Begun, Names, names_each, each_names, names_length}
 use Rattle.journal.proofs.Placing as placing

@@ -22,15 +22,13 @@ use Rattle.receipt.specs.Chain.{chain_value, encrypted_counter, decrypted_counte
 use Rattle.receipt.specs.Compact.{signature_zero, spellable, TypedEntry}
 use Rattle.receipt.specs.declared.details.Kind.{Kind}
 use Rattle.receipt.specs.declared.details.Kind.TheVariants.{Standard, Cancellation, Training}
-use Rattle.receipt.specs.declared.settings.Settings.{Settings}
 use Rattle.receipt.specs.declared.details.Details.{Details}
 use Rattle.receipt.specs.declared.details.After.{After}
-use Rattle.receipt.specs.declared.entry.Entry.{Entry}
 use Rattle.receipt.specs.declared.entry.Signature.{Signature}
 use Rattle.primitives.proofs.Rows.{both, true-is-not-false, ask_zero}
 use Rattle.receipt.proofs.Names.{good_sized}
 use Rattle.receipt.proofs.Chains.{length_chain, bytes_chain, length_encrypted, bytes_encrypted, after_encrypted, decrypt_back}
-use Rattle.journal.specs.Head.{head, entry_text}
+use Rattle.journal.specs.Head.{entry_text}
 use Rattle.primitives.specs.Questions.{ask, ifZero}
 use Rattle.journal.specs.Changing.{change_number}
 use Rattle.journal.specs.Step.{count_within, sound_alone, sound, number_above, first_good, new_counter, details_number, details_number_within, fields_of, renew_number}

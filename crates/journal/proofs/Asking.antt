@@ -1,20 +1,19 @@
 -- Open, Issue, Prepare and Change give the number of their first "no", and a check asks 6 as the paper says it.
-use Prim.Native.Nat.{ℕ, suc, ◌+◌, ◌-◌, ◌≤◌, ◌<◌}
-use mathlib.Core.Path.{◌≡◌, refl, sym, ap, ◌∙◌, subst}
-use mathlib.Core.Bool.{Bool, true, false, cond, not, ◌&&◌, ◌||◌}
-use mathlib.Core.List.{List, [], ◌∷◌, ◌++◌}
+use Prim.Native.Nat.{ℕ, ◌+◌, ◌-◌, ◌≤◌, ◌<◌}
+use mathlib.Core.Path.{◌≡◌, refl, sym, ap, ◌∙◌}
+use mathlib.Core.Bool.{Bool, true, false, not, ◌||◌}
+use mathlib.Core.List.{List, ◌++◌}
 use mathlib.Core.Logic.{◌⊎◌, inl, inr}
 use native.Mathlib.Omega.{arith}
-use borrow.Author.Tests.{leb-true, le-leb, ltb-true, lt-ltb, eqb-true, eq-eqb, not-true, not-false}
+use borrow.Author.Tests.{leb-true, le-leb, ltb-true, lt-ltb, eqb-true, eq-eqb, not-true}
 use lib.Dec.{leb, ltb, eqb}
 use lib.IntN.{ℤ, ◌+ℤ◌}
 use lib.ListN.{length, get_or, replicate, get_or-append}
-use Rattle.primitives.specs.Number.{count_at}
-use Rattle.primitives.specs.Counter.{width_good, counter_fits}
-use Rattle.primitives.specs.Questions.{ask, Row, asked_all, question, GivesFirstNo}
+use Rattle.primitives.specs.Counter.{counter_fits}
+use Rattle.primitives.specs.Questions.{Row, asked_all, question, GivesFirstNo}
 use Rattle.primitives.proofs.Rows.{both, true-is-not-false}
-use Rattle.primitives.proofs.FirstNo.{gives_none, gives_ask, gives_same}
-use Rattle.receipt.specs.Settings.{id_good, serial_good, SettingsLengths}
+use Rattle.primitives.proofs.FirstNo.{gives_none, gives_ask}
+use Rattle.receipt.specs.Settings.{serial_good}
 use Rattle.receipt.specs.SettingsWords.{GoodSerial}
 use Rattle.receipt.specs.DateTime.{date_good}
 use Rattle.receipt.specs.Amount.{amount_limit}
@@ -23,21 +22,20 @@ use Rattle.receipt.specs.DetailsWords.{GoodDate, GoodAmounts, GoodStart, amounts
 use Rattle.receipt.proofs.SettingsMeaning.{csp_means, id_means, serial_means, width_means, settings_asked}
 use Rattle.receipt.proofs.DetailsMeaning.{date_means, amounts_mean, start_means, counted_is_added_up}
 use Rattle.receipt.specs.declared.settings.Name.{Name}
-use Rattle.receipt.specs.declared.settings.Settings.{Settings}
 use Rattle.receipt.specs.declared.details.Details.{Details}
 use Rattle.journal.specs.Head.{head_length, entry_text}
-use Rattle.journal.specs.State.{no_name, used, in_eight, is_in, serials_good, head_length_now, settings_first, TypedState}
+use Rattle.journal.specs.State.{no_name, used, in_eight, is_in, TypedState}
 use Rattle.journal.specs.Step.{sound_alone, sound, number_above, first_good, new_counter, details_number_within, details_number, renew_number}
 use Rattle.journal.specs.Opening.{open_number}
 use Rattle.journal.specs.Issuing.{signature_sized, text_of, entry_fits, issue_number_within}
 use Rattle.journal.specs.Preparing.{prepared_text, prepare_number}
 use Rattle.journal.specs.Changing.{change_number}
-use Rattle.journal.specs.Parts.{ready, check_steps}
+use Rattle.journal.specs.Parts.{ready}
 use Rattle.journal.specs.Certificates.{OneOf, GoodSerials}
 use Rattle.journal.specs.Asked.{SoundState, SoundIn, OpenGivesFirstNo, details_row, IssueGivesFirstNo, PrepareGivesFirstNo, ChangeGivesFirstNo, SoundFor, CheckAsksSix}
 use Rattle.journal.specs.declared.state.State.{State}
 use Rattle.journal.proofs.Places.{length_entry}
-use Rattle.journal.proofs.Answers.{Sound, sound-true, sound-yes}
+use Rattle.journal.proofs.Answers.{sound-true, sound-yes}
 use Rattle.journal.proofs.Check.{above_true, above_yes, first_true, first_yes, new_yes, new_fits}
 use Rattle.journal.proofs.Certificates.{serials_good_exactly, in_one, one_in}
 use Rattle.journal.proofs.PartQuestions.{six_is_not_ready}

@@ -1,26 +1,24 @@
 -- What the steps for other readers ask, in the paper's words.
-use Prim.Native.Nat.{ℕ, zero, suc, ◌+◌, ◌-◌, ◌≤◌, ◌<◌}
-use mathlib.Core.Path.{◌≡◌, refl, sym, ap, ◌∙◌, subst}
-use mathlib.Core.Bool.{Bool, true, false, cond, not, ◌&&◌}
-use mathlib.Core.List.{List, [], ◌∷◌, ◌++◌}
+use Prim.Native.Nat.{ℕ, zero, suc, ◌+◌, ◌≤◌}
+use mathlib.Core.Path.{◌≡◌, refl, sym, ap, ◌∙◌}
+use mathlib.Core.Bool.{Bool, true, false, cond}
+use mathlib.Core.List.{List, ◌++◌}
 use native.Mathlib.Omega.{arith}
-use borrow.Author.Tests.{leb-true, leb-false, le-leb, lt-leb}
+use borrow.Author.Tests.{leb-true, le-leb}
 use lib.Dec.{leb}
-use lib.IntN.{ℤ, ◌+ℤ◌}
 use lib.ListN.{length, take, drop, take-append-drop}
 use lib.Seq.{length-take-le}
 use Rattle.primitives.specs.Bytes.{AllBytes, same}
 use Rattle.primitives.specs.Number.{count_at}
-use Rattle.primitives.specs.Counter.{width_good, counter_fits}
+use Rattle.primitives.specs.Counter.{width_good}
 use Rattle.primitives.specs.Aes.{key_schedule}
-use Rattle.primitives.specs.Questions.{ask, ifZero, Row, asked_all, question, GivesFirstNo}
+use Rattle.primitives.specs.Questions.{ask, ifZero, asked_all, GivesFirstNo}
 use Rattle.primitives.proofs.ByteLists.{same_true, same_refl}
-use Rattle.primitives.proofs.Rows.{both, true-is-not-false}
+use Rattle.primitives.proofs.Rows.{both}
 use Rattle.primitives.proofs.FirstNo.{gives_none, gives_ask, gives_same}
-use Rattle.receipt.specs.Settings.{serial_good, settings_good, SettingsLengths, TypedSettings}
+use Rattle.receipt.specs.Settings.{serial_good, settings_good}
 use Rattle.receipt.specs.SettingsWords.{GoodSerial, GoodWidth, AllGood}
-use Rattle.receipt.specs.Details.{counted}
-use Rattle.receipt.specs.Compact.{compact, spellable, read_entry}
+use Rattle.receipt.specs.Compact.{spellable, read_entry}
 use Rattle.receipt.proofs.SettingsMeaning.{serial_means, width_means, settings_mean}
 use Rattle.receipt.proofs.Entries.{admitted}
 use Rattle.receipt.proofs.ExactEntry.{back, exact}
@@ -29,15 +27,14 @@ use Rattle.receipt.specs.declared.settings.Settings.{Settings}
 use Rattle.receipt.specs.declared.entry.Entry.{Entry}
 use Rattle.receipt.specs.declared.entry.Found.{Found}
 use Rattle.journal.specs.Head.{entry_text, pair_start, there, text_at, serial_at, start_there}
-use Rattle.journal.specs.State.{settings_now, used, count_place_now, TypedState}
-use Rattle.journal.specs.Step.{fresh, sound_alone, sound, number_above, first_good, renewed, renew_number}
-use Rattle.journal.specs.Checking.{found, counter_right, context_number, text_number, entry_number, stopped, checked, text_checked, place_checked, start_number, start_checked, end_checked, full, one_step, entry_ready, entry_checked, serial_ready, serial_number, serial_checked, settings_checked, step_checked, accepted, refused}
+use Rattle.journal.specs.State.{settings_now, TypedState}
+use Rattle.journal.specs.Step.{fresh, sound_alone, sound, number_above, first_good, renewed}
+use Rattle.journal.specs.Checking.{found, counter_right, context_number, text_number, entry_number, stopped, checked, text_checked, start_number, entry_ready, entry_checked, serial_ready, serial_number, serial_checked, settings_checked, step_checked, accepted, refused}
 use Rattle.journal.specs.Valid.{Counted}
 use Rattle.journal.specs.FirstNo.{EntryThere, StartThere, Spells}
-use Rattle.journal.specs.Asked.{SoundState, SoundIn, ReadyFor, entry_row, EntryAnswers, EntryIsAsked, serial_row, SerialIsAsked, SettingsAreAsked, StepAnswers, StepIsAsked}
+use Rattle.journal.specs.Asked.{ReadyFor, entry_row, EntryIsAsked, serial_row, SerialIsAsked, SettingsAreAsked, StepIsAsked}
 use Rattle.journal.specs.declared.state.State.{State}
 use Rattle.journal.specs.declared.checking.Checked.{Checked}
-use Rattle.journal.specs.declared.state.TakenOver.{TakenOver}
 use Rattle.journal.proofs.Places.{length_entry, there_at, text_at_lem, there_entry, text_short}
 use Rattle.journal.proofs.Starting.{start_at, serial_read, start_there_lem}
 use Rattle.journal.proofs.ReadBySteps.{checked_is, step_is_its_entry, step_is_its_start}

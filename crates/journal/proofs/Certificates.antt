@@ -42,7 +42,7 @@ use Rattle.journal.proofs.Answers.{Changeable, change-zero}
 use Rattle.journal.proofs.Touching.{outside}
 use Rattle.journal.proofs.Heads.{length_head, read_settings, read_count_at, head_good_lem}
 use Rattle.journal.proofs.Check.{step, step_length}
-use Rattle.journal.proofs.Stepping.{full_yes, full_no, Case, end_none, end_start}
+use Rattle.journal.proofs.Stepping.{full_yes, full_no, end_none, end_start}
 use Rattle.journal.proofs.Placing.{Core, start_core, AllRight, Begun, Names, length_serials}
 use Rattle.journal.proofs.Placing as placing
 use Rattle.journal.proofs.Passing.{At, typed_for, good_for, right_here, text_is, at_next, run_pairs, entry_step, number_of, state_of_lem}
@@ -417,7 +417,7 @@ before_passed {st} {o} {k} {n} {s} (e ∷ es) m p j a at (placing.more h hs) q c
     let c' : count_at j (step st e).place 4 ≡ (step st e).since + length es = ap (λ (x : ℕ). count_at j x 4) (step_place st e) ∙ (c ∙ omega (arith, step_section st e)) in
     ap (λ (x : ℕ). (steps_before (key_schedule k) x st j).number) i
     ∙ (ap (λ (x : Step). x.number) (before_turn (key_schedule k) (length es + m) st j (ap (λ (x : Checked). x.number) y) (ap (λ (x : Checked). x.state) y))
-    ∙ before_passed es m (p ++ t) j (at_next e a (right_here a e h)) at' hs (q ∙ sym (append_assoc p t u)) c')
+    ∙ before_passed {st = step st e} es m (p ++ t) j (at_next e a (right_here a e h)) at' hs (q ∙ sym (append_assoc p t u)) c')
 
 head_zero : (j : List ℕ) (n : ℕ) → width_good n ≡ true → head_good j ≡ true → head_number j n ≡ 0
 unfolding head_number ask

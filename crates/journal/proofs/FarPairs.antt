@@ -4,27 +4,25 @@ use mathlib.Core.Path.{◌≡◌, sym, ap, ◌∙◌, subst}
 use mathlib.Core.Bool.{true, false}
 use mathlib.Core.List.{List, [], ◌∷◌, ◌++◌, append_assoc}
 use native.Mathlib.Omega.{arith}
-use lib.IntN.{ℤ, +ℤ_idl}
+use lib.IntN.{+ℤ_idl}
 use lib.ListN.{length, drop, length-append}
 use lib.Seq.{drop_at}
-use Rattle.primitives.specs.Bytes.{AllBytes}
 use Rattle.primitives.specs.Number.{bytes_of, count_at}
 use Rattle.primitives.specs.Counter.{width_good}
 use Rattle.primitives.specs.Aes.{key_schedule}
 use Rattle.primitives.proofs.Numbers.{length_bytes_of}
 use Rattle.primitives.proofs.Counts.{count_in}
-use Rattle.receipt.specs.Settings.{name_text, TypedSettings}
+use Rattle.receipt.specs.Settings.{name_text}
 use Rattle.receipt.specs.Chain.{chain_value}
 use Rattle.receipt.specs.Compact.{compact}
 use Rattle.receipt.specs.declared.settings.Name.{Name}
 use Rattle.receipt.specs.declared.settings.Settings.{Settings}
-use Rattle.receipt.specs.declared.entry.Entry.{Entry}
 use Rattle.journal.specs.Head.{section, head, head_length, head_settings, head_good, entry_text, pair_start}
 use Rattle.journal.specs.State.{used, is_in}
 use Rattle.journal.specs.Step.{fresh, renewed}
 use Rattle.journal.specs.Checking.{stopped, one_step, steps, refused, last_answer, take_over}
 use Rattle.journal.specs.Receipts.{receipts_in, sum}
-use Rattle.journal.specs.Valid.{Owner, Pair, settings_for, texts, pair_text, pair_texts, owner_text, journal_text, Placed, placed_under, all_placed, entries_of, last_of, chain_of, serials_of, GoodOwner}
+use Rattle.journal.specs.Valid.{Owner, Pair, settings_for, texts, pair_text, pair_texts, owner_text, journal_text, Placed, placed_under, all_placed, entries_of, last_of, chain_of, serials_of}
 use Rattle.journal.specs.FirstNo.{Headed, SoFar, so_far, index}
 use Rattle.journal.specs.Demands.{before_count}
 use Rattle.journal.specs.declared.state.State.{State}
@@ -36,7 +34,7 @@ use Rattle.journal.proofs.Check.{step}
 use Rattle.journal.proofs.Stepping.{passed_step, refused_step, answer_no}
 use Rattle.journal.proofs.Placing.{Core, start_core, core_after, run_after, AllRight, right_append, right_split, all_each, each_all, Startable, Begun, Names, names_each, each_names, names_length, names_split}
 use Rattle.journal.proofs.Placing as placing
-use Rattle.journal.proofs.Passing.{core_of, Base, typed_for, good_for, under, right_there, text_is, at_renewed, run, run_pairs, steps_of, passed, passed_pairs, start_step, start_place, start_bytes, start_count, number_of, state_of_lem, pair_split}
+use Rattle.journal.proofs.Passing.{core_of, typed_for, good_for, under, right_there, text_is, at_renewed, run, run_pairs, steps_of, passed, passed_pairs, start_step, start_place, start_bytes, start_count, number_of, state_of_lem, pair_split}
 use Rattle.journal.proofs.Accepting.{EntryAt, Work, blank, blank_base, fresh_is, fresh_at, fresh_length, fresh_place, fresh_section, head_pair, takes_head, entries_size, pairs_size, owner_in}
 use Rattle.journal.proofs.Pairs.{texts_snoc, pairs_append, last_text, wider, empty_pair, run_last, last_placed, all_wider, all_empty_lem, names_wider, names_empty, last_begun, ran, journal_open, Open, open_of}
 use Rattle.journal.proofs.Registers.{some_snoc, empty_work}

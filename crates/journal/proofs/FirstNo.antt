@@ -20,7 +20,6 @@ use Rattle.receipt.specs.Settings.{TypedSettings}
 use Rattle.receipt.specs.Details.{counted}
 use Rattle.receipt.specs.Chain.{decrypted_counter}
 use Rattle.receipt.specs.Compact.{spellable, read_entry}
-use Rattle.receipt.specs.declared.details.Kind.TheVariants.{Standard}
 use Rattle.receipt.specs.declared.settings.Name.{Name}
 use Rattle.receipt.specs.declared.settings.Settings.{Settings}
 use Rattle.receipt.specs.declared.entry.Entry.{Entry}
@@ -31,8 +30,8 @@ use Rattle.journal.specs.Head.{head_settings, head_good, head_length, entry_text
 use Rattle.journal.specs.State.{used, is_in}
 use Rattle.journal.specs.Step.{fresh, number_above, first_good, renewed, renew_number}
 use Rattle.journal.specs.Checking.{head_number, found, counter_right, context_number, text_number, entry_number, start_number, stopped, full, one_step, steps, refused, accepted, last_answer, take_over}
-use Rattle.journal.specs.Valid.{Owner, Pair, settings_for, Placed, serials_of, Counted, NotIn}
-use Rattle.journal.specs.FirstNo.{Headed, SoFar, so_far, index, EntryThere, Spells, Above, StartFirst, Chained, CountedAfter, Next, Full, StartThere, NoAt, no_width, no_head, not_there, not_spelled, not_above, not_start, not_chained, not_counted, no_start, used_before, a_ninth}
+use Rattle.journal.specs.Valid.{Owner, Pair, settings_for, Placed, serials_of}
+use Rattle.journal.specs.FirstNo.{Headed, so_far, index, EntryThere, Spells, Above, StartFirst, Chained, CountedAfter, Next, Full, StartThere, NoAt, no_width, no_head, not_there, not_spelled, not_above, not_start, not_chained, not_counted, no_start, used_before, a_ninth}
 use Rattle.journal.specs.Demands.{FirstNo}
 use Rattle.journal.specs.declared.state.State.{State}
 use Rattle.journal.specs.declared.state.TakenOver.{TakenOver}
@@ -40,7 +39,7 @@ use Rattle.journal.specs.declared.checking.Checked.{Checked}
 use Rattle.journal.specs.declared.checking.Step.{Step}
 use Rattle.journal.proofs.Places.{text_at_lem, there_at, there_entry, text_short}
 use Rattle.journal.proofs.Heads.{head_good_lem, good_head, read_typed, read_few, read_back, count_of}
-use Rattle.journal.proofs.Starting.{StartAt, start_at, serial_read, start_there_lem}
+use Rattle.journal.proofs.Starting.{start_at, serial_read, start_there_lem}
 use Rattle.journal.proofs.Check.{first_yes, first_true, above_yes, above_true, new_yes, new_fits, right_yes, right_fits, right_true, bytes_text, step, schedule_of}
 use Rattle.journal.proofs.Stepping.{full_yes, full_no, full_true, full_false, end_none, entry_passed, entry_refused, start_passed, start_refused, Case, an_entry, at_end_lem, a_start, step_case, idle, refused_step, passed_step}
 use Rattle.journal.proofs.Placing.{in_place, places_out, out_places, length_serials, names_length}

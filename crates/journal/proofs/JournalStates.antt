@@ -4,21 +4,18 @@ use mathlib.Core.Path.{◌≡◌, refl, sym, ap, ◌∙◌, subst}
 use mathlib.Core.List.{List, [], ◌∷◌, ◌++◌}
 use native.Mathlib.Omega.{arith}
 use lib.ListN.{length, length-append}
-use lib.IntN.{ℤ}
 use Rattle.primitives.specs.Number.{bytes_of}
 use Rattle.primitives.proofs.Numbers.{length_bytes_of}
-use Rattle.receipt.specs.declared.settings.Name.{Name}
 use Rattle.receipt.specs.declared.entry.Entry.{Entry}
 use Rattle.journal.specs.State.{in_eight}
 use Rattle.journal.specs.Checking.{accepted}
 use Rattle.journal.specs.Receipts.{receipts_in, sum}
-use Rattle.journal.specs.Valid.{Owner, Pair, settings_for, texts, journal_text, Placed, all_placed, entries_in, last_of, serials_of, last_pair, open_pair, state_after}
+use Rattle.journal.specs.Valid.{Owner, Pair, settings_for, texts, journal_text, all_placed, entries_in, last_of, serials_of, last_pair, open_pair, state_after}
 use Rattle.journal.specs.Demands.{before_count, StateOfJournal}
-use Rattle.journal.specs.declared.state.State.{State}
 use Rattle.journal.proofs.Placing.{Core, start_core, run_after}
 use Rattle.journal.proofs.Passing.{core_of, run_pairs}
 use Rattle.journal.proofs.Accepting.{Work, blank, valid_work, valid_taken}
-use Rattle.journal.proofs.Pairs.{journal_open, Open, open_of}
+use Rattle.journal.proofs.Pairs.{journal_open, open_of}
 use Rattle.journal.proofs.Registers.{entries_all, length_entries, run_zeroed}
 use Rattle.journal.proofs.FarPairs.{core_start}
 

@@ -1,6 +1,5 @@
 pub mod AcceptedIsWritten
 pub mod Accepting
-pub mod Again
 pub mod Agreement
 pub mod Answers
 pub mod Appended

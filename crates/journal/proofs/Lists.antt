@@ -8,7 +8,7 @@ use Rattle.receipt.specs.Amount.{amount_limit}
 use Rattle.receipt.specs.declared.details.Details.{Details}
 use Rattle.journal.specs.Issuing.{issue_number_within}
 use Rattle.journal.specs.Listing.{counted_from, issued_list_within, issued_list, list_buffer_within}
-use Rattle.journal.specs.Calls.{Call, issue, issue_list, failed_order, Register, number_of, call_within, call, calls, calls_within, numbers_of, receipt_of_call, receipts_of_list}
+use Rattle.journal.specs.Calls.{issue_list, failed_order, Register, number_of, call_within, call, calls, calls_within, numbers_of, receipt_of_call, receipts_of_list}
 use Rattle.journal.specs.Lists.{single_call, single_calls, NoneRefused, FirstRefused, Ends, whole, early, ListLeaves, ListEqualsSingleCalls, EmptyListChangesNothing}
 use Rattle.journal.specs.declared.state.IssuedList.{IssuedList}
 use Rattle.journal.proofs.ListSteps.{answer_none, buffer_none, answer_yes, buffer_yes, answer_no, buffer_no}

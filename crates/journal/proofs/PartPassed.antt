@@ -9,7 +9,7 @@ use Rattle.primitives.specs.Bytes.{AllBytes}
 use Rattle.primitives.specs.Aes.{key_schedule}
 use Rattle.journal.specs.Head.{head_settings, head_length, serial_at}
 use Rattle.journal.specs.Step.{fresh, renewed}
-use Rattle.journal.specs.Checking.{one_step, steps, head_number, refused}
+use Rattle.journal.specs.Checking.{one_step, steps, head_number}
 use Rattle.journal.specs.Parts.{total}
 use Rattle.journal.specs.PartLaws.{GoodSoFar, PassedIsGood}
 use Rattle.journal.specs.Valid.{Owner, Pair}

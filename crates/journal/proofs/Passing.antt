@@ -1,7 +1,7 @@
 -- Right entries and pairs are passed, whatever follows them.
 use Prim.Native.Nat.{ℕ, suc, ◌+◌, ◌≤◌, ◌<◌}
 use mathlib.Core.Path.{◌≡◌, refl, sym, ap, ◌∙◌, subst, transport}
-use mathlib.Core.Bool.{Bool, true}
+use mathlib.Core.Bool.{true}
 use mathlib.Core.List.{List, [], ◌∷◌, ◌++◌, append_assoc, append-nil}
 use native.Mathlib.Omega.{arith}
 use native.Mathlib.Nat.{add-zero}
@@ -12,12 +12,11 @@ use Rattle.receipt.specs.Settings.{serial_good, settings_good, TypedSettings}
 use Rattle.receipt.specs.Chain.{chain_value}
 use Rattle.receipt.specs.Compact.{compact}
 use Rattle.receipt.specs.declared.settings.Name.{Name}
-use Rattle.receipt.specs.declared.settings.Settings.{Settings}
 use Rattle.receipt.specs.declared.entry.Entry.{Entry}
 use Rattle.journal.specs.Head.{entry_text, text_at, pair_start, serial_at, start_there}
 use Rattle.journal.specs.State.{used, newest, settings_now, TypedName}
 use Rattle.journal.specs.Step.{next, renewed}
-use Rattle.journal.specs.Checking.{found, after, entry_number, stopped, start_number, full, one_step, steps}
+use Rattle.journal.specs.Checking.{found, after, entry_number, stopped, start_number, one_step, steps}
 use Rattle.journal.specs.Valid.{Owner, Pair, settings_for, texts, pair_text, pair_texts, Placed, placed_under, all_placed, Right, GoodOwner}
 use Rattle.journal.specs.declared.state.State.{State}
 use Rattle.journal.specs.declared.checking.Checked.{Checked}
@@ -189,7 +188,7 @@ pub at_entries : {st : State} {o : Owner} {k : List ℕ} {n : ℕ} {s : Name} {c
     → AllRight k n c (placed_under (settings_for o s) es) → At (run st es) o k n s (run_core n c (placed_under (settings_for o s) es)) us
 unfolding run run_core placed_under
 at_entries [] a placing.none = a
-at_entries (e ∷ es) a (placing.more h hs) = at_entries es (at_next e a (right_here a e h)) hs
+at_entries {st = st} (e ∷ es) a (placing.more h hs) = at_entries {st = step st e} es (at_next e a (right_here a e h)) hs
 
 pub run_length : {st : State} {o : Owner} {k : List ℕ} {n : ℕ} {s : Name} {c : Core} {us : List Name} (es : List Entry) → At st o k n s c us
     → (run st es).length ≡ st.length + length (texts (settings_for o s) n es)
@@ -255,7 +254,7 @@ passed {st} {o} {k} {n} {s} (e ∷ es) m p rest j a at (placing.more h hs) q roo
     length-append p t ∙ (ap (λ (x : ℕ). x + length t) at ∙ (ap (λ (x : List ℕ). st.length + length (entry_text x)) (sym (text_is a e)) ∙ sym (step_length st e))) in
     ap (λ (x : ℕ). steps (key_schedule k) x st j) i
     ∙ (passed_step (key_schedule k) j (length es + m) st (ap (λ (x : Checked). x.number) y) (ap (λ (x : Checked). x.state) y)
-    ∙ passed es m (p ++ t) rest j (at_next e a (right_here a e h)) at' hs q₂ (omega arith))
+    ∙ passed {st = step st e} es m (p ++ t) rest j (at_next e a (right_here a e h)) at' hs q₂ (omega arith))
 
 -- so many steps
 unfoldable pub steps_of : List Pair → ℕ
@@ -325,7 +324,7 @@ passed_pairs {st} {o} {k} {n} {s} {c} {us} (x ∷ ps) es m p j rest a at h (plac
     let w = start_step a₂.base x.serial (length x.entries) p₂ t j l₂ g q₂ (omega arith) in
     let st₃ = renewed st₂ x.serial in
     let e : suc (length x.entries + steps_of ps) + m ≡ suc (length x.entries + (steps_of ps + m)) = omega arith in
-    let y = passed_pairs ps x.entries m (p₂ ++ b₃) j rest (at_renewed x.serial g.typed g.good a₂.base) (start_place a₂.base x.serial (length x.entries) p₂ t j l₂ g q₂) hs.1 ns
+    let y = passed_pairs {st = st₃} ps x.entries m (p₂ ++ b₃) j rest (at_renewed x.serial g.typed g.good a₂.base) (start_place a₂.base x.serial (length x.entries) p₂ t j l₂ g q₂) hs.1 ns
     (start_bytes a₂.base x.serial (length x.entries) p₂ t j l₂ g q₂) (start_count a₂.base x.serial (length x.entries) p₂ t j l₂ g q₂) in
     let split : p ++ (texts sf n es ++ (pair_text o n x ++ pair_texts o n ps)) ≡ (p₂ ++ b₃) ++ (tx ++ pair_texts o n ps) =
     ap (λ (l : List ℕ). p ++ (texts sf n es ++ l)) (pair_split o n x (pair_texts o n ps))

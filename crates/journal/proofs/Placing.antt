@@ -13,8 +13,6 @@ use Rattle.receipt.specs.Details.{counted}
 use Rattle.receipt.specs.Chain.{chain_value}
 use Rattle.receipt.specs.Compact.{compact}
 use Rattle.receipt.specs.declared.settings.Name.{Name}
-use Rattle.receipt.specs.declared.settings.Settings.{Settings}
-use Rattle.receipt.specs.declared.entry.Entry.{Entry}
 use Rattle.journal.specs.Receipts.{Receipt, receipt_of, receipts_in, sum}
 use Rattle.journal.specs.State.{same_name, is_in, TypedName}
 use Rattle.journal.specs.Valid.{Owner, Pair, Placed, entries_of, last_of, chain_of, serials_of, Right, RightAfter, UsedIn, NotIn, Begins}

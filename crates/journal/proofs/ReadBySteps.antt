@@ -15,15 +15,13 @@ use Rattle.primitives.proofs.Rows.{both, ask_yes}
 use Rattle.receipt.specs.Settings.{serial_good, settings_good}
 use Rattle.receipt.specs.Compact.{compact, no_entry}
 use Rattle.receipt.specs.declared.settings.Name.{Name}
-use Rattle.receipt.specs.declared.settings.Settings.{Settings}
 use Rattle.receipt.specs.declared.entry.Entry.{Entry}
-use Rattle.receipt.specs.declared.entry.Found.{Found}
 use Rattle.receipt.proofs.Entries.{none_found}
 use Rattle.journal.specs.Head.{head, head_length, entry_text, length_at, there, text_at, pair_start, count_place_in, head_settings, head_good, serial_at, start_there}
 use Rattle.journal.specs.State.{no_name, used, in_eight, added, serials_good}
 use Rattle.journal.specs.Step.{fresh, sound_alone, sound, next, renewed}
-use Rattle.journal.specs.Checking.{found, entry_number, text_number, stopped, checked, text_checked, place_checked, one_step, entry_ready, entry_checked, step_checked, read_by_steps, full, start_number, start_checked, end_checked, head_number, check_head, settings_checked, serial_ready, serial_number, serial_checked}
-use Rattle.journal.specs.Valid.{Owner, Pair, settings_for, texts, pair_text, pair_texts, journal_text, placed_under, all_placed, entries_in, GoodOwner, Valid, head_of}
+use Rattle.journal.specs.Checking.{entry_number, text_number, stopped, checked, text_checked, place_checked, one_step, entry_ready, entry_checked, step_checked, read_by_steps, full, start_number, start_checked, end_checked, head_number, check_head, settings_checked, serial_ready, serial_number, serial_checked}
+use Rattle.journal.specs.Valid.{Owner, Pair, settings_for, texts, pair_text, pair_texts, journal_text, placed_under, all_placed, entries_in, GoodOwner, head_of}
 use Rattle.journal.specs.Demands.{StepsReadEntries, StepIsItsEntry, StepIsItsStart, HeadIsItsSettings}
 use Rattle.journal.specs.declared.state.State.{State}
 use Rattle.journal.specs.declared.checking.Checked.{Checked}
@@ -35,7 +33,7 @@ use Rattle.journal.proofs.Answers.{Sound, sound-yes}
 use Rattle.journal.proofs.Stepping.{full_yes, end_none, step_entry, start_within}
 use Rattle.journal.proofs.Placing.{Core, start_core, AllRight, right_split, Begun, Names}
 use Rattle.journal.proofs.Placing as placing
-use Rattle.journal.proofs.Passing.{At, typed_for, good_for, right_here, text_is, at_next, at_renewed, at_entries, run, steps_of, entry_step, start_step, start_place, start_bytes, start_count, section_place, section_full, Through, pair_split}
+use Rattle.journal.proofs.Passing.{At, typed_for, good_for, right_here, text_is, at_next, at_renewed, at_entries, run, steps_of, entry_step, start_step, start_place, start_bytes, start_count, section_place, section_full, pair_split}
 use Rattle.journal.proofs.Accepting.{Work, valid_work, fresh_at, fresh_length, fresh_place, fresh_section, journal_head, entries_size, pairs_size}
 use Rattle.journal.proofs.AcceptedIsWritten.{run_sound}
 use Rattle.journal.proofs.Pairs.{empty_pair}
@@ -133,7 +131,7 @@ read_entries {st} {o} {k} {n} {s} (e ∷ es) m p rest j a x at (placing.more h h
     let at' : length (p ++ t) ≡ (step st e).length =
     length-append p t ∙ (ap (λ (z : ℕ). z + length t) at ∙ (ap (λ (z : List ℕ). st.length + length (entry_text z)) (sym (text_is a e)) ∙ sym (step_length st e))) in
     let r = right_here a e h in
-    let w = read_entries es m (p ++ t) rest j (at_next e a r) (sound_next st e r x) at' hs q₂ (omega arith) in (
+    let w = read_entries {st = step st e} es m (p ++ t) rest j (at_next e a r) (sound_next st e r x) at' hs q₂ (omega arith) in (
       ap (λ (z : ℕ). read_by_steps (key_schedule k) z st j) i
           ∙ (read_one (key_schedule k) (length es + m) st j (checked_is (key_schedule k) st j (sound_here st j x l) ∙ y) ∙ ap (λ (z : List Entry). e ∷ z) w.0),
       w.1,
@@ -169,7 +167,7 @@ read_pairs {st} {o} {k} {n} {s} {c} {us} (x ∷ ps) es m p j a y at h (placing.m
     let w = read_entries es (suc (length x.entries + steps_of ps) + m) p r j a y at hs.0 q (omega arith) in
     let i = start_step a₂.base x.serial (length x.entries) p₂ t j l₂ g q₂ (omega (arith, f₂)) in
     let inside : st₂.length ≤ length j = omega (arith, ap length q₂, length-append p₂ (b₃ ++ t), l₂) in
-    let z = read_pairs ps x.entries m (p₂ ++ b₃) j (at_renewed x.serial g.typed g.good a₂.base) (sound_renewed st₂ x.serial g.good w.1)
+    let z = read_pairs {st = renewed st₂ x.serial} ps x.entries m (p₂ ++ b₃) j (at_renewed x.serial g.typed g.good a₂.base) (sound_renewed st₂ x.serial g.good w.1)
     (start_place a₂.base x.serial (length x.entries) p₂ t j l₂ g q₂) hs.1 ns (start_bytes a₂.base x.serial (length x.entries) p₂ t j l₂ g q₂)
     (start_count a₂.base x.serial (length x.entries) p₂ t j l₂ g q₂) in
     w.0

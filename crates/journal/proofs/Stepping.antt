@@ -17,7 +17,6 @@ use Rattle.journal.specs.State.{used, is_in, count_place_now}
 use Rattle.journal.specs.Step.{number_above, next, renewed}
 use Rattle.journal.specs.Checking.{found, context_number, text_number, after, entry_number, stopped, checked, place_checked, start_number, start_checked, end_checked, full, one_step, Steady, steps, refused, accepted, last_answer}
 use Rattle.journal.specs.declared.state.State.{State}
-use Rattle.journal.specs.declared.state.TakenOver.{TakenOver}
 use Rattle.journal.specs.declared.checking.Checked.{Checked}
 use Rattle.journal.proofs.Places.{length_entry}
 use Rattle.journal.proofs.Serials.{added_good}

@@ -1,10 +1,10 @@
 -- The sum of demand 3 is what a register counts, receipt by receipt.
 use mathlib.Core.Path.{◌≡◌, refl, sym, ap, ◌∙◌}
 use mathlib.Core.List.{List, [], ◌∷◌, ◌++◌}
-use lib.IntN.{ℤ, pos, ◌+ℤ◌, +ℤ_assoc, +ℤ_idl}
+use lib.IntN.{ℤ, ◌+ℤ◌, +ℤ_assoc, +ℤ_idl}
 use Rattle.receipt.specs.DetailsWords.{amounts_taken, added_up}
 use Rattle.receipt.proofs.DetailsMeaning.{counted_is_added_up}
-use Rattle.journal.specs.Receipts.{Receipt, all_amounts, sum, SumIsCounted}
+use Rattle.journal.specs.Receipts.{all_amounts, sum, SumIsCounted}
 
 added_append : (xs ys : List ℤ) → added_up (xs ++ ys) ≡ added_up xs +ℤ added_up ys
 unfolding added_up

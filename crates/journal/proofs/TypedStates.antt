@@ -1,7 +1,7 @@
 -- What the code's types say of the state of a register that holds pairs.
 use Prim.Native.Nat.{ℕ, zero, suc, ◌-◌, ◌^◌, ◌≤◌, ◌<◌}
 use mathlib.Core.Path.{◌≡◌, refl, sym, ap, ◌∙◌, subst}
-use mathlib.Core.Bool.{Bool, true}
+use mathlib.Core.Bool.{true}
 use mathlib.Core.List.{List, [], ◌∷◌, ◌++◌}
 use native.Mathlib.Omega.{arith}
 use borrow.Author.Tests.{lt-ltb}
@@ -19,7 +19,6 @@ use Rattle.journal.specs.declared.state.State.{State}
 use Rattle.journal.proofs.Serials.{length_eight}
 use Rattle.journal.proofs.Placing.{Core, start_core, step_core, run_core, AllRight, Names, length_serials, names_length}
 use Rattle.journal.proofs.Placing as placing
-use Rattle.journal.proofs.Accepting.{Work}
 use Rattle.journal.proofs.Registers.{Holds, holds_open, open_eight, run_zeroed}
 use Rattle.journal.proofs.AcceptedIsWritten.{holds_sound}
 

@@ -1,4 +1,6 @@
 // The journal of a register: opened, written by Issue, by lists of receipts and by Change, and taken over, whole or in parts.
+#![tactic(auto)]
+
 mod changing;
 mod checking;
 mod head;
