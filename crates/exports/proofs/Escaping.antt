@@ -1,14 +1,14 @@
 -- The escape stands for "=", and a backslash begins nothing else: a byte that stands neither between strings nor within an escape begins letters of a string.
 use Prim.Native.Nat.{ℕ}
 use mathlib.Core.Path.{◌≡◌, refl, sym, ◌∙◌, subst}
-use mathlib.Core.Bool.{Bool, true, false}
+use mathlib.Core.Bool.{true, false}
 use mathlib.Core.List.{List, [], ◌∷◌, ◌++◌}
-use mathlib.Core.Logic.{◌↔◌, ◌⊎◌, inl, inr}
+use mathlib.Core.Logic.{◌⊎◌, inl, inr}
 use native.Mathlib.Omega.{arith}
 use Rattle.primitives.specs.Text.{ascii}
 use Rattle.primitives.proofs.Rows.{true-is-not-false}
 use Rattle.exports.specs.Text.{Token, word, mark, blank, is_mark, plain, Inside, close, letter, escape, Tokens, end, space, sign, quoted}
-use Rattle.exports.specs.Shape.{Element, document, Shape}
+use Rattle.exports.specs.Shape.{Element, Shape}
 use Rattle.exports.specs.Letters.{EscapeExactly}
 
 -- ---- where a byte stands

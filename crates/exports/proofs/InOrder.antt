@@ -1,7 +1,7 @@
 -- The answers of both calls are those of the questions in their order.
-use Prim.Native.Nat.{ℕ, zero, suc, ◌+◌, ◌≤◌, ◌<◌}
+use Prim.Native.Nat.{ℕ, zero, suc, ◌+◌, ◌≤◌}
 use mathlib.Core.Path.{◌≡◌, refl, sym, ap, ◌∙◌, subst}
-use mathlib.Core.Bool.{Bool, true, false, cond, not, ◌&&◌}
+use mathlib.Core.Bool.{Bool, true, false, cond, ◌&&◌}
 use mathlib.Core.List.{List, [], ◌∷◌, ◌++◌, map}
 use mathlib.Core.Logic.{◌↔◌, ◌⊎◌, inl, inr}
 use mathlib.Core.Option
@@ -12,8 +12,8 @@ use lib.Dec.{leb}
 use lib.ListN.{length}
 use Rattle.primitives.specs.Bytes.{AllBytes}
 use Rattle.primitives.specs.Place.{overwrite, room}
-use Rattle.primitives.specs.Base64.{encoding, accepted, bytes, unpadded, decoding}
-use Rattle.primitives.specs.Answers.{written, answer_with, bufferWith}
+use Rattle.primitives.specs.Base64.{accepted, bytes, unpadded, decoding}
+use Rattle.primitives.specs.Answers.{written, answer_with}
 use Rattle.primitives.specs.Questions.{ask, ifZero, Row, asked_all, question, AllYes, FirstNoIs, GivesFirstNo}
 use Rattle.primitives.specs.declared.base64.Alphabet.TheVariants.{Standard}
 use Rattle.primitives.specs.declared.answer.Answer.{Answer}
@@ -21,18 +21,16 @@ use Rattle.primitives.proofs.Rows.{both, true-is-not-false, ifZero-yes, ifZero-n
 use Rattle.primitives.proofs.FirstNo.{gives_none, gives_ask, gives_same}
 use Rattle.primitives.proofs.Laws.{decoding_is_exact}
 use Rattle.receipt.specs.declared.settings.Settings.{Settings}
-use Rattle.journal.specs.Valid.{Owner}
 use Rattle.journal.specs.Checking.{take_over}
 use Rattle.journal.specs.declared.state.TakenOver.{TakenOver}
 use Rattle.exports.specs.Text.{plain, every}
 use Rattle.exports.specs.Shape.{Element, Shape}
 use Rattle.exports.specs.Parsed.{elements_of}
-use Rattle.exports.specs.Spelled.{short, is_empty, some_of, TextPair, journal_spelled, pairs_of}
-use Rattle.exports.specs.Groups.{Group, groups_text, group_good, groups_of}
+use Rattle.exports.specs.Spelled.{short, some_of, journal_spelled, pairs_of}
+use Rattle.exports.specs.Groups.{Group, group_good, groups_of}
 use Rattle.exports.specs.Naming.{named}
-use Rattle.exports.specs.Names.{NamesRegister}
 use Rattle.exports.specs.Reading.{canonical, element_good, has_receipt, first_of, settings_of, names_register, owner_of, pair_of, journal_of_elements, survey_number, elements_number, not_read, restored_from, restored_by, restored, journal_by, restored_buffer}
-use Rattle.exports.specs.Writing.{elements_for, export_text, export_of, answered, exported, export_buffer}
+use Rattle.exports.specs.Writing.{elements_for, export_text, export_of, exported, export_buffer}
 use Rattle.exports.specs.InOrder.{AtEach, InBase64, CanonicalIsEncoding, UpTo65535, GoodElement, GoodText, HasReceipt, FirstNames, NamesSome, NamedBy, nothing, also, pairs_by, SpellJournal, questions_before, questions_of_reading, TakenAs, ReadingAnswers, GroupFits, GroupsFor, questions_of_writing, WritingAnswers}
 use Rattle.exports.specs.declared.naming.Named.{Named}
 use Rattle.exports.specs.declared.writing.Exported.{Exported}

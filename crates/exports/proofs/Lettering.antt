@@ -1,15 +1,14 @@
 -- Which bytes are blanks, marks and letters.
 use Prim.Native.Nat.{ℕ, ◌≤◌}
-use mathlib.Core.Path.{◌≡◌, refl, sym, subst}
+use mathlib.Core.Path.{◌≡◌, refl, subst}
 use mathlib.Core.Bool.{Bool, true, false, not, ◌&&◌, ◌||◌}
 use mathlib.Core.List.{List, [], ◌∷◌, ◌++◌}
 use mathlib.Core.Logic.{◌↔◌, ◌⊎◌, inl, inr}
-use native.Mathlib.Omega.{arith}
-use borrow.Author.Tests.{le-leb, leb-true, eq-eqb, ne_eqb, eqb-true, eqb-false, not-true, not-false}
+use borrow.Author.Tests.{le-leb, leb-true, eq-eqb, ne_eqb, eqb-true, eqb-false, not-true}
 use lib.Dec.{eqb, leb}
 use Rattle.primitives.proofs.Rows.{both, true-is-not-false}
 use Rattle.exports.specs.Text.{Token, blank, is_mark, plain, every, Tokens, end}
-use Rattle.exports.specs.Shape.{Element, Written, document, Shape}
+use Rattle.exports.specs.Shape.{Element, document, Shape}
 use Rattle.exports.specs.Letters.{In, AllIn, json_blanks, json_marks, BlanksExactly, MarksExactly, LettersExactly}
 use Rattle.exports.proofs.Ordering.{blanks_between}
 use Rattle.exports.proofs.Sized.{every_nil, every_one}

@@ -345,16 +345,17 @@ lies text {ts} e = let s = spelling text 0 e in record { good = (ts, e); spells 
 six : (n : ℕ) → suc n + 5 ≡ n + 6
 six n = omega arith
 
+-- within an escape
+inner_of : (text : List ℕ) {c : List ℕ} {ts : List Token} (b k : ℕ) → Step text c ts b (suc k) → lex_in text k c ≡ word c ∷ ts
+inner_of text b k (inner i l q) = q
+
 -- after an escape
 following_escape : (k : ℕ) (text : List ℕ) {c : List ℕ} {ts : List Token} → lex_in text k c ≡ word c ∷ ts
     → (lex_in (drop k text) 0 c ≡ word c ∷ ts) × (content text k ≡ content (drop k text) 0)
 unfolding lex_in content
 following_escape zero text e = (e, refl)
 following_escape (suc k) [] e = not_word e
-following_escape (suc k) (b ∷ text) e = following_escape k text (go (step b text (suc k) e))
-  where
-    go : {c : List ℕ} {ts : List Token} → Step text c ts b (suc k) → lex_in text k c ≡ word c ∷ ts
-    go (inner i l q) = q
+following_escape (suc k) (b ∷ text) e = following_escape k text (inner_of text b k (step b text (suc k) e))
 
 pub letters_inside : (text : List ℕ) (at : ℕ) → LettersAt text at → at < length text
 unfolding lex_in

@@ -1,7 +1,7 @@
 -- An export is read back into the journal that it was written from.
 use Prim.Native.Nat.{ℕ, zero, suc, ◌+◌, ◌≤◌, ◌<◌}
 use mathlib.Core.Path.{◌≡◌, refl, sym, ap, ◌∙◌, subst}
-use mathlib.Core.Bool.{Bool, true, false, cond, ◌&&◌}
+use mathlib.Core.Bool.{Bool, true, false, cond}
 use mathlib.Core.List.{List, [], ◌∷◌, ◌++◌, map}
 use mathlib.Core.Option
 use mathlib.Core.Option.{Option, none, some}
@@ -31,7 +31,7 @@ use Rattle.journal.proofs.Placing as placing
 use Rattle.journal.proofs.Passing.{typed_for, good_for}
 use Rattle.journal.proofs.Accepting.{valid_work}
 use Rattle.journal.proofs.WrittenIsAccepted.{accepted_is_valid}
-use Rattle.exports.specs.Text.{plain, every}
+use Rattle.exports.specs.Text.{every}
 use Rattle.exports.specs.Shape.{Element, plain_element}
 use Rattle.exports.specs.Parsed.{elements_of}
 use Rattle.exports.specs.Spelled.{short, is_empty, TextPair, sized_texts, journal_spelled, GoodPair, GoodPairs, pairs_of}

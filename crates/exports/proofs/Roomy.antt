@@ -1,5 +1,5 @@
 -- How long the text of an export is, from the state and the groups.
-use Prim.Native.Nat.{ℕ, zero, suc, ◌+◌, ◌*◌, ◌/◌, ◌≤◌, ◌<◌}
+use Prim.Native.Nat.{ℕ, ◌+◌, ◌*◌, ◌/◌, ◌≤◌}
 use mathlib.Core.Path.{◌≡◌, refl, sym, ap, ◌∙◌, subst}
 use mathlib.Core.Bool.{Bool, true, false}
 use mathlib.Core.List.{List, [], ◌∷◌, ◌++◌, map}
@@ -14,12 +14,10 @@ use Rattle.primitives.proofs.Numbers.{length_bytes_of}
 use Rattle.primitives.proofs.Rows.{true-is-not-false}
 use Rattle.receipt.specs.Settings.{name_text}
 use Rattle.receipt.specs.Compact.{compact}
-use Rattle.receipt.specs.declared.settings.Name.{Name}
 use Rattle.receipt.specs.declared.settings.Letters.TheVariants.{Id, Serial}
 use Rattle.receipt.proofs.Names.{good_name, text_short, length_text}
 use Rattle.journal.specs.Head.{section, pair_start, entry_text}
-use Rattle.journal.specs.State.{used}
-use Rattle.journal.specs.Valid.{Owner, Pair, settings_for, owner_text, journal_text, entries_in, GoodOwner, state_after, Valid}
+use Rattle.journal.specs.Valid.{Pair, settings_for, owner_text, entries_in, state_after, Valid}
 use Rattle.journal.specs.Checking.{take_over, accepted}
 use Rattle.journal.specs.declared.state.State.{State}
 use Rattle.journal.specs.declared.state.TakenOver.{TakenOver}
@@ -29,14 +27,14 @@ use Rattle.journal.proofs.Accepting.{accepted_valid}
 use Rattle.journal.proofs.JournalStates.{state_of_journal}
 use Rattle.exports.specs.Text.{every}
 use Rattle.exports.specs.Shape.{Element}
-use Rattle.exports.specs.Spelled.{sized_texts, TextPair, pair_spelled, pairs_spelled, journal_spelled, GoodPair, GoodPairs, nothing, also, pairs_of}
+use Rattle.exports.specs.Spelled.{sized_texts, TextPair, pair_spelled, pairs_spelled, journal_spelled, GoodPair, GoodPairs, also, pairs_of}
 use Rattle.exports.specs.Groups.{Group, groups_text, group_good}
 use Rattle.exports.specs.GroupLaws.{text_pair}
 use Rattle.exports.specs.Writing.{quoted, listed, opening, before_certificate, before_issuers, before_receipts, ending, certificates_part, receipts_part, element_text, export_text, in_base64, element_for, elements_for, exported}
 use Rattle.exports.specs.Room.{certificates_room, groups_room, export_room, ExportRoomIsEnough}
 use Rattle.exports.specs.declared.writing.Exported.{Exported}
 use Rattle.exports.proofs.Sized.{sized_nil, sized_cons}
-use Rattle.exports.proofs.PairsBack.{valid_spelled, valid_good, valid_pairs, journal_is}
+use Rattle.exports.proofs.PairsBack.{valid_spelled, valid_good, valid_pairs}
 use Rattle.exports.proofs.ExportAnswers.{used_pairs}
 use Rattle.exports.proofs.Promising.{written_exactly}
 

@@ -1,7 +1,7 @@
 -- Letters as they lie against what they spell.
 use mathlib.Core.Path.{◌≡◌, refl, ap}
-use mathlib.Core.Bool.{true, or_true}
-use mathlib.Core.List.{List, [], ◌∷◌}
+use mathlib.Core.Bool.{true, or-true}
+use mathlib.Core.List.{List, ◌∷◌}
 use Prim.Native.Nat.{ℕ, ◌<◌, ◌≤◌}
 use native.Mathlib.Omega.{arith}
 use lib.Dec.{eqb}
@@ -16,7 +16,7 @@ pub data AsTheyLie (raw w : List ℕ) : Type 0 where
 lie_letter : (b : ℕ) {raw w : List ℕ} → AsTheyLie raw w → AsTheyLie (b ∷ raw) (b ∷ w)
 unfolding holds
 lie_letter b (same e) = same (ap (λ (l : List ℕ). b ∷ l) e)
-lie_letter b (escaped l s q) = escaped (omega arith) (rw s (or_true (eqb b 92))) (rw q (or_true (eqb b 61)))
+lie_letter b (escaped l s q) = escaped (omega arith) (rw s (or-true (eqb b 92))) (rw q (or-true (eqb b 61)))
 
 -- what is spelled is not longer
 pub spells_shorter : {raw w : List ℕ} → Unescaped raw w → length w ≤ length raw

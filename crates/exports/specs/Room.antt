@@ -1,5 +1,5 @@
 -- How many bytes are enough for the output of an export: the sum that docs/EMBEDDING.md gives, from the state and the groups.
-use Rattle.std.specs.Prelude.{ℕ, ◌+◌, ◌*◌, ◌/◌, ◌≤◌, ◌≡◌, true, List, [], ◌∷◌, ◌++◌, length}
+use Rattle.std.specs.Prelude.{ℕ, ◌+◌, ◌*◌, ◌/◌, ◌≤◌, ◌≡◌, true, List, [], ◌∷◌, length}
 use Rattle.primitives.specs.Bytes.{AllBytes}
 use Rattle.journal.specs.State.{used}
 use Rattle.journal.specs.Checking.{take_over}

@@ -1,4 +1,6 @@
 // The export of a journal for an inspector: written, and read back into the journal.
+#![tactic(auto)]
+
 mod certificates;
 mod lexer;
 mod naming;
