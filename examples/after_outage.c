@@ -2,7 +2,7 @@
  * them together. Two lists are not issued to the end at once: in one an order has a wrong number, in the other the buffer fills up.
  * `issued` says where to go on. The last field of each code is "Sicherheitseinrichtung ausgefallen" in BASE64, not a signature.
  *
- *     cc -Iinclude examples/after_outage.c target/staticlib/libdevice.a -o after_outage
+ *     cc -Iinclude examples/after_outage.c crates/device/out/libdevice.a -o after_outage
  */
 #include "ditgrux.h"
 

@@ -1,7 +1,7 @@
 /* Checks a journal of any size in parts, and shows how far it is. It can also find the journal in a register's buffer when the
  * register has lost its state and the length of its journal. It reads its inputs and never writes to them.
  *
- *     cc -std=c99 -Iinclude examples/check_in_parts.c target/staticlib/libdevice.a -o check_in_parts
+ *     cc -std=c99 -Iinclude examples/check_in_parts.c crates/device/out/libdevice.a -o check_in_parts
  *     ./check_in_parts JOURNAL WIDTH KEY
  *     ./check_in_parts --find BUFFER WIDTH KEY STATE
  *

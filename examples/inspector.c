@@ -2,7 +2,7 @@
  * inspector's side the export is read back into the journal. Then two exports that are refused: one without the start receipt, and one
  * with a certificate that lost a '='. The certificates are made up: the library does not look into them.
  *
- *     cc -Iinclude examples/inspector.c target/staticlib/libdevice.a -o inspector
+ *     cc -Iinclude examples/inspector.c crates/device/out/libdevice.a -o inspector
  */
 #include "ditgrux.h"
 

@@ -1,7 +1,7 @@
 /* Makes up the journal of a busy register, to try examples/check_in_parts.c on: 100,000 receipts, with two changes of the certificate
  * between them. It writes two new files and refuses a file that is there.
  *
- *     cc -std=c99 -Iinclude examples/make_journal.c target/staticlib/libdevice.a -o make_journal
+ *     cc -std=c99 -Iinclude examples/make_journal.c crates/device/out/libdevice.a -o make_journal
  *     ./make_journal BUFFER STATE
  *
  * BUFFER is the buffer of the register's journal: the journal, and zeros up to the end. STATE is the register's state, 447 bytes.

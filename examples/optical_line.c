@@ -2,7 +2,7 @@
  * for each the machine-readable code and the optical line. The line is what goes to the printer. Then the reader's side: the line gives
  * the code back, and a line that OCR has misread is refused.
  *
- *     cc -Iinclude examples/optical_line.c target/staticlib/libdevice.a -o optical_line
+ *     cc -Iinclude examples/optical_line.c crates/device/out/libdevice.a -o optical_line
  */
 #include "ditgrux.h"
 

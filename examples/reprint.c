@@ -2,7 +2,7 @@
  * describes, and reads each receipt back with the serial of its pair. Each line has the number, date and time, kind, the five amounts in
  * cents, and whether the device had signed.
  *
- *     cc -Iinclude examples/reprint.c target/staticlib/libdevice.a -o reprint
+ *     cc -Iinclude examples/reprint.c crates/device/out/libdevice.a -o reprint
  *     ./reprint JOURNAL WIDTH          WIDTH: bytes of the register's turnover counter, 5 to 8
  *
  * To find out whether the journal is good, take it over. This program only reads. Exit status: 0, or 1 if it came to something that it

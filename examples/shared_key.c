@@ -2,7 +2,7 @@
  * same text at receipts 2 and 12, and whoever reads the two printed codes learns about the turnover without the key. Then how to do it
  * right: ditgrux_open_shared refuses "A1", and "1A" and "A" never hash the same text.
  *
- *     cc -Iinclude examples/shared_key.c target/staticlib/libdevice.a -o shared_key
+ *     cc -Iinclude examples/shared_key.c crates/device/out/libdevice.a -o shared_key
  */
 #include "ditgrux.h"
 

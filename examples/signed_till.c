@@ -2,7 +2,7 @@
  * over. At noon its signature device fails and is replaced by another one, which has its own key and its own certificate. The till makes
  * both signing keys and writes the public keys to files, so that anyone can verify the signatures. OpenSSL 3 stands for the devices.
  *
- *     cc -Iinclude examples/signed_till.c target/staticlib/libdevice.a -lcrypto -o signed_till
+ *     cc -Iinclude examples/signed_till.c crates/device/out/libdevice.a -lcrypto -o signed_till
  *     ./signed_till PUBLIC-1.pem PUBLIC-2.pem [JOURNAL]
  */
 #include "ditgrux.h"

@@ -1,7 +1,7 @@
 /* A till: opens a register, issues receipts, prints their codes, changes its certificate, and takes its journal over. The second receipt
  * is a sale, the third one takes 10,50 of it back: a cancellation has negative amounts. The fourth names the new certificate.
  *
- *     cc -Iinclude examples/till.c target/staticlib/libdevice.a -o till
+ *     cc -Iinclude examples/till.c crates/device/out/libdevice.a -o till
  */
 #include "ditgrux.h"
 

@@ -1,4 +1,4 @@
-//! Links libdevice.a from the folder DITGRUX_LIB (default ../target/staticlib) and OpenSSL's libcrypto.
+//! Links libdevice.a from the folder DITGRUX_LIB (default ../crates/device/out) and OpenSSL's libcrypto.
 use std::path::{Path, PathBuf};
 
 fn main() {
@@ -8,7 +8,7 @@ fn main() {
         let here = PathBuf::from(std::env::var_os("CARGO_MANIFEST_DIR").expect("set by cargo"));
         let folder = match std::env::var_os("DITGRUX_LIB") {
             Some(folder) => here.join(folder),
-            None => here.join("../target/staticlib"),
+            None => here.join("../crates/device/out"),
         };
         let archive = folder.join("libdevice.a");
         println!("cargo:rerun-if-changed={}", archive.display());
