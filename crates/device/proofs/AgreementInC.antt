@@ -181,7 +181,7 @@ entries_made : (k : List ℕ) (n : ℕ) (c : Core) (s : Settings) (es : List Ent
 entries_made k n c s [] cs ds r m = (m.0, m.1 ∙ ap (λ (l : List Call). l ++ ds) (sym issues_none))
 entries_made k n c s (e ∷ es) cs ds r m =
     let h = first_right k n c _ (placed_under s es) (subst (AllRight k n c) (placed_more s e es) r) in
-    let p = entries_made k n _ s es cs ds h.1 m in (
+    let p = entries_made k n (step_core n c (record { settings = s; entry = e })) s es cs ds h.1 m in (
       demand.more (call_allowed s n e h.0.typed h.0.spelled) p.0,
       (λ i. call_same e h.0.typed.fields.amounts i ∷ p.1 i) ∙ ap (λ (l : List Call). l ++ ds) (sym (issues_more e es)),
     )

@@ -8,18 +8,17 @@ use native.Mathlib.Omega.{arith}
 use borrow.Author.Tests.{eq-eqb, ne_eqb, eqb-true, eqb-false}
 use lib.Dec.{eqb}
 use lib.IntN.{ℤ, pos, ◌+ℤ◌, +ℤ_assoc, +ℤ_idr}
-use lib.ListN.{length, get_or, take, replicate, get_or-append}
+use lib.ListN.{length, get_or, replicate, get_or-append}
 use lib.Seq.{take_all}
 use Rattle.primitives.specs.Bytes.{AllBytes}
 use Rattle.primitives.specs.Counter.{width_good, counter_fits}
 use Rattle.primitives.specs.Questions.{ask, ifZero, Row, asked_all, question, GivesFirstNo}
 use Rattle.primitives.proofs.FirstNo.{gives_none, gives_ask, gives_same}
 use Rattle.primitives.proofs.Rows.{ifZero-yes, ifZero-no}
-use Rattle.receipt.specs.Settings.{name_of, SettingsLengths}
-use Rattle.receipt.specs.SettingsWords.{IdByte, SerialByte, GoodCsp, GoodId, GoodSerial, GoodWidth, NoDigitIfShared, one_to_four, settings_row}
-use Rattle.receipt.specs.DetailsWords.{GoodDate, GoodAmounts, GoodStart, amounts_taken, added_up}
+use Rattle.receipt.specs.Settings.{name_of}
+use Rattle.receipt.specs.SettingsWords.{IdByte, SerialByte, GoodCsp, GoodId, GoodSerial, GoodWidth, NoDigitIfShared, one_to_four}
+use Rattle.receipt.specs.DetailsWords.{GoodStart, amounts_taken, added_up}
 use Rattle.receipt.specs.Exact.{Spelled}
-use Rattle.receipt.specs.declared.settings.Name.{Name}
 use Rattle.receipt.specs.declared.settings.Settings.{Settings}
 use Rattle.receipt.specs.declared.datetime.DateTime.{DateTime}
 use Rattle.receipt.specs.declared.details.Kind.{Kind}
@@ -29,14 +28,12 @@ use Rattle.receipt.specs.declared.entry.Found.{Found}
 use Rattle.receipt.proofs.Entries.{length_array}
 use Rattle.receipt.proofs.ExactEntry.{exact}
 use Rattle.receipt.proofs.SettingsMeaning.{width_means, one_to_four_asked}
-use Rattle.journal.specs.State.{used, unopened, TypedState}
-use Rattle.journal.specs.Certificates.{OneOf}
+use Rattle.journal.specs.State.{unopened}
 use Rattle.journal.specs.Opening.{open_number}
-use Rattle.journal.specs.Issuing.{issued, issue_number}
 use Rattle.journal.specs.Preparing.{prepare_number, prepare_answer}
 use Rattle.journal.specs.Checking.{head_number, refused, check_head, take_over}
 use Rattle.journal.specs.Parts.{handed_back, check_steps}
-use Rattle.journal.specs.Asked.{SoundIn, SoundState, SoundFor, open_row, details_row, issue_row, prepare_row, change_row}
+use Rattle.journal.specs.Asked.{open_row, details_row, issue_row, prepare_row, change_row}
 use Rattle.journal.specs.declared.state.State.{State}
 use Rattle.journal.specs.declared.state.Opened.{Opened}
 use Rattle.journal.specs.declared.state.TakenOver.{TakenOver}
@@ -47,10 +44,10 @@ use Rattle.journal.proofs.PartCalls.{handed_is}
 use Rattle.journal.proofs.Asking.{open_gives_first_no, issue_gives_first_no, prepare_gives_first_no, change_gives_first_no, check_asks_six}
 use Rattle.device.specs.Layout.{array_of, settings_at, no_settings, settings_of, width_of, key_of, state_of}
 use Rattle.device.specs.Details.{no_details, date_of, details_with, of_kind, details_of, kind_number}
-use Rattle.device.specs.Calls.{settings_from, width_with, settings_answer, settings_returned, Slices, open_answer, opened_number, IssueCall, order_in, details_given, prepared_from_c, issue_answer, issued_number, change_answer, changed_number, take_over_answer, head_answer, steps_answer}
+use Rattle.device.specs.Calls.{settings_from, width_with, settings_answer, Slices, open_answer, opened_number, IssueCall, order_in, details_given, prepared_from_c, issue_answer, issued_number, change_answer, changed_number, steps_answer}
 use Rattle.device.specs.ReadBack.{found_in, read_number, answered, read_back}
-use Rattle.device.specs.AskedInC.{CspBytes, IdBytes, SerialBytes, WidthWithKey, settings_row_in_c, SettingsGiveFirstNoInC, open_row_in_c, OpenGivesFirstNoInC, date_given, amounts_given, NumberAndKind, StandardWithZeros, CounterFitsAfter, details_row_in_c, SoundBytes, issue_row_in_c, IssueGivesFirstNoInC, SoundBytesAlone, prepare_row_in_c, PrepareGivesFirstNoInC, change_row_in_c, ChangeGivesFirstNoInC, TakeOverAsksTheKey, HeadAsksTheKey, SoundBytesFor, StepsAskSixInC, read_row, ReadGivesFirstNoInC, ExportAsksTheKey, ReadExportAsksTheKey}
-use Rattle.device.specs.Inspection.{export_answer, export_output, read_answer, read_output}
+use Rattle.device.specs.AskedInC.{CspBytes, IdBytes, SerialBytes, WidthWithKey, settings_row_in_c, SettingsGiveFirstNoInC, open_row_in_c, OpenGivesFirstNoInC, date_given, amounts_given, StandardWithZeros, CounterFitsAfter, details_row_in_c, issue_row_in_c, IssueGivesFirstNoInC, prepare_row_in_c, PrepareGivesFirstNoInC, change_row_in_c, ChangeGivesFirstNoInC, TakeOverAsksTheKey, HeadAsksTheKey, SoundBytesFor, StepsAskSixInC, read_row, ReadGivesFirstNoInC, ExportAsksTheKey, ReadExportAsksTheKey}
+use Rattle.device.specs.Inspection.{export_answer, export_output}
 use Rattle.exports.specs.Shape.{Element}
 use Rattle.exports.specs.Writing.{exported, export_buffer}
 use Rattle.exports.specs.Parsed.{elements_of}

@@ -26,7 +26,7 @@ use Rattle.journal.specs.Listing.{issued_list, list_buffer}
 use Rattle.journal.specs.Changing.{changed, change_buffer}
 use Rattle.journal.specs.Receipts.{Receipt}
 use Rattle.journal.specs.Valid.{Owner, Pair}
-use Rattle.journal.specs.Calls.{TypedOrder, failed_order, Call, issue, issue_list, change, TypedList, nothing, also, TypedCall, issues, lists, changes, TypedCalls, none, more, Register, opening, number_of, numbers_of, receipt_of_call, first_receipts, receipts_of_list, receipts_of, Period, periods_from, call, calls}
+use Rattle.journal.specs.Calls.{TypedOrder, Call, issue, issue_list, change, TypedList, nothing, also, TypedCall, issues, lists, changes, TypedCalls, none, more, Register, opening, number_of, numbers_of, receipt_of_call, first_receipts, receipts_of_list, receipts_of, Period, periods_from, call, calls}
 use Rattle.journal.specs.declared.state.State.{State}
 use Rattle.journal.specs.declared.state.Opened.{Opened}
 use Rattle.journal.proofs.OpenCalls.{open_zero}

@@ -1,12 +1,11 @@
 -- The export over bytes: what the two calls show at their returns, and what holds of them.
-use Prim.Native.Nat.{ℕ, ◌≤◌}
+use Prim.Native.Nat.{ℕ}
 use mathlib.Core.Path.{◌≡◌, refl, sym, ap, ◌∙◌}
-use mathlib.Core.Bool.{Bool, true, false, cond}
+use mathlib.Core.Bool.{Bool, true, false}
 use mathlib.Core.List.{List}
 use borrow.Author.Tests.{eq-eqb, ne_eqb, eqb-true, eqb-false}
 use lib.Dec.{eqb}
 use lib.ListN.{length}
-use Rattle.primitives.specs.Place.{overwrite}
 use Rattle.journal.specs.State.{unopened}
 use Rattle.journal.specs.Checking.{take_over}
 use Rattle.journal.specs.declared.state.State.{State}

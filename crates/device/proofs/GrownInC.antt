@@ -1,7 +1,6 @@
 -- A register's state in bytes is one to go on from in the journal that further calls from C leave.
 use Prim.Native.Nat.{ℕ, ◌≤◌, ◌<◌}
 use mathlib.Core.Path.{◌≡◌, refl, sym, ap, ◌∙◌, subst}
-use mathlib.Core.Bool.{Bool}
 use mathlib.Core.List.{List, [], ◌∷◌, ◌++◌, map}
 use native.Mathlib.Omega.{arith}
 use lib.ListN.{length, take, length-take}
@@ -17,15 +16,15 @@ use Rattle.journal.proofs.Accepting.{valid_work}
 use Rattle.journal.proofs.GrownJournals.{work_bytes, register_goes_on}
 use Rattle.journal.proofs.PartSteps.{accepted_number, accepted_state}
 use Rattle.journal.proofs.WrittenIsAccepted.{written_is_accepted}
-use Rattle.device.specs.Layout.{state_bytes, settings_of, width_of, key_of, state_of}
+use Rattle.device.specs.Layout.{state_bytes, settings_of, width_of, key_of}
 use Rattle.device.specs.Calls.{Slices, opened_slices}
 use Rattle.device.specs.Demand as demand
 use Rattle.device.specs.Demand.{CallFromC, TypedCallsFromC, call_in, slices_after_all, journal_in, register_in}
-use Rattle.device.specs.PartLaws.{LeftByCheck, checks_from_bytes, RegisterGoesOnInC}
+use Rattle.device.specs.PartLaws.{checks_from_bytes, RegisterGoesOnInC}
 use Rattle.device.proofs.Below.{accepted_is, journal_is}
 use Rattle.device.proofs.Spelling.{state_is_read}
 use Rattle.device.proofs.CallsFromC.{calls_typed, slices_of, open_accepted, opened_same, same_calls, opened_typed}
-use Rattle.device.proofs.PartsInC.{Same, same_start, same_checks}
+use Rattle.device.proofs.PartsInC.{same_start, same_checks}
 
 calls_append : (cs ds : List CallFromC) → TypedCallsFromC cs → TypedCallsFromC ds → TypedCallsFromC (cs ++ ds)
 calls_append [] ds demand.none u = u

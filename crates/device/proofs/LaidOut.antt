@@ -6,12 +6,12 @@ use mathlib.Core.List.{List, [], ◌∷◌, ◌++◌, append_assoc}
 use native.Mathlib.Omega.{arith}
 use borrow.Author.Tests.{eq-eqb, eqb-true, eqb-false, ltb-true, ltb-false}
 use lib.Dec.{eqb, ltb}
-use lib.IntN.{ℤ, pos, negsuc}
+use lib.IntN.{ℤ, negsuc}
 use lib.ListN.{length, take, drop, get_or, replicate}
 use lib.Seq.{drop-cons, drop-drop, take-add, take_all}
 use Rattle.primitives.specs.Bytes.{AllBytes}
 use Rattle.primitives.specs.Number.{digits_of, bytes_of, number_after, value_after, value_of, count_at}
-use Rattle.primitives.specs.Counter.{half, width_good, of_twos, counter_value}
+use Rattle.primitives.specs.Counter.{half, of_twos, counter_value}
 use Rattle.primitives.proofs.Counts.{part_length, count_is, count_bytes, count_lt}
 use Rattle.primitives.proofs.Numbers.{value_append}
 use Rattle.primitives.proofs.Twos.{of_lower, of_upper, value_wide}
@@ -19,13 +19,12 @@ use Rattle.primitives.proofs.Rows.{ask_yes}
 use Rattle.receipt.specs.Settings.{name_text}
 use Rattle.receipt.specs.declared.settings.Name.{Name}
 use Rattle.receipt.specs.declared.settings.Settings.{Settings}
-use Rattle.receipt.specs.declared.details.Details.{Details}
 use Rattle.journal.specs.State.{no_name, used, unopened}
 use Rattle.journal.specs.declared.state.State.{State}
 use Rattle.device.specs.Layout.{settings_bytes, name_at, settings_at, width_at, key_at, names_at, state_at, settings_of, width_of, key_of, state_of}
 use Rattle.device.specs.Details.{no_details, details_of, number_in, amount_in, details_in, details_from, list_in}
-use Rattle.device.specs.Calls.{serial_in, settings_in, settings_in_buffer, IssueCall, order_in}
-use Rattle.device.specs.LayoutWords.{four, eight, InTwos, NameThere, SettingsAreLaidOut, StateThere, StateIsLaidOut, CallThere, DetailsAreLaidOut, ListIsLaidOut, SerialsBefore, Says, SaysNothing, StateIsReadInC, SerialIsReadInC, SettingsInAreRead}
+use Rattle.device.specs.Calls.{serial_in, settings_in, settings_in_buffer, order_in}
+use Rattle.device.specs.LayoutWords.{four, eight, InTwos, NameThere, SettingsAreLaidOut, StateIsLaidOut, DetailsAreLaidOut, ListIsLaidOut, SerialsBefore, Says, SaysNothing, StateIsReadInC, SerialIsReadInC, SettingsInAreRead}
 use Rattle.device.proofs.Sizes.{state_none}
 use Rattle.device.proofs.DetailLaws.{eight_good}
 use Rattle.device.proofs.Spelling.{next_part}

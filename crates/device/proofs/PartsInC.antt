@@ -13,7 +13,7 @@ use Rattle.journal.specs.State.{unopened, TypedState}
 use Rattle.journal.specs.Checking.{accepted, check_head, take_over}
 use Rattle.journal.specs.Parts.{check_steps, checks_after, check_in_parts, total}
 use Rattle.journal.specs.PartLaws.{SameAnswer}
-use Rattle.journal.specs.Valid.{Owner, Pair, entries_in, state_after}
+use Rattle.journal.specs.Valid.{entries_in, state_after}
 use Rattle.journal.specs.declared.state.State.{State}
 use Rattle.journal.specs.declared.state.TakenOver.{TakenOver}
 use Rattle.journal.proofs.Refusals.{refused_changes_nothing}

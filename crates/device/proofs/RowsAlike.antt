@@ -1,9 +1,9 @@
 -- Rows of questions that mean the same.
 use Prim.Native.Nat.{ℕ, suc}
-use mathlib.Core.Path.{◌≡◌, refl, sym, ◌∙◌}
+use mathlib.Core.Path.{◌≡◌, refl}
 use mathlib.Core.Bool.{true, false}
-use mathlib.Core.Logic.{◌⊎◌, inl, inr}
-use Rattle.primitives.specs.Questions.{ask, Row, asked_all, question, AllYes, FirstNoIs, GivesFirstNo}
+use mathlib.Core.Logic.{inl, inr}
+use Rattle.primitives.specs.Questions.{ask, Row, question, AllYes, FirstNoIs, GivesFirstNo}
 use Rattle.primitives.proofs.FirstNo.{gives_ask, gives_same}
 use Rattle.primitives.proofs.Rows.{true-is-not-false}
 

@@ -1,10 +1,10 @@
 -- What the code's types say of an array of names and of a state, and the name at a place.
 use Prim.Native.Nat.{ℕ, zero, suc, ◌≤◌, ◌<◌}
 use mathlib.Core.Path.{◌≡◌, refl, sym, ◌∙◌}
-use mathlib.Core.List.{List, [], ◌∷◌, map, head-eq_of_cons-eq}
+use mathlib.Core.List.{List, [], ◌∷◌, head-eq_of_cons-eq}
 use native.Mathlib.Nat.{le_of_suc-le-suc}
 use native.Mathlib.Omega.{arith}
-use lib.ListN.{length, get_or, length-map}
+use lib.ListN.{length, get_or}
 use lib.Seq.{drop-cons}
 use mir.Val.{Val}
 use denote.Array.{each}
@@ -13,7 +13,7 @@ use denote.Struct.Declared.{row}
 use borrow.Author.Rules.{rules}
 use borrow.Kind.Array.{e_struct}
 use Rattle.receipt.specs.declared.settings.Name.{Name}
-use Rattle.receipt.specs.contracts.settings.Name.{the_type, the_field}
+use Rattle.receipt.specs.contracts.settings.Name.{the_type}
 use Rattle.receipt.proofs.settings.Name.TheLaws.{the_laws, the_copy}
 use Rattle.journal.specs.State.{no_name, TypedState}
 use Rattle.journal.specs.declared.state.State.{State}
@@ -23,18 +23,12 @@ use Rattle.journal.specs.contracts.state.State as state
 abbrev pub Long : List Name → Type 0
 Long ns = (i : ℕ) → i < length ns → length (get_or ns i no_name).bytes ≡ 32
 
--- in an array by value, and in a field of a struct
+-- in an array, by value or in a field of a struct
 pub array_long : (ns : List Name) (us : List Val) → shadow (each Name (e_struct the_type the_laws the_copy).ty.own_val ns us) → Long ns
 array_long [] us p i h = absurd (omega arith)
 array_long (n ∷ ns) [] p i h = absurd p
 array_long (n ∷ ns) (u ∷ us) p zero h = search rules
 array_long (n ∷ ns) (u ∷ us) p (suc i) h = array_long ns us p.1 i (le_of_suc-le-suc h)
-
-field_long : (ns : List Name) (us : List Val) → shadow (each the_field.row.Denot the_field.row.own_val (map the_field.into ns) us) → Long ns
-field_long [] us p i h = absurd (omega arith)
-field_long (n ∷ ns) [] p i h = absurd p
-field_long (n ∷ ns) (u ∷ us) p zero h = search rules
-field_long (n ∷ ns) (u ∷ us) p (suc i) h = field_long ns us p.1 i (le_of_suc-le-suc h)
 
 -- the name at a place does not depend on the one that stands for none
 pub name_any : (ns : List Name) (i : ℕ) (d e : Name) → i < length ns → get_or ns i d ≡ get_or ns i e
@@ -73,8 +67,8 @@ state_long st vs p =
     record {
       csp = search rules;
       id = search rules;
-      eight = sym (length-map st.serials the_field.into) ∙ p.1.1.1.1.0.1.0.1;
-      serials = field_long st.serials p.1.1.1.1.0.0 p.1.1.1.1.0.1.1;
+      eight = p.1.1.1.1.0.1.0.1;
+      serials = array_long st.serials p.1.1.1.1.0.0 p.1.1.1.1.0.1.1;
       key = search rules;
       chain = search rules;
     }

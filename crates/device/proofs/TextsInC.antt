@@ -1,5 +1,5 @@
 -- What the calls on BASE64, BASE32 and SHA-256 answer and leave, in the header's words.
-use Prim.Native.Nat.{ℕ, ◌+◌, ◌-◌, ◌≤◌, ◌<◌}
+use Prim.Native.Nat.{ℕ, ◌+◌, ◌-◌}
 use mathlib.Core.Path.{◌≡◌, refl, sym, ap, ◌∙◌, subst}
 use mathlib.Core.Bool.{Bool, cond}
 use mathlib.Core.List.{List}
@@ -9,7 +9,7 @@ use borrow.Author.Tests.{ne_eqb, le-leb, lt-leb}
 use lib.Dec.{eqb}
 use lib.ListN.{length}
 use Rattle.primitives.specs.Bytes.{AllBytes}
-use Rattle.primitives.specs.Place.{overwrite, placed}
+use Rattle.primitives.specs.Place.{placed}
 use Rattle.primitives.specs.Answers.{written, answer_with, bufferWith}
 use Rattle.primitives.specs.Questions.{ask, ifZero}
 use Rattle.primitives.specs.Base32.{encoding32, decoding32}

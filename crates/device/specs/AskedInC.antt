@@ -17,7 +17,7 @@ use Rattle.receipt.specs.Exact.{Spelled}
 use Rattle.receipt.specs.Code.{id_place}
 use Rattle.receipt.specs.CodeLaws.{IdPart, HasId}
 use Rattle.receipt.specs.declared.datetime.DateTime.{DateTime}
-use Rattle.journal.specs.State.{used, unopened}
+use Rattle.journal.specs.State.{used}
 use Rattle.journal.specs.Certificates.{OneOf}
 use Rattle.journal.specs.Issuing.{text_of}
 use Rattle.journal.specs.Preparing.{prepared_text}

@@ -1,10 +1,8 @@
 -- The layouts of include/ditgrux.h in its own words, apart from the definitions that code follows: settings, state and details as bytes, and what is read of
 -- a state. The proofs are in proofs/LaidOut.antt.
-use Rattle.std.specs.Prelude.{ℕ, ◌+◌, ◌-◌, ◌*◌, ◌≤◌, ◌<◌, ◌≡◌, List, [], ◌∷◌, ◌++◌, ℤ, pos, negsuc, length, get_or, take, drop, replicate}
+use Rattle.std.specs.Prelude.{ℕ, ◌+◌, ◌-◌, ◌*◌, ◌≤◌, ◌<◌, ◌≡◌, List, [], ◌++◌, ℤ, pos, negsuc, length, get_or, take, drop, replicate}
 use Rattle.primitives.specs.Bytes.{AllBytes}
 use Rattle.receipt.specs.declared.settings.Name.{Name}
-use Rattle.receipt.specs.declared.settings.Settings.{Settings}
-use Rattle.receipt.specs.declared.details.Details.{Details}
 use Rattle.journal.specs.State.{no_name}
 use Rattle.journal.specs.declared.state.State.{State}
 use Rattle.device.specs.Layout.{settings_of, width_of, key_of, state_of}

@@ -1,4 +1,6 @@
 // The receipt journal of a cash register for callers in other languages: a state is 447 bytes that the caller keeps.
+#![tactic(auto)]
+
 mod details;
 mod inspection;
 mod layout;

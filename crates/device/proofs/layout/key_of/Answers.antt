@@ -1,0 +1,12 @@
+-- `layout::key_of` meets its contract.
+use borrow.Author.Tests.{eq-eqb, ne_eqb}
+use Rattle.device.specs.Layout.{key_of}
+use Rattle.device.proofs.layout.key_of.Goals as goal
+
+pub returns-then-b-ne-SETTINGS : goal.returns-then-b-ne-SETTINGS
+unfolding key_of
+returns-then-b-ne-SETTINGS c = rw (ne_eqb _ 123 c.if-b-ne-SETTINGS.true)
+
+pub returns : goal.returns
+unfolding key_of
+returns c = rw (eq-eqb _ 123 c.if-b-ne-SETTINGS.false) c.key_at.ensures
