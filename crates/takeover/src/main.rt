@@ -3,6 +3,8 @@
 // input that cannot be read to its end.
 #![tactic(auto)]
 
+ghost use Rattle.takeover.specs.Input.{IsWhole};
+
 use journal::TakenOver;
 use std::io;
 use std::io::{Read, Write};
@@ -25,6 +27,9 @@ fn answer(out: &mut impl Write, input: &[u8]) -> io::Result<()> {
     print_answer(out, journal::take_over(&input[33..], key, width))
 }
 
+// The bytes of the longest input: the byte N, the key and the journal.
+const LONGEST_INPUT: usize = 65536;
+
 // The result of reading the input.
 #[derive(Clone, Copy)]
 enum Input {
@@ -35,7 +40,9 @@ enum Input {
 }
 
 // Reads to the end of the input or of the buffer.
-fn read_input(input: &mut impl Read, buf: &mut [u8]) -> Input {
+fn read_input<R: Read>(input: &mut R, buf: &mut [u8]) -> Input
+    ensures { IsWhole (R.remaining input.old) buf.new result }
+{
     let mut n = 0;
     while n < buf.len() {
         match input.read(&mut buf[n..]) {
@@ -50,7 +57,7 @@ fn read_input(input: &mut impl Read, buf: &mut [u8]) -> Input {
 // The buffer is one byte longer than the input may be, so that the end of the longest input is seen.
 fn main(rt: HostRuntime) -> io::Result<()> {
     let mut out = io::writer(&rt);
-    let mut input = [0u8; 65537];
+    let mut input = [0u8; LONGEST_INPUT + 1];
     match read_input(&mut rt.reader(), &mut input) {
         Input::Ended(n) => answer(&mut out, &input[..n]),
         Input::NoEnd => printing::refused(&mut out, 25, 0),

@@ -17,10 +17,10 @@ pub(crate) fn field(line: &[u8], k: usize) -> &[u8] {
     let mut rest = line;
     for _ in 0..k {
         let e = find(rest, 0, b'\t');
-        if e == rest.len() {
+        let [_, after @ ..] = &rest[e..] else {
             return b"";
-        }
-        rest = &rest[e + 1..];
+        };
+        rest = after;
     }
     let e = find(rest, 0, b'\t');
     &rest[..e]
