@@ -3,13 +3,19 @@
 // input that cannot be read to its end.
 #![tactic(auto)]
 
+ghost use Rattle.std.specs.Prelude.{OnOk};
+ghost use Rattle.std.specs.Io.KnownBytes.{Appends};
+ghost use Rattle.takeover.specs.Answer.{line_of, answer_to};
 ghost use Rattle.takeover.specs.Input.{IsWhole};
 
 use journal::TakenOver;
 use std::io;
 use std::io::{Read, Write};
 
-fn print_answer(out: &mut impl Write, t: TakenOver) -> io::Result<()> {
+// The line of what a take-over answers.
+fn print_answer<W: Write>(out: &mut W, t: TakenOver) -> io::Result<()>
+    ensures { OnOk result (Appends (W.contents out.old) (W.contents out.new) (line_of t)) }
+{
     if t.number != 0 {
         return printing::refused(out, t.number, t.index);
     }
@@ -17,7 +23,9 @@ fn print_answer(out: &mut impl Write, t: TakenOver) -> io::Result<()> {
 }
 
 // Takes over the input.
-fn answer(out: &mut impl Write, input: &[u8]) -> io::Result<()> {
+fn answer<W: Write>(out: &mut W, input: &[u8]) -> io::Result<()>
+    ensures { OnOk result (Appends (W.contents out.old) (W.contents out.new) (answer_to input.now)) }
+{
     if input.len() < 33 {
         return printing::refused(out, 25, 0);
     }
