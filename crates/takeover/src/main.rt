@@ -1,39 +1,45 @@
 // Takes over the journal on standard input: one byte N, 32 bytes of key, then the journal. Prints one line: "accepted", receipts
 // and the counter in cents; or "refused", number and index. Input under 33 or over 65,536 bytes is refused with 25, and so is
 // input that cannot be read to its end.
+#![tactic(auto)]
+
+ghost use Rattle.std.specs.Prelude.{OnOk};
+ghost use Rattle.std.specs.Io.KnownBytes.{Appends};
+ghost use Rattle.takeover.specs.Answer.{line_of, answer_to};
+ghost use Rattle.takeover.specs.Input.{IsWhole};
+
 use journal::TakenOver;
-use libc::STDIN_FILENO;
+use std::io;
+use std::io::{Read, Write};
 
-fn print_answer(t: TakenOver) {
+// The line of what a take-over answers.
+fn print_answer<W: Write>(out: &mut W, t: TakenOver) -> io::Result<()>
+    ensures { OnOk result (Appends (W.contents out.old) (W.contents out.new) (line_of t)) }
+{
     if t.number != 0 {
-        printing::refused(t.number, t.index);
-        return;
+        return printing::refused(out, t.number, t.index);
     }
-    let st = t.state;
-    printing::accepted(st.issued, st.counter);
+    printing::accepted(out, t.state.issued, t.state.counter)
 }
 
-fn wide(b: u8) -> usize {
-    b as usize
-}
-
-// Takes over the input's first n bytes.
-fn answer(input: &[u8], n: usize) {
-    if n < 33 {
-        printing::refused(25, 0);
-        return;
-    }
-    if input.len() < n {
-        printing::refused(25, 0);
-        return;
+// Takes over the input.
+fn answer<W: Write>(out: &mut W, input: &[u8]) -> io::Result<()>
+    ensures { OnOk result (Appends (W.contents out.old) (W.contents out.new) (answer_to input.now)) }
+{
+    if input.len() < 33 {
+        return printing::refused(out, 25, 0);
     }
     let mut key = [0u8; 32];
-    receipt::put(&mut key, 0, &input[1..33]);
-    print_answer(journal::take_over(&input[33..n], key, wide(input[0])));
+    key.copy_from_slice(&input[1..33]);
+    let width = usize::from(input[0]);
+    print_answer(out, journal::take_over(&input[33..], key, width))
 }
 
+// The bytes of the longest input: the byte N, the key and the journal.
+const LONGEST_INPUT: usize = 65536;
+
 // The result of reading the input.
-#[derive(Drop)]
+#[derive(Clone, Copy)]
 enum Input {
     // The input ended after this many bytes.
     Ended(usize),
@@ -42,27 +48,26 @@ enum Input {
 }
 
 // Reads to the end of the input or of the buffer.
-fn read_input(buf: &mut [u8]) -> Input {
-    let mut n: usize = 0;
+fn read_input<R: Read>(input: &mut R, buf: &mut [u8]) -> Input
+    ensures { IsWhole (R.remaining input.old) buf.new result }
+{
+    let mut n = 0;
     while n < buf.len() {
-        let got = libc::read(STDIN_FILENO, &mut buf[n..]);
-        if got < 0 {
-            return Input::NoEnd;
+        match input.read(&mut buf[n..]) {
+            Ok(0) => return Input::Ended(n),
+            Ok(more) => n += more,
+            Err(_) => return Input::NoEnd,
         }
-        let moved = io::count(got, &buf[n..]);
-        if moved == 0 {
-            return Input::Ended(n);
-        }
-        n += moved;
     }
     Input::NoEnd
 }
 
 // The buffer is one byte longer than the input may be, so that the end of the longest input is seen.
-fn main() {
-    let mut input = [0u8; 65537];
-    match read_input(&mut input) {
-        Input::Ended(n) => answer(&input, n),
-        Input::NoEnd => printing::refused(25, 0),
+fn main(rt: HostRuntime) -> io::Result<()> {
+    let mut out = io::writer(&rt);
+    let mut input = [0u8; LONGEST_INPUT + 1];
+    match read_input(&mut rt.reader(), &mut input) {
+        Input::Ended(n) => answer(&mut out, &input[..n]),
+        Input::NoEnd => printing::refused(&mut out, 25, 0),
     }
 }

@@ -6,77 +6,72 @@ use super::takeovers::print_taken;
 use super::text::{decimal, digits, field, unhex};
 use journal::State;
 use receipt::{DateTime, Details, Kind, LONGEST_COMPACT, Name, Settings};
+use std::io;
+use std::io::Write;
 
 // ---- what is printed
 
 // Last number and receipts issued.
-fn write_counts(st: State) {
-    write_number(st.last as u64);
-    write_number(st.issued as u64);
+fn write_counts(out: &mut impl Write, st: State) -> io::Result<()> {
+    write_number(out, u64::from(st.last))?;
+    write_number(out, u64::from(st.issued))
 }
 
 // A state as one line: counter, last number, receipts issued, chain bytes, journal length.
-fn print_state(name: &[u8], st: State) {
-    let chain = st.chain;
-    write_name(name);
-    printing::cents(st.counter);
-    write_counts(st);
-    printing::text(b" ");
-    write_hex(&chain);
-    write_number(st.length as u64);
-    printing::text(b"\n");
+fn print_state(out: &mut impl Write, name: &[u8], st: State) -> io::Result<()> {
+    write_name(out, name)?;
+    printing::cents(out, st.counter)?;
+    write_counts(out, st)?;
+    printing::text(out, b" ")?;
+    write_hex(out, &st.chain)?;
+    write_number(out, st.length as u64)?;
+    printing::text(out, b"\n")
 }
 
 // An ID or a serial, after a blank.
-fn write_letters(n: Name) {
-    let bytes = n.bytes;
-    printing::text(b" ");
-    printing::first(&bytes, n.len);
+fn write_letters(out: &mut impl Write, n: Name) -> io::Result<()> {
+    printing::text(out, b" ")?;
+    printing::first(out, &n.bytes, n.len)
 }
 
 // The settings as one line: CSP, ID, serial, width.
-fn print_settings(name: &[u8], s: Settings, width: usize) {
-    let csp = s.csp;
-    let id = s.id;
-    let serial = s.serial;
-    write_name(name);
-    printing::text(&csp);
-    write_letters(id);
-    write_letters(serial);
-    write_number(width as u64);
-    printing::text(b"\n");
+fn print_settings(out: &mut impl Write, name: &[u8], s: Settings, width: usize) -> io::Result<()> {
+    write_name(out, name)?;
+    printing::text(out, &s.csp)?;
+    write_letters(out, s.id)?;
+    write_letters(out, s.serial)?;
+    write_number(out, width as u64)?;
+    printing::text(out, b"\n")
 }
 
 // The compact form of the entry between two places of a journal.
-fn print_entry(name: &[u8], buf: &[u8], a: usize, e: usize) {
-    if buf.len() < e {
-        return;
+fn print_entry(
+    out: &mut impl Write,
+    name: &[u8],
+    buf: &[u8],
+    a: usize,
+    e: usize,
+) -> io::Result<()> {
+    if buf.len() < e || e < 2 || e - 2 < a {
+        return Ok(());
     }
-    if e < 2 {
-        return;
-    }
-    if e - 2 < a {
-        return;
-    }
-    let start = a + 2;
-    print(name, &buf[start..e]);
+    print(out, name, &buf[a + 2..e])
 }
 
 // ---- a register is opened
 
-fn open_row(line: &[u8], buf: &mut [u8]) -> State {
+fn open_row(out: &mut impl Write, line: &[u8], buf: &mut [u8]) -> io::Result<State> {
     let s = settings_of(field(line, 2), field(line, 3), field(line, 4));
     let n = digits(field(line, 5), 0) as usize;
     let mut key = [0u8; 32];
     unhex(field(line, 6), &mut key);
-    let r = journal::open(s, key, false, n, buf);
-    let st = r.state;
-    if r.number != 0 {
-        print_refused(field(line, 1), r.number);
-        return st;
+    let opened = journal::open(s, key, false, n, buf);
+    if opened.number != 0 {
+        print_refused(out, field(line, 1), opened.number)?;
+    } else {
+        print_state(out, field(line, 1), opened.state)?;
     }
-    print_state(field(line, 1), st);
-    st
+    Ok(opened.state)
 }
 
 // ---- a receipt is issued
@@ -112,12 +107,9 @@ fn amounts_of(line: &[u8]) -> [i64; 5] {
 
 // The kind by its first letter.
 fn kind_of(name: &[u8]) -> Kind {
-    if name.len() == 0 {
-        return Kind::Standard;
-    }
-    match name[0] {
-        b'c' => Kind::Cancellation,
-        b't' => Kind::Training,
+    match name {
+        [b'c', ..] => Kind::Cancellation,
+        [b't', ..] => Kind::Training,
         _ => Kind::Standard,
     }
 }
@@ -132,79 +124,85 @@ fn details_of(line: &[u8]) -> Details {
 }
 
 // The text that the device is given to sign.
-fn print_prepared(name: &[u8], st: State, d: Details) {
-    let mut out = [0u8; LONGEST_COMPACT];
-    let a = journal::prepare(st, d, &mut out);
+fn print_prepared(out: &mut impl Write, name: &[u8], st: State, d: Details) -> io::Result<()> {
+    let mut text = [0u8; LONGEST_COMPACT];
+    let a = journal::prepare(st, d, &mut text);
     if a.number != 0 {
-        print_refused(name, a.number);
-        return;
+        return print_refused(out, name, a.number);
     }
-    print_first(name, &out, a.length);
+    print_first(out, name, &text, a.length)
 }
 
 // A receipt with the first n bytes of a signature: its compact form in the buffer, and the state after it.
-fn issue(name: &[u8], st: State, d: Details, signature: &[u8], n: usize, buf: &mut [u8]) -> State {
-    if signature.len() < n {
-        return st;
+fn issue(
+    out: &mut impl Write,
+    name: &[u8],
+    st: State,
+    d: Details,
+    signature: &[u8],
+    n: usize,
+    buf: &mut [u8],
+) -> io::Result<State> {
+    let Some(signed) = signature.get(..n) else {
+        return Ok(st);
+    };
+    let issued = journal::issue(st, d, signed, buf);
+    let next = issued.state;
+    if issued.number != 0 {
+        print_refused(out, name, issued.number)?;
+    } else {
+        print_entry(out, name, buf, st.length, next.length)?;
+        print_state(out, name, next)?;
     }
-    let at = st.length;
-    let r = journal::issue(st, d, &signature[0..n], buf);
-    let next = r.state;
-    if r.number != 0 {
-        print_refused(name, r.number);
-        return next;
-    }
-    print_entry(name, buf, at, next.length);
-    print_state(name, next);
-    next
+    Ok(next)
 }
 
 // A row without a signature is that of a failed device.
-fn issue_row(st: State, line: &[u8], buf: &mut [u8]) -> State {
+fn issue_row(out: &mut impl Write, st: State, line: &[u8], buf: &mut [u8]) -> io::Result<State> {
     let d = details_of(line);
     let mut signature = [0u8; 64];
     let n = unhex(field(line, 15), &mut signature);
-    print_prepared(field(line, 1), st, d);
-    issue(field(line, 1), st, d, &signature, n, buf)
+    print_prepared(out, field(line, 1), st, d)?;
+    issue(out, field(line, 1), st, d, &signature, n, buf)
 }
 
 // ---- the journal is taken over
 
-fn take_over(name: &[u8], buf: &[u8], st: State) {
-    let n = st.length;
-    if buf.len() < n {
-        return;
-    }
-    let key = st.key;
-    let t = journal::take_over(&buf[0..n], key, st.width);
+fn take_over(out: &mut impl Write, name: &[u8], buf: &[u8], st: State) -> io::Result<()> {
+    let Some(bytes) = buf.get(..st.length) else {
+        return Ok(());
+    };
+    let t = journal::take_over(bytes, st.key, st.width);
     let found = t.state;
-    let settings = journal::settings_now(found);
-    print_taken(name, t);
-    print_settings(name, settings, found.width);
-    print_state(name, found);
+    print_taken(out, name, t)?;
+    print_settings(out, name, journal::settings_now(found), found.width)?;
+    print_state(out, name, found)
 }
 
 // The state of the register, the digest of its journal, and what the journal's take-over finds.
-fn end_row(st: State, line: &[u8], buf: &[u8]) {
+fn end_row(out: &mut impl Write, st: State, line: &[u8], buf: &[u8]) -> io::Result<()> {
     let name = field(line, 1);
-    print_state(name, st);
-    print_digest(name, buf, st.length);
-    take_over(name, buf, st);
+    print_state(out, name, st)?;
+    print_digest(out, name, buf, st.length)?;
+    take_over(out, name, buf, st)
 }
 
 // ---- a row
 
 // The state after a row, by the first letter of its call.
-pub(crate) fn row(st: State, line: &[u8], buf: &mut [u8]) -> State {
-    if line.len() == 0 {
-        return st;
-    }
-    match line[0] {
-        b'o' => open_row(line, buf),
-        b'i' => issue_row(st, line, buf),
+pub(crate) fn row(
+    out: &mut impl Write,
+    st: State,
+    line: &[u8],
+    buf: &mut [u8],
+) -> io::Result<State> {
+    match line {
+        [] => Ok(st),
+        [b'o', ..] => open_row(out, line, buf),
+        [b'i', ..] => issue_row(out, st, line, buf),
         _ => {
-            end_row(st, line, buf);
-            st
+            end_row(out, st, line, buf)?;
+            Ok(st)
         }
     }
 }

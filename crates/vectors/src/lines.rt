@@ -1,55 +1,66 @@
 // The lines that the program writes: a row's name, a tab and what the library makes of the row.
 use super::text::put_hex;
+use std::io;
+use std::io::Write;
 
 // A number in decimal, after a blank.
-pub(crate) fn write_number(n: u64) {
-    printing::text(b" ");
-    printing::number(n);
+pub(crate) fn write_number(out: &mut impl Write, n: u64) -> io::Result<()> {
+    printing::text(out, b" ")?;
+    printing::number(out, n)
 }
 
 // At most 32 bytes in hexadecimal.
-pub(crate) fn write_hex(bytes: &[u8]) {
+pub(crate) fn write_hex(out: &mut impl Write, bytes: &[u8]) -> io::Result<()> {
     let mut text = [0u8; 64];
     let n = put_hex(&mut text, 0, bytes);
-    printing::first(&text, n);
+    printing::first(out, &text, n)
 }
 
 // A row's name and a tab.
-pub(crate) fn write_name(name: &[u8]) {
-    printing::text(name);
-    printing::text(b"\t");
+pub(crate) fn write_name(out: &mut impl Write, name: &[u8]) -> io::Result<()> {
+    printing::text(out, name)?;
+    printing::text(out, b"\t")
 }
 
 // A row's name and its answer, as one line.
-pub(crate) fn print(name: &[u8], res: &[u8]) {
-    let mut line = [0u8; 2048];
-    let a = primitives::put(&mut line, 0, name);
-    let b = primitives::put(&mut line, a, b"\t");
-    let c = primitives::put(&mut line, b, res);
-    let n = primitives::put(&mut line, c, b"\n");
-    printing::first(&line, n);
+pub(crate) fn print(out: &mut impl Write, name: &[u8], answer: &[u8]) -> io::Result<()> {
+    write_name(out, name)?;
+    printing::text(out, answer)?;
+    printing::text(out, b"\n")
 }
 
 // The same, with the first n bytes of a text.
-pub(crate) fn print_first(name: &[u8], text: &[u8], n: usize) {
-    if n <= text.len() {
-        print(name, &text[0..n]);
+pub(crate) fn print_first(
+    out: &mut impl Write,
+    name: &[u8],
+    text: &[u8],
+    n: usize,
+) -> io::Result<()> {
+    match text.get(..n) {
+        Some(part) => print(out, name, part),
+        None => Ok(()),
     }
 }
 
 // The same, with the first n bytes in hexadecimal.
-pub(crate) fn print_hex(name: &[u8], bytes: &[u8], n: usize) {
+pub(crate) fn print_hex(
+    out: &mut impl Write,
+    name: &[u8],
+    bytes: &[u8],
+    n: usize,
+) -> io::Result<()> {
     let mut text = [0u8; 2048];
-    if n <= bytes.len() {
-        let m = put_hex(&mut text, 0, &bytes[0..n]);
-        print_first(name, &text, m);
+    match bytes.get(..n) {
+        Some(part) => {
+            let m = put_hex(&mut text, 0, part);
+            print_first(out, name, &text, m)
+        }
+        None => Ok(()),
     }
 }
 
 // The number of a refused call.
-pub(crate) fn print_refused(name: &[u8], number: u32) {
-    write_name(name);
-    printing::text(b"refused");
-    write_number(number as u64);
-    printing::text(b"\n");
+pub(crate) fn print_refused(out: &mut impl Write, name: &[u8], number: u32) -> io::Result<()> {
+    write_name(out, name)?;
+    writeln!(out, "refused {number}")
 }

@@ -1,4 +1,6 @@
 // Runs the library on the vectors of data/ and prints what it makes of each row.
+#![tactic(auto)]
+
 mod journals;
 mod lines;
 mod opens;
@@ -8,117 +10,141 @@ mod takeovers;
 mod text;
 
 use journal::State;
+use std::io::{Eprint, Read, Write};
+use std::rt::Files;
+use std::{fs, io};
 
-// One line of the file `topic`.
-fn answer(topic: u8, line: &[u8]) {
-    match topic {
-        b's' => primitive::sha256_row(line),
-        b'a' => primitive::aes256_row(line),
-        b'b' => primitive::base_row(line),
-        b'n' => primitive::counter_row(line),
-        b'h' => receipts::chain_row(line),
-        b'i' => receipts::iv_row(line),
-        b'c' => receipts::counter_row(line),
-        b'm' => receipts::code_row(line),
-        b'o' => receipts::compact_row(line),
-        b'p' => opens::row(line),
-        b't' => takeovers::row(line),
-        _ => receipts::amount_row(line),
-    }
+// What the lines of a file ask of the library.
+#[derive(Clone, Copy)]
+enum Topic {
+    Sha256,
+    Aes256,
+    Base,
+    CounterBytes,
+    Chain,
+    CounterIv,
+    Counter,
+    Code,
+    Compact,
+    Amount,
+    Open,
+    Journal,
+    Takeover,
 }
 
-// The register after one line of the file `topic`. Only the lines of the journals change it.
-fn row(topic: u8, st: State, line: &[u8], buf: &mut [u8]) -> State {
-    if topic == b'j' {
-        return journals::row(st, line, buf);
+// The register after one line of a file. Only the lines of the journals change it.
+fn row(
+    out: &mut impl Write,
+    topic: Topic,
+    st: State,
+    line: &[u8],
+    buf: &mut [u8],
+) -> io::Result<State> {
+    match topic {
+        Topic::Sha256 => primitive::sha256_row(out, line)?,
+        Topic::Aes256 => primitive::aes256_row(out, line)?,
+        Topic::Base => primitive::base_row(out, line)?,
+        Topic::CounterBytes => primitive::counter_row(out, line)?,
+        Topic::Chain => receipts::chain_row(out, line)?,
+        Topic::CounterIv => receipts::iv_row(out, line)?,
+        Topic::Counter => receipts::counter_row(out, line)?,
+        Topic::Code => receipts::code_row(out, line)?,
+        Topic::Compact => receipts::compact_row(out, line)?,
+        Topic::Amount => receipts::amount_row(out, line)?,
+        Topic::Open => opens::row(out, line)?,
+        Topic::Takeover => takeovers::row(out, line)?,
+        Topic::Journal => return journals::row(out, st, line, buf),
     }
-    answer(topic, line);
-    st
+    Ok(st)
 }
 
 // All lines of a file's text but the first, which names the columns. The register lives in the buffer.
-fn rows(topic: u8, text: &[u8], buf: &mut [u8], first: State) {
+fn rows(
+    out: &mut impl Write,
+    topic: Topic,
+    text: &[u8],
+    buf: &mut [u8],
+    first: State,
+) -> io::Result<()> {
     let mut st = first;
-    let mut a = text::find(text, 0, b'\n');
-    while a < text.len() {
-        let from = a + 1;
-        let e = text::find(text, from, b'\n');
-        if from < e {
-            let next = row(topic, st, &text[from..e], buf);
-            st = next;
+    for line in text.split(|b| *b == b'\n').skip(1) {
+        if !line.is_empty() {
+            st = row(out, topic, st, line, buf)?;
         }
-        a = e;
     }
+    Ok(())
 }
 
 // Before the first line no register is open.
-fn answer_all(topic: u8, text: &[u8]) {
-    let mut buf = io::buffer();
-    rows(topic, text, &mut buf, journal::unopened());
+fn answer_all(out: &mut impl Write, topic: Topic, text: &[u8]) -> io::Result<()> {
+    let mut buf = [0u8; 4096];
+    rows(out, topic, text, &mut buf, journal::unopened())
 }
 
-// Reads a file of data/, prints its name and answers its lines.
-fn run(topic: u8, path: &[u8]) {
-    let fd = os::open_read(path);
-    if fd < 0 {
-        os::fail(path);
-        return;
-    }
-    let mut buffer = io::large_buffer();
-    let n = io::read_full(fd, &mut buffer);
-    libc::close(fd);
-    printing::text(b"# ");
-    printing::text(path);
-    printing::text(b"\n");
-    answer_all(topic, &buffer[..n]);
+// Reads a file of data/, prints its name and answers its lines. A file that cannot be opened is named on standard error.
+fn run<R: Files + Alloc + Eprint>(
+    rt: &R,
+    out: &mut impl Write,
+    topic: Topic,
+    path: &str,
+) -> io::Result<()> {
+    let mut file = match fs::open(rt, path) {
+        Ok(file) => file,
+        Err(e) => return eprintln!(rt; "{path}: {e}"),
+    };
+    let mut text = Vec::new(rt.alloc());
+    file.read_to_end(&mut text)?;
+    writeln!(out, "# {path}")?;
+    answer_all(out, topic, &text)
 }
 
-fn run_primitives() {
-    run(b's', b"sha256.tsv");
-    run(b'a', b"aes256.tsv");
-    run(b'b', b"base64.tsv");
-    run(b'b', b"base32.tsv");
-    run(b'n', b"counter-bytes.tsv");
+fn run_primitives<R: Files + Alloc + Eprint>(rt: &R, out: &mut impl Write) -> io::Result<()> {
+    run(rt, out, Topic::Sha256, "sha256.tsv")?;
+    run(rt, out, Topic::Aes256, "aes256.tsv")?;
+    run(rt, out, Topic::Base, "base64.tsv")?;
+    run(rt, out, Topic::Base, "base32.tsv")?;
+    run(rt, out, Topic::CounterBytes, "counter-bytes.tsv")
 }
 
-fn run_receipts() {
-    run(b'h', b"chain.tsv");
-    run(b'i', b"counter-iv.tsv");
-    run(b'c', b"counter.tsv");
-    run(b'm', b"code.tsv");
-    run(b'm', b"ocr-line.tsv");
-    run(b'o', b"compact.tsv");
-    run(b'v', b"amount.tsv");
+fn run_receipts<R: Files + Alloc + Eprint>(rt: &R, out: &mut impl Write) -> io::Result<()> {
+    run(rt, out, Topic::Chain, "chain.tsv")?;
+    run(rt, out, Topic::CounterIv, "counter-iv.tsv")?;
+    run(rt, out, Topic::Counter, "counter.tsv")?;
+    run(rt, out, Topic::Code, "code.tsv")?;
+    run(rt, out, Topic::Code, "ocr-line.tsv")?;
+    run(rt, out, Topic::Compact, "compact.tsv")?;
+    run(rt, out, Topic::Amount, "amount.tsv")
 }
 
-fn run_journals() {
-    run(b'p', b"open.tsv");
-    run(b'j', b"journals.tsv");
-    run(b't', b"takeover-1.tsv");
-    run(b't', b"takeover-2.tsv");
-    run(b't', b"takeover-3.tsv");
-    run(b't', b"takeover-4.tsv");
-    run(b't', b"takeover-5.tsv");
-    run(b't', b"takeover-6.tsv");
-    run(b't', b"takeover-7.tsv");
-    run(b't', b"takeover-8.tsv");
+fn run_journals<R: Files + Alloc + Eprint>(rt: &R, out: &mut impl Write) -> io::Result<()> {
+    run(rt, out, Topic::Open, "open.tsv")?;
+    run(rt, out, Topic::Journal, "journals.tsv")?;
+    run(rt, out, Topic::Takeover, "takeover-1.tsv")?;
+    run(rt, out, Topic::Takeover, "takeover-2.tsv")?;
+    run(rt, out, Topic::Takeover, "takeover-3.tsv")?;
+    run(rt, out, Topic::Takeover, "takeover-4.tsv")?;
+    run(rt, out, Topic::Takeover, "takeover-5.tsv")?;
+    run(rt, out, Topic::Takeover, "takeover-6.tsv")?;
+    run(rt, out, Topic::Takeover, "takeover-7.tsv")?;
+    run(rt, out, Topic::Takeover, "takeover-8.tsv")
 }
 
-fn run_pairs() {
-    run(b't', b"takeover-pairs-1.tsv");
-    run(b't', b"takeover-pairs-2.tsv");
-    run(b't', b"takeover-pairs-3.tsv");
-    run(b't', b"takeover-pairs-4.tsv");
-    run(b't', b"takeover-pairs-5.tsv");
-    run(b't', b"takeover-pairs-6.tsv");
-    run(b't', b"takeover-pairs-7.tsv");
-    run(b't', b"takeover-pairs-8.tsv");
-    run(b't', b"takeover-pairs-9.tsv");
+fn run_pairs<R: Files + Alloc + Eprint>(rt: &R, out: &mut impl Write) -> io::Result<()> {
+    run(rt, out, Topic::Takeover, "takeover-pairs-1.tsv")?;
+    run(rt, out, Topic::Takeover, "takeover-pairs-2.tsv")?;
+    run(rt, out, Topic::Takeover, "takeover-pairs-3.tsv")?;
+    run(rt, out, Topic::Takeover, "takeover-pairs-4.tsv")?;
+    run(rt, out, Topic::Takeover, "takeover-pairs-5.tsv")?;
+    run(rt, out, Topic::Takeover, "takeover-pairs-6.tsv")?;
+    run(rt, out, Topic::Takeover, "takeover-pairs-7.tsv")?;
+    run(rt, out, Topic::Takeover, "takeover-pairs-8.tsv")?;
+    run(rt, out, Topic::Takeover, "takeover-pairs-9.tsv")
 }
 
-fn main() {
-    run_primitives();
-    run_receipts();
-    run_journals();
-    run_pairs();
+fn main(rt: HostRuntime) -> io::Result<()> {
+    let mut out = io::writer(&rt);
+    run_primitives(&rt, &mut out)?;
+    run_receipts(&rt, &mut out)?;
+    run_journals(&rt, &mut out)?;
+    run_pairs(&rt, &mut out)
 }

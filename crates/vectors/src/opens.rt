@@ -3,35 +3,33 @@ use super::lines::{print_hex, print_refused};
 use super::receipts::settings_of;
 use super::text::{digits, field, unhex};
 use receipt::Settings;
+use std::io;
+use std::io::Write;
 
 // CSP, ID in hexadecimal, and serial. No row has an ID of more than 32 bytes.
 fn settings_in(line: &[u8]) -> Settings {
     let mut id = [0u8; 32];
     let n = unhex(field(line, 2), &mut id);
-    if 32 < n {
-        return settings_of(field(line, 1), b"", field(line, 3));
-    }
-    settings_of(field(line, 1), &id[0..n], field(line, 3))
+    settings_of(field(line, 1), id.get(..n).unwrap_or(b""), field(line, 3))
 }
 
 // The head that is written, or the number.
-fn open_into(line: &[u8], buf: &mut [u8]) {
+fn open_into(out: &mut impl Write, line: &[u8], buf: &mut [u8]) -> io::Result<()> {
     let s = settings_in(line);
     let n = digits(field(line, 4), 0) as usize;
     let shared = digits(field(line, 6), 0) == 1;
-    let r = journal::open(s, [0u8; 32], shared, n, buf);
-    if r.number != 0 {
-        print_refused(field(line, 0), r.number);
-        return;
+    let opened = journal::open(s, [0u8; 32], shared, n, buf);
+    if opened.number != 0 {
+        return print_refused(out, field(line, 0), opened.number);
     }
-    let st = r.state;
-    print_hex(field(line, 0), buf, st.length);
+    print_hex(out, field(line, 0), buf, opened.state.length)
 }
 
-pub(crate) fn row(line: &[u8]) {
+pub(crate) fn row(out: &mut impl Write, line: &[u8]) -> io::Result<()> {
     let mut buf = [0u8; 128];
     let room = digits(field(line, 5), 0) as usize;
     if room <= 128 {
-        open_into(line, &mut buf[0..room]);
+        open_into(out, line, &mut buf[..room])?;
     }
+    Ok(())
 }

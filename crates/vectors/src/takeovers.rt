@@ -2,45 +2,39 @@
 use super::lines::write_name;
 use super::text::{digits, field, unhex};
 use journal::TakenOver;
+use std::io;
+use std::io::Write;
+
+// The longest input that `takeover` reads.
+const LONGEST_INPUT: usize = 65536;
 
 // What a take-over answered: receipts and counter, or number and index.
-pub(crate) fn print_taken(name: &[u8], t: TakenOver) {
-    write_name(name);
+pub(crate) fn print_taken(out: &mut impl Write, name: &[u8], t: TakenOver) -> io::Result<()> {
+    write_name(out, name)?;
     if t.number != 0 {
-        printing::refused(t.number, t.index);
-        return;
+        return printing::refused(out, t.number, t.index);
     }
-    let st = t.state;
-    printing::accepted(st.issued, st.counter);
+    printing::accepted(out, t.state.issued, t.state.counter)
 }
 
-fn wide(b: u8) -> usize {
-    b as usize
-}
-
-// The first n bytes of an input: one byte N, 32 bytes of key, then the journal.
-fn print_input(name: &[u8], input: &[u8], n: usize) {
+// An input: one byte N, 32 bytes of key, then the journal.
+fn print_input(out: &mut impl Write, name: &[u8], input: &[u8]) -> io::Result<()> {
+    if input.len() < 33 {
+        return Ok(());
+    }
     let mut key = [0u8; 32];
-    if n < 33 {
-        return;
-    }
-    if input.len() < n {
-        return;
-    }
-    primitives::put(&mut key, 0, &input[1..33]);
-    print_taken(name, journal::take_over(&input[33..n], key, wide(input[0])));
+    key.copy_from_slice(&input[1..33]);
+    let width = usize::from(input[0]);
+    print_taken(out, name, journal::take_over(&input[33..], key, width))
 }
 
 // An input in hexadecimal, and the number of zero bytes after it.
-pub(crate) fn row(line: &[u8]) {
-    let mut input = io::large_buffer();
+pub(crate) fn row(out: &mut impl Write, line: &[u8]) -> io::Result<()> {
+    let mut input = [0u8; LONGEST_INPUT];
     let m = unhex(field(line, 1), &mut input);
     let zeros = digits(field(line, 2), 0) as usize;
-    if 65536 < m {
-        return;
+    if LONGEST_INPUT < m || LONGEST_INPUT - m < zeros {
+        return Ok(());
     }
-    if 65536 < zeros {
-        return;
-    }
-    print_input(field(line, 0), &input, m + zeros);
+    print_input(out, field(line, 0), &input[..m + zeros])
 }

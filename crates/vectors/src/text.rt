@@ -6,30 +6,24 @@ pub(crate) fn find(text: &[u8], from: usize, mark: u8) -> usize
     requires { from ≤ length text.now }
     ensures { (from ≤ result) × (result ≤ length text.now) }
 {
-    let mut i = from;
-    while i < text.len() {
-        if text[i] == mark {
-            return i;
-        }
-        i += 1;
+    match text[from..].iter().position(|b| *b == mark) {
+        Some(i) => from + i,
+        None => text.len(),
     }
-    i
 }
 
 // The field after k tabs; empty if there are fewer.
 pub(crate) fn field(line: &[u8], k: usize) -> &[u8] {
-    let mut a: usize = 0;
-    let mut left = k;
-    while 0 < left {
-        let e = find(line, a, b'\t');
-        if e == line.len() {
-            return &line[e..];
-        }
-        a = e + 1;
-        left -= 1;
+    let mut rest = line;
+    for _ in 0..k {
+        let e = find(rest, 0, b'\t');
+        let [_, after @ ..] = &rest[e..] else {
+            return b"";
+        };
+        rest = after;
     }
-    let e = find(line, a, b'\t');
-    &line[a..e]
+    let e = find(rest, 0, b'\t');
+    &rest[..e]
 }
 
 // The number that a hexadecimal letter stands for.
@@ -37,10 +31,7 @@ fn nibble(b: u8) -> u8
     ensures { result ≤ 15 }
 {
     let d = b % 16;
-    if b < 58 {
-        return d;
-    }
-    (d + 9) % 16
+    if b < 58 { d } else { (d + 9) % 16 }
 }
 
 // The byte of two hexadecimal letters.
@@ -50,12 +41,11 @@ fn byte_of(a: u8, b: u8) -> u8 {
 
 // Writes the bytes of a hexadecimal text to the start of a buffer, as many as there is room for; returns the place after them.
 pub(crate) fn unhex(s: &[u8], out: &mut [u8]) -> usize {
-    let mut p: usize = 0;
-    let mut i: usize = 0;
-    while 1 < s.len() - i {
-        let b = [byte_of(s[i], s[i + 1])];
-        p = primitives::put(out, p, &b);
-        i += 2;
+    let mut p = 0;
+    for pair in s.chunks(2) {
+        if let [a, b] = pair {
+            p = primitives::put(out, p, &[byte_of(*a, *b)]);
+        }
     }
     p
 }
@@ -63,57 +53,39 @@ pub(crate) fn unhex(s: &[u8], out: &mut [u8]) -> usize {
 // The hexadecimal letter of a number's four low bits.
 fn letter(n: u8) -> u8 {
     let d = n % 16;
-    if d < 10 {
-        return 48 + d;
-    }
-    87 + d
+    if d < 10 { b'0' + d } else { b'a' - 10 + d }
 }
 
 // Writes bytes in hexadecimal at a place, as many as there is room for; returns the place after them.
 pub(crate) fn put_hex(out: &mut [u8], at: usize, s: &[u8]) -> usize {
     let mut p = at;
-    let mut i: usize = 0;
-    while i < s.len() {
-        let pair = [letter(s[i] / 16), letter(s[i])];
-        p = primitives::put(out, p, &pair);
-        i += 1;
+    for b in s {
+        p = primitives::put(out, p, &[letter(*b / 16), letter(*b)]);
     }
     p
 }
 
 // The number in a decimal text from a place on; 0 if it is above 2^63 + 1.
 pub(crate) fn digits(s: &[u8], from: usize) -> u64 {
-    let mut v: u64 = 0;
-    let mut i = from;
-    while i < s.len() {
+    let mut v = 0;
+    for b in s.iter().skip(from) {
         if 922337203685477580 < v {
             return 0;
         }
-        v = v * 10 + (s[i] % 16) as u64;
-        i += 1;
+        v = v * 10 + u64::from(*b % 16);
     }
     v
 }
 
 // A decimal number of 64 bits, with a '-' if it is negative; 0 if it is out of range.
 pub(crate) fn decimal(s: &[u8]) -> i64 {
-    if s.len() == 0 {
-        return 0;
-    }
-    if s[0] == b'-' {
+    if let [b'-', ..] = s {
         let m = digits(s, 1);
-        if m == 0 {
+        if m == 0 || 9223372036854775808 < m {
             return 0;
         }
-        if 9223372036854775808 < m {
-            return 0;
-        }
-        let k = (m - 1) as i64;
-        return !k;
+        return !((m - 1) as i64);
     }
     let m = digits(s, 0);
-    if 9223372036854775807 < m {
-        return 0;
-    }
-    m as i64
+    i64::try_from(m).unwrap_or(0)
 }

@@ -1,0 +1,27 @@
+-- The bytes after the key are the journal, and the line is that of its take-over.
+use Rattle.std.proofs.Common.{rules, OnOk, ◌≡◌, ◌-◌, ◌≤◌, length, nat_lt, take_all, length-drop, le_refl, take, drop, sym, ap, ◌∙◌, subst, if◌then◌else◌}
+use Rattle.std.specs.Prelude.{slice_index, List, ℕ, false}
+use Rattle.std.specs.Io.KnownBytes.{Appends}
+use Rattle.printing.specs.Line.{refused_line}
+use Rattle.journal.specs.Checking.{take_over}
+use Rattle.takeover.specs.Answer.{line_of, answer_to}
+use Rattle.takeover.proofs.answer.Goals as goal
+
+whole : (k : ℕ) (xs : List ℕ) → take (length xs - k) (drop k xs) ≡ drop k xs
+whole k xs = let e = length-drop k xs in take_all (length xs - k) (drop k xs) (rw e (le_refl (length xs - k)))
+
+not_short : (n : ℕ) → 33 ≤ n → nat_lt n 33 ≡ false
+not_short n h = search rules
+
+pub returns : goal.returns
+returns g c =
+    let input = c.args.input.now in
+    let key = take 32 (drop 1 input) in
+    let taken : c.take_over.result ≡ take_over (drop 33 input) key (slice_index input 0) =
+    c.take_over.ensures
+    ∙ ap (λ j. take_over j c.copy_from_slice.new.self c.from-width.result) (whole 33 input)
+    ∙ ap (λ k. take_over (drop 33 input) k c.from-width.result) c.copy_from_slice.ensures.after
+    ∙ ap (take_over (drop 33 input) key) c.from-width.ensures in
+    let long : answer_to input ≡ line_of (take_over (drop 33 input) key (slice_index input 0)) =
+    ap (λ b. if b then refused_line 25 0 else line_of (take_over (drop 33 input) key (slice_index input 0))) (not_short (length input) c.if-input-lt33.false) in
+    subst (λ l. OnOk c.print_answer.result (Appends (g.W.Write.contents c.args.out.now) (g.W.Write.contents c.print_answer.new.out) l)) (ap line_of taken ∙ sym long) c.print_answer.ensures
