@@ -90,7 +90,8 @@ fn stopped(number: u32, st: State) -> Checked
     }
 }
 
-// Questions 16 to 20, asked of the bytes of one entry.
+// Questions 16 to 20, asked of the bytes of one entry. Inlined: a call copies the state and its answer, which takes stack.
+#[inline(always)]
 fn check_text(schedule: &[[u8; 4]; 60], st: State, text: &[u8]) -> Checked
     requires { (st.issued ≤ st.last) × (st.since ≤ st.issued) × (st.length + 2 + length text.now < 18446744073709551616) }
     ensures { result ≡ text_checked schedule.now st text.now }
