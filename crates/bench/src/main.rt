@@ -2,8 +2,11 @@
 // one before, so that no turn can be left out; the last result is printed for comparison with the other programs.
 #![tactic(auto)]
 
+ghost use Rattle.std.specs.Prelude.{◌≤◌, length};
+
+use std::env::Env;
+use std::io;
 use std::io::Write;
-use std::{env, io};
 
 // The first eight bytes of a result, in hexadecimal.
 fn print(out: &mut impl Write, bytes: &[u8]) -> io::Result<()> {
@@ -61,22 +64,27 @@ fn work(out: &mut impl Write, name: u8, turns: u64) -> io::Result<()> {
     }
 }
 
-// The number in an argument; 0 if there is none.
-fn turns_asked(count: Option<String>) -> u64 {
-    match count {
-        Some(text) => digits(text.as_bytes()),
-        None => 0,
+// Puts an argument at the start of a buffer and returns its length; 0 if there is none, or it is too long for the buffer.
+fn argument(env: &impl Env, which: usize, buf: &mut [u8]) -> usize
+    ensures { result ≤ length buf.new }
+{
+    match env.arg(which, buf) {
+        Ok(n) => n,
+        Err(_) => 0,
     }
 }
 
+// The second argument's number.
+fn turns_asked(env: &impl Env) -> u64 {
+    let mut count = [0u8; 4096];
+    let n = argument(env, 2, &mut count);
+    digits(&count[..n])
+}
+
 fn main(rt: HostRuntime) -> io::Result<()> {
-    let mut out = io::writer(&rt);
-    let mut args = env::args(&rt)?.skip(1);
-    let Some(name) = args.next() else {
-        return Ok(());
-    };
-    match name.as_bytes().first() {
-        Some(letter) => work(&mut out, *letter, turns_asked(args.next())),
-        None => Ok(()),
+    let mut name = [0u8; 4096];
+    if 0 < argument(&rt, 1, &mut name) {
+        return work(&mut io::writer(&rt), name[0], turns_asked(&rt));
     }
+    Ok(())
 }

@@ -1,6 +1,13 @@
 -- What is printed.
-use Rattle.std.specs.Prelude.{ℕ, ◌/◌, ◌%◌, nat_le, false, List, [], ◌∷◌, ◌++◌, ℤ, length, take, flat_map, if◌then◌else◌, codes, decimal}
+use Rattle.std.specs.Prelude.{ℕ, ◌/◌, ◌%◌, ◌≤◌, nat_le, false, List, [], ◌∷◌, ◌++◌, ℤ, length, take, flat_map, if◌then◌else◌, codes, decimal, Option}
+use Rattle.std.specs.Io.KnownBytes.{Appends}
 use Rattle.std.specs.Fmt.{digit_glyph, signed_decimal}
+
+-- known bytes grew by a beginning of bs: by none of it, a part or the whole
+pub record AppendsPart (old new : Option (List ℕ)) (bs : List ℕ) : Type 0 where
+  pub count : ℕ
+  pub within : count ≤ length bs
+  pub appended : Appends old new (take count bs)
 
 -- the first n bytes of a text; nothing where it is shorter
 abbrev pub first_of : ℕ → List ℕ → List ℕ

@@ -3,8 +3,9 @@
 // input that cannot be read to its end.
 #![tactic(auto)]
 
-ghost use Rattle.std.specs.Prelude.{OnOk};
+ghost use Rattle.std.specs.Prelude.{OnOk, OnErr};
 ghost use Rattle.std.specs.Io.KnownBytes.{Appends};
+ghost use Rattle.printing.specs.Line.{AppendsPart};
 ghost use Rattle.takeover.specs.Answer.{line_of, answer_to};
 ghost use Rattle.takeover.specs.Input.{IsWhole};
 
@@ -14,7 +15,8 @@ use std::io::{Read, Write};
 
 // The line of what a take-over answers.
 fn print_answer<W: Write>(out: &mut W, t: TakenOver) -> io::Result<()>
-    ensures { OnOk result (Appends (W.contents out.old) (W.contents out.new) (line_of t)) }
+    ensures ok { OnOk result (Appends (W.contents out.old) (W.contents out.new) (line_of t)) }
+    ensures err { OnErr result (AppendsPart (W.contents out.old) (W.contents out.new) (line_of t)) }
 {
     if t.number != 0 {
         return printing::refused(out, t.number, t.index);
@@ -24,7 +26,8 @@ fn print_answer<W: Write>(out: &mut W, t: TakenOver) -> io::Result<()>
 
 // Takes over the input.
 fn answer<W: Write>(out: &mut W, input: &[u8]) -> io::Result<()>
-    ensures { OnOk result (Appends (W.contents out.old) (W.contents out.new) (answer_to input.now)) }
+    ensures ok { OnOk result (Appends (W.contents out.old) (W.contents out.new) (answer_to input.now)) }
+    ensures err { OnErr result (AppendsPart (W.contents out.old) (W.contents out.new) (answer_to input.now)) }
 {
     if input.len() < 33 {
         return printing::refused(out, 25, 0);

@@ -9,6 +9,8 @@ mod receipts;
 mod takeovers;
 mod text;
 
+ghost use Rattle.std.specs.Prelude.{◌≤◌, length};
+
 use journal::State;
 use std::io::{Eprint, Read, Write};
 use std::rt::Files;
@@ -75,14 +77,31 @@ fn rows(
     Ok(())
 }
 
+// The bytes of a file that are read, at most.
+const LONGEST_TEXT: usize = 65536;
+
 // Before the first line no register is open.
 fn answer_all(out: &mut impl Write, topic: Topic, text: &[u8]) -> io::Result<()> {
     let mut buf = [0u8; 4096];
     rows(out, topic, text, &mut buf, journal::unopened())
 }
 
+// Reads to the end of the file or of the buffer, or up to a read that fails, and returns how many bytes were read.
+fn read_text<R: Read>(file: &mut R, buf: &mut [u8]) -> usize
+    ensures { result ≤ length buf.new }
+{
+    let mut n = 0;
+    while n < buf.len() {
+        match file.read(&mut buf[n..]) {
+            Ok(0) | Err(_) => return n,
+            Ok(more) => n += more,
+        }
+    }
+    n
+}
+
 // Reads a file of data/, prints its name and answers its lines. A file that cannot be opened is named on standard error.
-fn run<R: Files + Alloc + Eprint>(
+fn run<R: Files + Eprint>(
     rt: &R,
     out: &mut impl Write,
     topic: Topic,
@@ -92,13 +111,13 @@ fn run<R: Files + Alloc + Eprint>(
         Ok(file) => file,
         Err(e) => return eprintln!(rt; "{path}: {e}"),
     };
-    let mut text = Vec::new(rt.alloc());
-    file.read_to_end(&mut text)?;
+    let mut text = [0u8; LONGEST_TEXT];
+    let n = read_text(&mut file, &mut text);
     writeln!(out, "# {path}")?;
-    answer_all(out, topic, &text)
+    answer_all(out, topic, &text[..n])
 }
 
-fn run_primitives<R: Files + Alloc + Eprint>(rt: &R, out: &mut impl Write) -> io::Result<()> {
+fn run_primitives<R: Files + Eprint>(rt: &R, out: &mut impl Write) -> io::Result<()> {
     run(rt, out, Topic::Sha256, "sha256.tsv")?;
     run(rt, out, Topic::Aes256, "aes256.tsv")?;
     run(rt, out, Topic::Base, "base64.tsv")?;
@@ -106,7 +125,7 @@ fn run_primitives<R: Files + Alloc + Eprint>(rt: &R, out: &mut impl Write) -> io
     run(rt, out, Topic::CounterBytes, "counter-bytes.tsv")
 }
 
-fn run_receipts<R: Files + Alloc + Eprint>(rt: &R, out: &mut impl Write) -> io::Result<()> {
+fn run_receipts<R: Files + Eprint>(rt: &R, out: &mut impl Write) -> io::Result<()> {
     run(rt, out, Topic::Chain, "chain.tsv")?;
     run(rt, out, Topic::CounterIv, "counter-iv.tsv")?;
     run(rt, out, Topic::Counter, "counter.tsv")?;
@@ -116,7 +135,7 @@ fn run_receipts<R: Files + Alloc + Eprint>(rt: &R, out: &mut impl Write) -> io::
     run(rt, out, Topic::Amount, "amount.tsv")
 }
 
-fn run_journals<R: Files + Alloc + Eprint>(rt: &R, out: &mut impl Write) -> io::Result<()> {
+fn run_journals<R: Files + Eprint>(rt: &R, out: &mut impl Write) -> io::Result<()> {
     run(rt, out, Topic::Open, "open.tsv")?;
     run(rt, out, Topic::Journal, "journals.tsv")?;
     run(rt, out, Topic::Takeover, "takeover-1.tsv")?;
@@ -129,7 +148,7 @@ fn run_journals<R: Files + Alloc + Eprint>(rt: &R, out: &mut impl Write) -> io::
     run(rt, out, Topic::Takeover, "takeover-8.tsv")
 }
 
-fn run_pairs<R: Files + Alloc + Eprint>(rt: &R, out: &mut impl Write) -> io::Result<()> {
+fn run_pairs<R: Files + Eprint>(rt: &R, out: &mut impl Write) -> io::Result<()> {
     run(rt, out, Topic::Takeover, "takeover-pairs-1.tsv")?;
     run(rt, out, Topic::Takeover, "takeover-pairs-2.tsv")?;
     run(rt, out, Topic::Takeover, "takeover-pairs-3.tsv")?;
