@@ -2,10 +2,7 @@
 // broken one is refused.
 #![tactic(auto)]
 
-ghost use Rattle.std.specs.Prelude.{◌≡◌, [], ◌∷◌};
-ghost use Rattle.journal.specs.Listing.{issued_list, list_buffer};
-
-use journal::{IssuedList, State};
+use journal::State;
 use primitives::Alphabet;
 use receipt::{DateTime, Details, Kind, LONGEST_CODE, Settings};
 use std::io;
@@ -31,255 +28,204 @@ fn details(number: u32, minute: u32, amounts: [i64; 5], kind: Kind) -> Details {
     }
 }
 
-// The machine-readable code of the compact form between two places of the journal.
-fn show_code(out: &mut impl Write, buf: &[u8], a: usize, e: usize) -> io::Result<()> {
-    let Some(form) = buf.get(a..e) else {
-        return Ok(());
-    };
-    let mut code = [0u8; LONGEST_CODE];
-    let answer = receipt::code(form, &mut code);
-    write!(out, "  code ")?;
-    printing::first(out, &code, answer.length)?;
-    writeln!(out)
-}
-
-// The chain value, in hexadecimal and as the next receipt spells it.
-fn show_chain(out: &mut impl Write, chain: [u8; 8]) -> io::Result<()> {
-    let mut spelled = [0u8; 12];
-    primitives::base64_encode(Alphabet::Standard, &chain, &mut spelled, 0);
-    write!(out, " cents, chain value ")?;
-    printing::eight(out, &chain)?;
-    write!(out, ", spelled ")?;
-    printing::text(out, &spelled)?;
-    writeln!(out)
-}
-
-// The state after a receipt.
-fn show_state(out: &mut impl Write, st: State) -> io::Result<()> {
-    write!(out, "  number {}, counter {}", st.last, st.counter)?;
-    show_chain(out, st.chain)
-}
-
-fn show_amount(out: &mut impl Write, z: i64) -> io::Result<()> {
-    write!(out, " {z}")
-}
-
-// The five amounts of a receipt: standard, reduced 1, reduced 2, zero, special.
-fn show_amounts(out: &mut impl Write, amounts: [i64; 5]) -> io::Result<()> {
-    write!(out, "  amounts")?;
-    for z in amounts {
-        show_amount(out, z)?;
-    }
-    writeln!(out, " cents")
-}
-
-// Issues a receipt and shows what came of it.
-fn issue(
-    out: &mut impl Write,
-    title: &str,
+// The register, the buffer of its journal, and what its day is shown on.
+#[derive(Drop)]
+struct Day<'a, W> {
+    out: &'a mut W,
+    buf: &'a mut [u8],
     st: State,
-    d: Details,
-    signature: &[u8],
-    buf: &mut [u8],
-) -> io::Result<State> {
-    writeln!(out, "{title}")?;
-    let issued = journal::issue(st, d, signature, buf);
-    let next = issued.state;
-    if issued.number != 0 {
-        writeln!(out, "  refused {}", issued.number)?;
-        return Ok(next);
+}
+
+impl<'a, W: Write> Day<'a, W> {
+    // The machine-readable code of the compact form between two places of the journal.
+    fn show_code(&mut self, a: usize, e: usize) -> io::Result<()> {
+        let Some(form) = self.buf.get(a..e) else {
+            return Ok(());
+        };
+        let mut code = [0u8; LONGEST_CODE];
+        let length = receipt::code(form, &mut code).unwrap_or(0);
+        write!(self.out, "  code ")?;
+        printing::first(self.out, &code, length)?;
+        writeln!(self.out)
     }
-    show_state(out, next)?;
-    show_amounts(out, d.amounts)?;
-    if st.length < ROOM {
-        show_code(out, buf, st.length + 2, next.length)?;
+
+    // The chain value, in hexadecimal and as the next receipt spells it.
+    fn show_chain(&mut self) -> io::Result<()> {
+        let mut spelled = [0u8; 12];
+        primitives::base64_encode(Alphabet::Standard, &self.st.chain, &mut spelled, 0);
+        write!(self.out, " cents, chain value ")?;
+        printing::eight(self.out, &self.st.chain)?;
+        write!(self.out, ", spelled ")?;
+        printing::text(self.out, &spelled)?;
+        writeln!(self.out)
     }
-    Ok(next)
-}
 
-// Changes the certificate and shows what came of it.
-fn change(
-    out: &mut impl Write,
-    title: &str,
-    st: State,
-    serial: &str,
-    buf: &mut [u8],
-) -> io::Result<State> {
-    writeln!(out, "{title}")?;
-    let changed = journal::change(st, receipt::name_of(serial.as_bytes()), buf);
-    if changed.number != 0 {
-        writeln!(out, "  refused {}", changed.number)?;
-    } else {
-        writeln!(out, "  receipts now name serial {serial}")?;
+    // The state after a receipt.
+    fn show_state(&mut self) -> io::Result<()> {
+        write!(
+            self.out,
+            "  number {}, counter {}",
+            self.st.last, self.st.counter
+        )?;
+        self.show_chain()
     }
-    Ok(changed.state)
-}
 
-// Issues three receipts in one call, all with a failed device.
-fn issue_three(st: State, a: Details, b: Details, c: Details, buf: &mut [u8]) -> IssuedList
-    ensures { (result ≡ issued_list st (a ∷ b ∷ c ∷ []) buf.old) × (buf.new ≡ list_buffer st (a ∷ b ∷ c ∷ []) buf.old) }
-{
-    let list = [a, b, c];
-    journal::issue_list(st, &list, buf)
-}
-
-// What came of a list.
-fn show_list(out: &mut impl Write, title: &str, list: IssuedList) -> io::Result<State> {
-    writeln!(out, "{title}")?;
-    write!(out, "  issued {}", list.count)?;
-    if list.number != 0 {
-        write!(out, ", then refused {}", list.number)?;
+    // The five amounts of a receipt: standard, reduced 1, reduced 2, zero, special.
+    fn show_amounts(&mut self, amounts: [i64; 5]) -> io::Result<()> {
+        write!(self.out, "  amounts")?;
+        for z in amounts {
+            write!(self.out, " {z}")?;
+        }
+        writeln!(self.out, " cents")
     }
-    writeln!(out)?;
-    show_state(out, list.state)?;
-    Ok(list.state)
-}
 
-// Issues three receipts in one call and shows what came of it.
-fn issue_together(
-    out: &mut impl Write,
-    title: &str,
-    st: State,
-    a: Details,
-    b: Details,
-    c: Details,
-    buf: &mut [u8],
-) -> io::Result<State> {
-    show_list(out, title, issue_three(st, a, b, c, buf))
-}
-
-// What a take-over of the first n bytes answers.
-fn take_over(
-    out: &mut impl Write,
-    title: &str,
-    buf: &[u8],
-    n: usize,
-    key: [u8; 32],
-) -> io::Result<()> {
-    writeln!(out, "{title}")?;
-    let Some(bytes) = buf.get(..n) else {
-        return Ok(());
-    };
-    let t = journal::take_over(bytes, key, 8);
-    if t.number != 0 {
-        return writeln!(out, "  refused {} at entry {}", t.number, t.index);
+    // Issues a receipt and shows what came of it.
+    fn issue(&mut self, title: &str, d: Details, signature: &[u8]) -> io::Result<()> {
+        writeln!(self.out, "{title}")?;
+        let at = self.st.length;
+        match journal::issue(self.st, d, signature, self.buf) {
+            Ok(after) => self.st = after,
+            Err(refusal) => return writeln!(self.out, "  refused {}", refusal.number()),
+        }
+        self.show_state()?;
+        self.show_amounts(d.amounts)?;
+        if at < ROOM {
+            self.show_code(at + 2, self.st.length)?;
+        }
+        Ok(())
     }
-    let st = t.state;
-    writeln!(
-        out,
-        "  accepted, {} receipts, counter {} cents",
-        st.issued, st.counter
-    )
-}
 
-// The start receipt and a sale.
-fn morning(out: &mut impl Write, opened: State, buf: &mut [u8]) -> io::Result<State> {
-    let sign = [0x5au8; 64];
-    let a = issue(
-        out,
-        "start receipt",
-        opened,
-        details(1, 0, [0, 0, 0, 0, 0], Kind::Standard),
-        &sign,
-        buf,
-    )?;
-    issue(
-        out,
-        "a sale at three rates",
-        a,
-        details(2, 5, [1050, 450, 0, 78, 0], Kind::Standard),
-        &sign,
-        buf,
-    )
-}
+    // Changes the certificate and shows what came of it.
+    fn change(&mut self, title: &str, serial: &str) -> io::Result<()> {
+        writeln!(self.out, "{title}")?;
+        match journal::change(self.st, receipt::name_of(serial.as_bytes()), self.buf) {
+            Ok(after) => {
+                self.st = after;
+                writeln!(self.out, "  receipts now name serial {serial}")
+            }
+            Err(refusal) => writeln!(self.out, "  refused {}", refusal.number()),
+        }
+    }
 
-// A cancellation and a training receipt.
-fn noon(out: &mut impl Write, st: State, buf: &mut [u8]) -> io::Result<State> {
-    let sign = [0xa5u8; 64];
-    let a = issue(
-        out,
-        "a cancellation",
-        st,
-        details(3, 6, [-1050, 0, 0, 0, 0], Kind::Cancellation),
-        &sign,
-        buf,
-    )?;
-    issue(
-        out,
-        "a training receipt",
-        a,
-        details(4, 9, [9900, 0, 0, 0, 0], Kind::Training),
-        &sign,
-        buf,
-    )
-}
+    // Issues receipts in one call, all with a failed device, and shows what came of it.
+    fn issue_together(&mut self, title: &str, list: &[Details]) -> io::Result<()> {
+        let issued = journal::issue_list(self.st, list, self.buf);
+        self.st = issued.state;
+        writeln!(self.out, "{title}")?;
+        write!(self.out, "  issued {}", issued.count)?;
+        if let Some(refusal) = issued.refused {
+            write!(self.out, ", then refused {}", refusal.number())?;
+        }
+        writeln!(self.out)?;
+        self.show_state()
+    }
 
-// The device fails, and a number is used twice.
-fn evening(out: &mut impl Write, st: State, buf: &mut [u8]) -> io::Result<State> {
-    let a = issue(
-        out,
-        "a sale while the signature device has failed",
-        st,
-        details(5, 30, [0, 320, 0, 0, 0], Kind::Standard),
-        b"",
-        buf,
-    )?;
-    issue(
-        out,
-        "the same number again",
-        a,
-        details(5, 31, [100, 0, 0, 0, 0], Kind::Standard),
-        b"",
-        buf,
-    )
-}
+    // What a take-over of the journal answers.
+    fn take_over(&mut self, title: &str, key: [u8; 32]) -> io::Result<()> {
+        writeln!(self.out, "{title}")?;
+        let n = self.st.length;
+        let Some(bytes) = self.buf.get(..n) else {
+            return Ok(());
+        };
+        match journal::take_over(bytes, key, 8) {
+            Ok(st) => writeln!(
+                self.out,
+                "  accepted, {} receipts, counter {} cents",
+                st.issued, st.counter
+            ),
+            Err(refused) => writeln!(
+                self.out,
+                "  refused {} at entry {}",
+                refused.question.number(),
+                refused.index
+            ),
+        }
+    }
 
-// The certificate is changed, a receipt names the new serial, and the old one cannot come back.
-fn night(out: &mut impl Write, st: State, buf: &mut [u8]) -> io::Result<State> {
-    let sign = [0x3cu8; 64];
-    let a = change(out, "a new certificate", st, "4d5e6f", buf)?;
-    let b = issue(
-        out,
-        "a sale under the new certificate",
-        a,
-        details(6, 40, [0, 0, 275, 0, 0], Kind::Standard),
-        &sign,
-        buf,
-    )?;
-    change(out, "the old certificate again", b, "1a2b3c", buf)
-}
+    // The start receipt and a sale.
+    fn morning(&mut self) -> io::Result<()> {
+        let sign = [0x5au8; 64];
+        self.issue(
+            "start receipt",
+            details(1, 0, [0, 0, 0, 0, 0], Kind::Standard),
+            &sign,
+        )?;
+        self.issue(
+            "a sale at three rates",
+            details(2, 5, [1050, 450, 0, 78, 0], Kind::Standard),
+            &sign,
+        )
+    }
 
-// A table's orders were keyed while the signature device was down: they are issued together, up to the first that is refused.
-fn closing_time(out: &mut impl Write, st: State, buf: &mut [u8]) -> io::Result<State> {
-    let a = issue_together(
-        out,
-        "three orders of a table, keyed while the signature device was down",
-        st,
-        details(7, 50, [0, 890, 0, 0, 0], Kind::Standard),
-        details(8, 51, [0, 420, 0, 0, 0], Kind::Standard),
-        details(9, 52, [0, -420, 0, 0, 0], Kind::Cancellation),
-        buf,
-    )?;
-    issue_together(
-        out,
-        "three more, two of them with the same number",
-        a,
-        details(10, 55, [0, 360, 0, 0, 0], Kind::Standard),
-        details(10, 56, [0, 240, 0, 0, 0], Kind::Standard),
-        details(11, 57, [0, 180, 0, 0, 0], Kind::Standard),
-        buf,
-    )
-}
+    // A cancellation and a training receipt.
+    fn noon(&mut self) -> io::Result<()> {
+        let sign = [0xa5u8; 64];
+        self.issue(
+            "a cancellation",
+            details(3, 6, [-1050, 0, 0, 0, 0], Kind::Cancellation),
+            &sign,
+        )?;
+        self.issue(
+            "a training receipt",
+            details(4, 9, [9900, 0, 0, 0, 0], Kind::Training),
+            &sign,
+        )
+    }
 
-// One letter changed into another one of BASE64-URL.
-fn flip(buf: &mut [u8], at: usize) {
-    if at < buf.len() {
-        buf[at] ^= 1;
+    // The device fails, and a number is used twice.
+    fn evening(&mut self) -> io::Result<()> {
+        self.issue(
+            "a sale while the signature device has failed",
+            details(5, 30, [0, 320, 0, 0, 0], Kind::Standard),
+            b"",
+        )?;
+        self.issue(
+            "the same number again",
+            details(5, 31, [100, 0, 0, 0, 0], Kind::Standard),
+            b"",
+        )
+    }
+
+    // The certificate is changed, a receipt names the new serial, and the old one cannot come back.
+    fn night(&mut self) -> io::Result<()> {
+        self.change("a new certificate", "4d5e6f")?;
+        self.issue(
+            "a sale under the new certificate",
+            details(6, 40, [0, 0, 275, 0, 0], Kind::Standard),
+            &[0x3cu8; 64],
+        )?;
+        self.change("the old certificate again", "1a2b3c")
+    }
+
+    // A table's orders were keyed while the signature device was down: they are issued together, up to the first that is refused.
+    fn closing_time(&mut self) -> io::Result<()> {
+        self.issue_together(
+            "three orders of a table, keyed while the signature device was down",
+            &[
+                details(7, 50, [0, 890, 0, 0, 0], Kind::Standard),
+                details(8, 51, [0, 420, 0, 0, 0], Kind::Standard),
+                details(9, 52, [0, -420, 0, 0, 0], Kind::Cancellation),
+            ],
+        )?;
+        self.issue_together(
+            "three more, two of them with the same number",
+            &[
+                details(10, 55, [0, 360, 0, 0, 0], Kind::Standard),
+                details(10, 56, [0, 240, 0, 0, 0], Kind::Standard),
+                details(11, 57, [0, 180, 0, 0, 0], Kind::Standard),
+            ],
+        )
+    }
+
+    // One letter changed into another one of BASE64-URL.
+    fn flip(&mut self, at: usize) {
+        if let Some(letter) = self.buf.get_mut(at) {
+            *letter ^= 1;
+        }
     }
 }
 
 fn main(rt: HostRuntime) -> io::Result<()> {
-    let mut out = io::writer(&rt);
     let key = [7u8; 32];
     let mut buf = [0u8; ROOM];
     let s = Settings {
@@ -287,20 +233,22 @@ fn main(rt: HostRuntime) -> io::Result<()> {
         id: receipt::name_of(b"SHOP-1"),
         serial: receipt::name_of(b"1a2b3c"),
     };
-    let opened = journal::open(s, key, false, 8, &mut buf);
-    writeln!(out, "register SHOP-1 opened")?;
-    let first = morning(&mut out, opened.state, &mut buf)?;
-    let second = noon(&mut out, first, &mut buf)?;
-    let third = evening(&mut out, second, &mut buf)?;
-    let fourth = night(&mut out, third, &mut buf)?;
-    let st = closing_time(&mut out, fourth, &mut buf)?;
-    take_over(&mut out, "the journal is taken over", &buf, st.length, key)?;
-    flip(&mut buf, 190);
-    take_over(
-        &mut out,
+    let st = journal::open(s, key, false, 8, &mut buf).unwrap_or(journal::unopened());
+    let mut day = Day {
+        out: &mut io::writer(&rt),
+        buf: &mut buf,
+        st,
+    };
+    writeln!(day.out, "register SHOP-1 opened")?;
+    day.morning()?;
+    day.noon()?;
+    day.evening()?;
+    day.night()?;
+    day.closing_time()?;
+    day.take_over("the journal is taken over", key)?;
+    day.flip(190);
+    day.take_over(
         "one letter of the first receipt's signature is changed: the second receipt's chain field no longer matches",
-        &buf,
-        st.length,
         key,
     )
 }

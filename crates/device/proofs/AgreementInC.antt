@@ -1,13 +1,7 @@
 -- Demand 3 of the C library: what the journal proves of its registers holds of the bytes of a C program, both ways.
-use Prim.Native.Nat.{ℕ, ◌<◌}
-use mathlib.Core.Path.{◌≡◌, refl, sym, ap, ◌∙◌, subst}
-use mathlib.Core.Bool.{Bool, true, false}
-use mathlib.Core.List.{List, [], ◌∷◌, ◌++◌, map}
-use native.Mathlib.Omega.{arith}
-use borrow.Author.Tests.{eqb-true, eqb-false}
-use lib.Dec.{eqb}
-use lib.IntN.{ℤ}
-use lib.ListN.{length, take, replicate, length-map}
+use Rattle.std.proofs.Common.{ℕ, ◌<◌, ◌≡◌, refl, sym, ap, ◌∙◌, subst, Bool, true, false, List, [], ◌∷◌, ◌++◌, map, arith, eqb-true, eqb, ℤ, length, take, replicate}
+use Rattle.std.proofs.lemmas.Bool.{eqb-false}
+use Rattle.std.proofs.lemmas.List.{length-map}
 use Rattle.primitives.specs.Bytes.{AllBytes}
 use Rattle.primitives.specs.Counter.{width_good}
 use Rattle.primitives.specs.Questions.{ask}
@@ -20,7 +14,8 @@ use Rattle.receipt.specs.declared.settings.Letters.TheVariants.{Id, Serial}
 use Rattle.receipt.specs.declared.entry.Entry.{Entry}
 use Rattle.receipt.proofs.Names.{good_name, letters_bytes, text_short, name_of_lem, id_own, settings_yes}
 use Rattle.receipt.proofs.Entries.{settings_all, admitted}
-use Rattle.journal.specs.State.{TypedName, TypedRegister, TypedState}
+use Rattle.journal.specs.State.{TypedName, TypedRegister, TypedState, Opened}
+use Rattle.journal.specs.declared.state.TakenOver.{TakenOver}
 use Rattle.journal.specs.Opening.{open_number}
 use Rattle.journal.specs.Checking.{accepted, take_over}
 use Rattle.journal.specs.Receipts.{Receipt, receipts_in}
@@ -28,8 +23,6 @@ use Rattle.journal.specs.Valid.{Owner, Pair, settings_for, Placed, placed_under,
 use Rattle.journal.specs.Calls.{Call, issue, change, Register, journal_of, opening, calls, numbers_of, receipts_of, Period, periods_from, periods_in, order_of, issues_of, later_calls, calls_of}
 use Rattle.journal.specs.Demands.{Written, Again}
 use Rattle.journal.specs.declared.state.State.{State}
-use Rattle.journal.specs.declared.state.Opened.{Opened}
-use Rattle.journal.specs.declared.state.TakenOver.{TakenOver}
 use Rattle.journal.proofs.Placing.{Core, step_core, RightFor, AllRight, right_split, Names}
 use Rattle.journal.proofs.Placing as placing
 use Rattle.journal.proofs.Passing.{typed_for, good_for}

@@ -1,20 +1,15 @@
 -- The calls from C give the number of their first "no", and ask the key, the width and the state as the header says.
-use Prim.Native.Nat.{ℕ, zero, suc, ◌+◌, ◌-◌, ◌≤◌, ◌<◌}
-use mathlib.Core.Path.{◌≡◌, refl, sym, ap, ◌∙◌, subst}
-use mathlib.Core.Bool.{Bool, true, false, cond}
-use mathlib.Core.List.{List, [], ◌∷◌, ◌++◌}
-use mathlib.Core.Option.{Option, none, some}
-use native.Mathlib.Omega.{arith}
-use borrow.Author.Tests.{eq-eqb, ne_eqb, eqb-true, eqb-false}
-use lib.Dec.{eqb}
-use lib.IntN.{ℤ, pos, ◌+ℤ◌, +ℤ_assoc, +ℤ_idr}
-use lib.ListN.{length, get_or, replicate, get_or-append}
-use lib.Seq.{take_all}
+use Rattle.std.proofs.Common.{ℕ, zero, suc, ◌+◌, ◌-◌, ◌≤◌, ◌<◌, ◌≡◌, refl, sym, ap, ◌∙◌, subst, Bool, true, false, cond, List, [], ◌∷◌, ◌++◌, arith, eq-eqb, ne_eqb, eqb-true, eqb, ℤ, pos, ◌+ℤ◌, length, get_or, replicate, take_all}
+use Rattle.std.proofs.Math.Option.{Option, none, some}
+use Rattle.std.proofs.lemmas.Bool.{eqb-false}
+use lib.IntN.{+ℤ_assoc, +ℤ_idr}
+use lib.ListN.{get_or-append}
 use Rattle.primitives.specs.Bytes.{AllBytes}
 use Rattle.primitives.specs.Counter.{width_good, counter_fits}
 use Rattle.primitives.specs.Questions.{ask, ifZero, Row, asked_all, question, GivesFirstNo}
 use Rattle.primitives.proofs.FirstNo.{gives_none, gives_ask, gives_same}
 use Rattle.primitives.proofs.Rows.{ifZero-yes, ifZero-no}
+use Rattle.receipt.specs.Compact.{Found}
 use Rattle.receipt.specs.Settings.{name_of}
 use Rattle.receipt.specs.SettingsWords.{IdByte, SerialByte, GoodCsp, GoodId, GoodSerial, GoodWidth, NoDigitIfShared, one_to_four}
 use Rattle.receipt.specs.DetailsWords.{GoodStart, amounts_taken, added_up}
@@ -24,23 +19,20 @@ use Rattle.receipt.specs.declared.datetime.DateTime.{DateTime}
 use Rattle.receipt.specs.declared.details.Kind.{Kind}
 use Rattle.receipt.specs.declared.details.Kind.TheVariants.{Standard, Cancellation, Training}
 use Rattle.receipt.specs.declared.details.Details.{Details}
-use Rattle.receipt.specs.declared.entry.Found.{Found}
 use Rattle.receipt.proofs.Entries.{length_array}
 use Rattle.receipt.proofs.ExactEntry.{exact}
 use Rattle.receipt.proofs.SettingsMeaning.{width_means, one_to_four_asked}
-use Rattle.journal.specs.State.{unopened}
+use Rattle.journal.specs.State.{unopened, Opened}
+use Rattle.journal.specs.declared.state.TakenOver.{TakenOver}
 use Rattle.journal.specs.Opening.{open_number}
 use Rattle.journal.specs.Preparing.{prepare_number, prepare_answer}
 use Rattle.journal.specs.Checking.{head_number, refused, check_head, take_over}
 use Rattle.journal.specs.Parts.{handed_back, check_steps}
 use Rattle.journal.specs.Asked.{open_row, details_row, issue_row, prepare_row, change_row}
 use Rattle.journal.specs.declared.state.State.{State}
-use Rattle.journal.specs.declared.state.Opened.{Opened}
-use Rattle.journal.specs.declared.state.TakenOver.{TakenOver}
 use Rattle.journal.proofs.Answers.{issued-number}
 use Rattle.journal.proofs.FirstNo.{bool_no}
 use Rattle.journal.proofs.CheckCalls.{head_width}
-use Rattle.journal.proofs.PartCalls.{handed_is}
 use Rattle.journal.proofs.Asking.{open_gives_first_no, issue_gives_first_no, prepare_gives_first_no, change_gives_first_no, check_asks_six}
 use Rattle.device.specs.Layout.{array_of, settings_at, no_settings, settings_of, width_of, key_of, state_of}
 use Rattle.device.specs.Details.{no_details, date_of, details_with, of_kind, details_of, kind_number}
@@ -51,9 +43,9 @@ use Rattle.device.specs.Inspection.{export_answer, export_output}
 use Rattle.exports.specs.Shape.{Element}
 use Rattle.exports.specs.Writing.{exported, export_buffer}
 use Rattle.exports.specs.Parsed.{elements_of}
-use Rattle.exports.specs.Reading.{journal_of_elements, elements_number, not_read, restored_from, restored_by, restored, restored_buffer}
-use Rattle.exports.specs.declared.reading.Restored.{Restored}
+use Rattle.exports.specs.Reading.{journal_of_elements, elements_number, not_read, restored_from, restored_by, restored, restored_buffer, Restored}
 use Rattle.exports.proofs.Promising.{refused_by_take_over}
+use Rattle.device.proofs.Zeros.{handed_is}
 use Rattle.device.proofs.ExportCalls.{answer_six, answer_read, output_read}
 use Rattle.device.proofs.RowsAlike.{gives_yes, gives_no, Like, like_same, like_question, gives_like}
 use Rattle.device.proofs.Below.{opened_number_lem, changed_number_lem}

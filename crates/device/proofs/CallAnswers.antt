@@ -1,21 +1,12 @@
 -- What the calls of a register show at their returns, over plain variables.
-use Prim.Native.Nat.{ℕ, ◌-◌, ◌≤◌, ◌<◌}
-use mathlib.Core.Path.{◌≡◌, refl, sym, ap, ◌∙◌}
-use mathlib.Core.Bool.{Bool, true, false, cond}
-use mathlib.Core.List.{List, [], ◌∷◌}
-use native.Mathlib.Omega.{arith}
-use borrow.Author.Tests.{eq-eqb, ne_eqb, eqb-true, le-leb, lt-leb}
-use lib.Dec.{eqb}
-use lib.IntN.{ℤ}
-use lib.ListN.{length, get_or, take}
-use lib.Seq.{take_all, length-take-le}
-use mir.Syntax.{w64}
-use mir.Val.{SFits, to_z, of_z}
-use mir.ValLaws.{to_z-of_z}
+use Rattle.std.proofs.lemmas.Int.{to_z-of_z}
+use Rattle.std.proofs.Common.{ℕ, ◌≤◌, ◌<◌, min, ◌≡◌, refl, sym, ap, ◌∙◌, Bool, true, false, cond, List, [], ◌∷◌, arith, eq-eqb, ne_eqb, eqb-true, le-leb, eqb, ℤ, length, get_or, take, w64, SFits, to_z, of_z}
+use Rattle.std.proofs.lemmas.Bool.{lt-leb}
+use Rattle.std.proofs.lemmas.List.{length-take, take_min}
+use Rattle.primitives.specs.Answers.{Answer}
 use Rattle.primitives.specs.Place.{overwrite, placed}
 use Rattle.primitives.specs.Counter.{width_good}
 use Rattle.primitives.specs.Questions.{ask}
-use Rattle.primitives.specs.declared.answer.Answer.{Answer}
 use Rattle.primitives.proofs.Over.{placed_full}
 use Rattle.primitives.proofs.Rows.{ask_zero, ask_yes, ask_no, ifZero-yes, ifZero-no}
 use Rattle.receipt.specs.Settings.{name_text, name_of, settings_number, SettingsLengths}
@@ -23,25 +14,21 @@ use Rattle.receipt.specs.declared.settings.Name.{Name}
 use Rattle.receipt.specs.declared.settings.Settings.{Settings}
 use Rattle.receipt.specs.declared.datetime.DateTime.{DateTime}
 use Rattle.receipt.specs.declared.details.Details.{Details}
-use Rattle.receipt.proofs.Names.{text_short, settings_zero, settings_pass, settings_stop}
-use Rattle.journal.specs.State.{no_name, used, unopened}
+use Rattle.receipt.proofs.Names.{settings_zero, settings_pass, settings_stop}
+use Rattle.journal.specs.State.{no_name, used, unopened, Opened, Issued, Changed}
+use Rattle.journal.specs.declared.state.TakenOver.{TakenOver}
 use Rattle.journal.specs.Opening.{opened, open_buffer}
 use Rattle.journal.specs.Preparing.{prepare_answer, prepare_buffer}
 use Rattle.journal.specs.Issuing.{issued, issue_buffer}
 use Rattle.journal.specs.Changing.{changed, change_buffer}
 use Rattle.journal.specs.Checking.{take_over}
 use Rattle.journal.specs.declared.state.State.{State}
-use Rattle.journal.specs.declared.state.Opened.{Opened}
-use Rattle.journal.specs.declared.state.Issued.{Issued}
-use Rattle.journal.specs.declared.state.Changed.{Changed}
-use Rattle.journal.specs.declared.state.TakenOver.{TakenOver}
-use Rattle.journal.proofs.Serials.{used_at}
 use Rattle.device.specs.Layout.{settings_bytes, array_of, settings_of, width_of, key_of, state_of, kept}
 use Rattle.device.specs.Details.{date_of, of_kind, details_of}
 use Rattle.device.specs.Calls.{width_with, settings_answer, settings_buffer, Slices, open_answer, opened_number, opened_slices, serial_in, serial_answer, settings_in, settings_in_buffer, IssueCall, order_in, issue_answer, issued_number, issued_slices, change_answer, changed_number, changed_slices, take_over_answer}
 use Rattle.device.proofs.Sizes.{array_whole, width_whole, key_long, kept_not, open_six, open_answer_lem, take_six, take_answer}
 use Rattle.device.proofs.Reading.{over_all}
-use Rattle.device.proofs.Slots.{name_any, name_none, Lengths}
+use Rattle.device.proofs.Slots.{used_at, name_any, name_none, Lengths}
 use Rattle.device.proofs.Writers.{length_settings}
 
 -- ---- settings
@@ -113,26 +100,18 @@ module _ (st : State) (which : ℕ) {k : ℕ} (e : k ≡ length (used st.serials
 -- the text of a serial, which ends within its array
 module _ (S s : Name) (es : s ≡ S) (long : length s.bytes ≡ 32) where
   abbrev pub Part : ℕ → Type 0
-  Part n = (take (n - 0) s.bytes ≡ name_text S) × (length (name_text S) ≡ n)
+  Part n = (take n s.bytes ≡ name_text S) × (length (name_text S) ≡ n)
 
   text_is : take s.len s.bytes ≡ name_text S
   unfolding name_text
   text_is = ap name_text es
 
-  pub text_whole : {n : ℕ} → s.len ≤ 32 → n ≡ s.len → Part n
-  text_whole {n} h q =
-      let m : n - 0 ≡ s.len = omega (arith, q) in
-      (ap (λ (k : ℕ). take k s.bytes) m ∙ text_is, sym (ap length text_is) ∙ length-take-le s.len s.bytes (omega arith) ∙ sym q)
-
-  pub text_cut : {n : ℕ} → 32 < s.len → n ≡ 32 → Part n
-  text_cut {n} h q =
-      let e = sym (take_all s.len s.bytes (omega arith)) ∙ text_is in
-      (take_all (n - 0) s.bytes (omega (arith, q)) ∙ e, sym (ap length e) ∙ omega (arith, q))
+  pub text_cut : {n : ℕ} → n ≡ min s.len 32 → Part n
+  text_cut {n} q =
+      let m : n ≡ min s.len (length s.bytes) = q ∙ ap (min s.len) (sym long) in
+      (ap (λ (k : ℕ). take k s.bytes) m ∙ take_min s.len s.bytes ∙ text_is, sym (ap length text_is) ∙ length-take s.len s.bytes ∙ sym m)
 
   module _ (out : List ℕ) {n : ℕ} (p : Part n) where
-    pub part_ends : n ≤ length s.bytes
-    part_ends = omega (arith, p.1, text_short S (sym (ap (λ (x : Name). length x.bytes) es) ∙ long))
-
     pub serial_short : length out < n
         → (23 ≡ (serial_answer (name_text S) (length out)).number) × (out ≡ placed out 0 (name_text S)) × (0 ≡ (serial_answer (name_text S) (length out)).length)
     unfolding serial_answer
@@ -141,7 +120,7 @@ module _ (S s : Name) (es : s ≡ S) (long : length s.bytes ≡ 32) where
         let e = ask_no 23 0 (lt-leb (length (name_text S)) (length out) (omega arith)) in
         (sym e, sym (placed_full out 0 (name_text S) (omega arith)), sym (ifZero-no _ (length (name_text S)) 0 (λ z. omega (arith, z, e))))
 
-    pub serial_done : {out₁ : List ℕ} → n ≤ length out → out₁ ≡ placed out 0 (take (n - 0) s.bytes)
+    pub serial_done : {out₁ : List ℕ} → n ≤ length out → out₁ ≡ placed out 0 (take n s.bytes)
         → (0 ≡ (serial_answer (name_text S) (length out)).number) × (out₁ ≡ placed out 0 (name_text S)) × (n ≡ (serial_answer (name_text S) (length out)).length)
     unfolding serial_answer
     serial_done h q =

@@ -1,14 +1,6 @@
 -- The slices of a C program hold what the journal's register holds, call by call.
-use Prim.Native.Nat.{ℕ, zero, suc, ◌*◌, ◌/◌, ◌%◌, ◌≤◌, ◌<◌}
-use mathlib.Core.Path.{◌≡◌, refl, sym, ap, ◌∙◌, subst}
-use mathlib.Core.Bool.{Bool, true, false, cond}
-use mathlib.Core.List.{List, [], ◌∷◌, ◌++◌, map}
-use native.Mathlib.Omega.{arith}
-use borrow.Author.Tests.{eq-eqb, eqb-true, eqb-false}
-use lib.Dec.{eqb}
-use lib.IntN.{ℤ}
-use lib.ListN.{length, take, drop, length-drop}
-use lib.Seq.{length-take-le}
+use Rattle.std.proofs.Common.{ℕ, zero, suc, ◌*◌, ◌/◌, ◌%◌, ◌≤◌, ◌<◌, ◌≡◌, refl, sym, ap, ◌∙◌, subst, Bool, true, false, cond, List, [], ◌∷◌, ◌++◌, map, arith, eq-eqb, eqb-true, eqb, ℤ, length, take, drop, length-drop, length-take-le}
+use Rattle.std.proofs.lemmas.Bool.{eqb-false}
 use Rattle.primitives.specs.Bytes.{AllBytes}
 use Rattle.primitives.specs.Questions.{ifZero}
 use Rattle.primitives.proofs.ByteLists.{bytes_take, bytes_drop}
@@ -19,7 +11,7 @@ use Rattle.receipt.specs.declared.datetime.DateTime.{DateTime}
 use Rattle.receipt.specs.declared.details.Kind.TheVariants.{Standard, Cancellation, Training}
 use Rattle.receipt.specs.declared.details.Details.{Details}
 use Rattle.receipt.proofs.Entries.{len_of, length_array, bytes_array}
-use Rattle.journal.specs.State.{TypedName, TypedState}
+use Rattle.journal.specs.State.{TypedName, TypedState, Opened}
 use Rattle.journal.specs.Opening.{open_number, open_buffer}
 use Rattle.journal.specs.Issuing.{issued, issue_buffer}
 use Rattle.journal.specs.Listing.{issued_list, list_buffer}
@@ -28,7 +20,6 @@ use Rattle.journal.specs.Receipts.{Receipt}
 use Rattle.journal.specs.Valid.{Owner, Pair}
 use Rattle.journal.specs.Calls.{TypedOrder, Call, issue, issue_list, change, TypedList, nothing, also, TypedCall, issues, lists, changes, TypedCalls, none, more, Register, opening, number_of, numbers_of, receipt_of_call, first_receipts, receipts_of_list, receipts_of, Period, periods_from, call, calls}
 use Rattle.journal.specs.declared.state.State.{State}
-use Rattle.journal.specs.declared.state.Opened.{Opened}
 use Rattle.journal.proofs.OpenCalls.{open_zero}
 use Rattle.journal.proofs.Accepting.{owner_in}
 use Rattle.journal.proofs.Pairs.{wider, empty_pair}

@@ -1,19 +1,17 @@
 -- The export over bytes: what the two calls show at their returns, and what holds of them.
-use Prim.Native.Nat.{ℕ}
-use mathlib.Core.Path.{◌≡◌, refl, sym, ap, ◌∙◌}
-use mathlib.Core.Bool.{Bool, true, false}
-use mathlib.Core.List.{List}
-use borrow.Author.Tests.{eq-eqb, ne_eqb, eqb-true, eqb-false}
-use lib.Dec.{eqb}
-use lib.ListN.{length}
+use Rattle.std.proofs.Common.{ℕ, ◌≡◌, refl, sym, ap, ◌∙◌, Bool, true, false, List, eq-eqb, ne_eqb, eqb-true, eqb, length}
+use Rattle.std.proofs.lemmas.Bool.{eqb-false}
 use Rattle.journal.specs.State.{unopened}
+use Rattle.journal.specs.declared.state.TakenOver.{TakenOver}
 use Rattle.journal.specs.Checking.{take_over}
 use Rattle.journal.specs.declared.state.State.{State}
-use Rattle.journal.specs.declared.state.TakenOver.{TakenOver}
-use Rattle.exports.specs.Writing.{exported, export_buffer}
-use Rattle.exports.specs.Reading.{not_read, restored, restored_buffer}
-use Rattle.exports.specs.declared.writing.Exported.{Exported}
-use Rattle.exports.specs.declared.reading.Restored.{Restored}
+use Rattle.std.specs.Prelude.{Result, Ok, Err}
+use Rattle.primitives.specs.Answers.{as_answer}
+use Rattle.primitives.specs.declared.refusal.Refusal.{Refusal}
+use Rattle.journal.specs.declared.state.RefusedAt.{RefusedAt}
+use Rattle.device.specs.Answers.{without_index, index_in}
+use Rattle.exports.specs.Writing.{as_exported, exported, export_buffer, Exported}
+use Rattle.exports.specs.Reading.{not_read, restored, restored_buffer, Restored}
 use Rattle.exports.proofs.ReadBack.{export_reads_back}
 use Rattle.exports.proofs.Promising.{refused_export_changes_nothing, refused_by_take_over}
 use Rattle.device.specs.Layout.{array_of, kept}
@@ -22,6 +20,27 @@ use Rattle.device.specs.Inspection.{export_answer, export_output, read_answer, r
 use Rattle.device.specs.InspectionLaws.{ExportReadsBackInC, ExportTakesOver, RefusedExportInC}
 
 -- ---- written
+
+-- what the writers of index and length leave, of an answer with both
+pub from_exported : (r : Result ℕ RefusedAt) {m : Result ℕ Refusal} {index n l : ℕ} → (m ≡ without_index r) × (index ≡ index_in r)
+    → (n ≡ (as_answer m).number) × (l ≡ (as_answer m).length) → (n ≡ (as_exported r).number) × (l ≡ (as_exported r).length) × (index ≡ (as_exported r).index)
+from_exported r t k = (
+  k.0 ∙ ap (λ (x : Result ℕ Refusal). (as_answer x).number) t.0 ∙ number r,
+  k.1 ∙ ap (λ (x : Result ℕ Refusal). (as_answer x).length) t.0 ∙ long r,
+  t.1 ∙ place r,
+)
+  where
+    number : (x : Result ℕ RefusedAt) → (as_answer (without_index x)).number ≡ (as_exported x).number
+    number (Ok _) = refl
+    number (Err _) = refl
+
+    long : (x : Result ℕ RefusedAt) → (as_answer (without_index x)).length ≡ (as_exported x).length
+    long (Ok _) = refl
+    long (Err _) = refl
+
+    place : (x : Result ℕ RefusedAt) → index_in x ≡ (as_exported x).index
+    place (Ok _) = refl
+    place (Err _) = refl
 
 module _ (journal key : List ℕ) (n : ℕ) (certificates out : List ℕ) where
   pub export_made : {k : List ℕ} {w : ℕ} {a : Exported} {b : List ℕ} → k ≡ array_of 32 key → w ≡ width_with key n

@@ -1,17 +1,13 @@
 -- A register's state in bytes is one to go on from in the journal that further calls from C leave.
-use Prim.Native.Nat.{ℕ, ◌≤◌, ◌<◌}
-use mathlib.Core.Path.{◌≡◌, refl, sym, ap, ◌∙◌, subst}
-use mathlib.Core.List.{List, [], ◌∷◌, ◌++◌, map}
-use native.Mathlib.Omega.{arith}
-use lib.ListN.{length, take, length-take}
+use Rattle.std.proofs.Common.{ℕ, ◌≤◌, ◌<◌, ◌≡◌, refl, sym, ap, ◌∙◌, subst, List, [], ◌∷◌, ◌++◌, map, arith, length, take, length-take}
 use Rattle.primitives.specs.Bytes.{AllBytes}
 use Rattle.journal.specs.State.{TypedState}
+use Rattle.journal.specs.declared.state.TakenOver.{TakenOver}
 use Rattle.journal.specs.Checking.{accepted}
 use Rattle.journal.specs.Parts.{checks_after, total}
 use Rattle.journal.specs.Valid.{Valid}
 use Rattle.journal.specs.Calls.{Call, Register, journal_of, calls}
 use Rattle.journal.specs.declared.state.State.{State}
-use Rattle.journal.specs.declared.state.TakenOver.{TakenOver}
 use Rattle.journal.proofs.Accepting.{valid_work}
 use Rattle.journal.proofs.GrownJournals.{work_bytes, register_goes_on}
 use Rattle.journal.proofs.PartSteps.{accepted_number, accepted_state}

@@ -1,14 +1,6 @@
 -- Settings, state and details lie in their bytes as include/ditgrux.h says.
-use Prim.Native.Nat.{ℕ, zero, suc, ◌+◌, ◌-◌, ◌*◌, ◌/◌, ◌%◌, ◌^◌, ◌≤◌, ◌<◌}
-use mathlib.Core.Path.{◌≡◌, refl, sym, ap, ◌∙◌, subst}
-use mathlib.Core.Bool.{Bool, true, false, cond}
-use mathlib.Core.List.{List, [], ◌∷◌, ◌++◌, append_assoc}
-use native.Mathlib.Omega.{arith}
-use borrow.Author.Tests.{eq-eqb, eqb-true, eqb-false, ltb-true, ltb-false}
-use lib.Dec.{eqb, ltb}
-use lib.IntN.{ℤ, negsuc}
-use lib.ListN.{length, take, drop, get_or, replicate}
-use lib.Seq.{drop-cons, drop-drop, take-add, take_all}
+use Rattle.std.proofs.Common.{ℕ, zero, suc, ◌+◌, ◌-◌, ◌*◌, ◌/◌, ◌%◌, ◌^◌, ◌≤◌, ◌<◌, ◌≡◌, refl, sym, ap, ◌∙◌, subst, Bool, true, false, cond, List, [], ◌∷◌, ◌++◌, append_assoc, arith, eq-eqb, eqb-true, ltb-true, ltb-false, eqb, ltb, ℤ, negsuc, length, take, drop, get_or, replicate, drop-cons, drop-drop, take-add, take_all}
+use Rattle.std.proofs.lemmas.Bool.{eqb-false}
 use Rattle.primitives.specs.Bytes.{AllBytes}
 use Rattle.primitives.specs.Number.{digits_of, bytes_of, number_after, value_after, value_of, count_at}
 use Rattle.primitives.specs.Counter.{half, of_twos, counter_value}

@@ -22,6 +22,7 @@ pub mod Spelling
 pub mod StateCalls
 pub mod TextAnswers
 pub mod TextsInC
+pub mod Told
 pub mod Writers
 pub mod Zeros
 pub mod ExportCalls

@@ -1,16 +1,10 @@
 -- ditgrux_issue_list does what the single calls of ditgrux_issue do, up to the first that is refused.
-use Prim.Native.Nat.{ℕ, zero, suc, ◌<◌}
-use mathlib.Core.Path.{◌≡◌, refl, sym, ap, ◌∙◌, subst}
-use mathlib.Core.List.{List, [], ◌∷◌, ◌++◌, map}
-use native.Mathlib.Omega.{arith}
-use lib.IntN.{ℤ}
-use lib.ListN.{length}
+use Rattle.std.proofs.Common.{ℕ, zero, suc, ◌<◌, ◌≡◌, refl, sym, ap, ◌∙◌, subst, List, [], ◌∷◌, ◌++◌, map, arith, ℤ, length}
 use Rattle.receipt.specs.declared.details.Details.{Details}
-use Rattle.journal.specs.State.{TypedState}
+use Rattle.journal.specs.State.{TypedState, IssuedList}
 use Rattle.journal.specs.Calls.{Order, TypedOrder, failed_order, Call, issue, TypedList, nothing, also, Register, number_of, numbers_of, call, calls}
 use Rattle.journal.specs.Lists as lists
 use Rattle.journal.specs.Lists.{single_calls, NoneRefused, FirstRefused, Ends, ListLeaves}
-use Rattle.journal.specs.declared.state.IssuedList.{IssuedList}
 use Rattle.journal.proofs.Lists.{list_equals_single_calls}
 use Rattle.journal.proofs.Registers.{issue_kept}
 use Rattle.journal.proofs.Touching.{issue_room}

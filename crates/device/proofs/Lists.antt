@@ -1,23 +1,14 @@
 -- A list of receipts as bytes: read, issued up to the first that is refused, and what the call leaves. Over plain variables.
-use Prim.Native.Nat.{ℕ, zero, suc, ◌+◌, ◌*◌, ◌-◌, ◌/◌, ◌%◌, ◌≤◌, ◌<◌}
-use mathlib.Core.Path.{◌≡◌, refl, sym, ap, ◌∙◌}
-use mathlib.Core.Bool.{Bool, true, false}
-use mathlib.Core.List.{List, [], ◌∷◌}
-use native.Mathlib.Omega.{arith}
-use borrow.Author.Tests.{eq-eqb, ne_eqb, eqb-true, eqb-false}
-use lib.Dec.{eqb}
-use lib.ListN.{length, take, drop, get_or, length-append, length-drop}
-use lib.Seq.{take_at, drop_at, drop-drop, length-take-le}
+use Rattle.std.proofs.Common.{ℕ, zero, suc, ◌+◌, ◌*◌, ◌-◌, ◌/◌, ◌%◌, ◌≤◌, ◌<◌, ◌≡◌, refl, sym, ap, ◌∙◌, Bool, true, false, List, [], ◌∷◌, arith, eq-eqb, ne_eqb, eqb-true, eqb, length, take, drop, get_or, length-append, length-drop, take_at, drop_at, drop-drop, length-take-le}
+use Rattle.std.proofs.lemmas.Bool.{eqb-false}
 use Rattle.primitives.proofs.Rows.{ask_zero, ask_yes, ask_no}
 use Rattle.receipt.specs.Amount.{amount_limit}
 use Rattle.receipt.specs.declared.details.Details.{Details}
-use Rattle.journal.specs.State.{no_name, unopened}
+use Rattle.journal.specs.State.{no_name, unopened, Issued, IssuedList}
 use Rattle.journal.specs.Step.{sound}
 use Rattle.journal.specs.Issuing.{issue_number, issued, issue_buffer}
 use Rattle.journal.specs.Listing.{issued_list, list_buffer}
 use Rattle.journal.specs.declared.state.State.{State}
-use Rattle.journal.specs.declared.state.Issued.{Issued}
-use Rattle.journal.specs.declared.state.IssuedList.{IssuedList}
 use Rattle.journal.proofs.Refusals.{refused_changes_nothing}
 use Rattle.journal.proofs.Lists.{empty_list_changes_nothing}
 use Rattle.journal.proofs.ListSteps.{buffer_none, answer_no, buffer_no, listed, listed_start, listed_end, listed_more, buffer_more, listed_stops, buffer_stops}
@@ -32,7 +23,7 @@ use Rattle.device.proofs.Spelling.{kept_as_it_was}
 use Rattle.device.proofs.Zeros.{no_details_number, unopened_gets_six}
 
 -- an answer, by its parts
-abbrev answer_with : ℕ → ℕ → State → IssuedList
+abbrev pub answer_with : ℕ → ℕ → State → IssuedList
 answer_with number count st = record { number = number; count = count; state = st }
 
 -- ---- the loop over the list
@@ -44,7 +35,6 @@ left list at = details_from ((length list - at) / 72) (drop at list)
 -- after i receipts the call goes on at a place with a state and a buffer: what it gives from here is what it gives from the start
 pub record Listing (list b₀ : List ℕ) (s₀ : State) (b : List ℕ) (s : State) (at i : ℕ) : Type 0 where
   pub place : at ≡ 72 * i
-  pub within : at ≤ length list
   pub whole : length list % 72 ≡ 0
   pub long : length b ≡ length b₀
   pub answer : listed i s (left list at) b ≡ issued_list s₀ (details_from (length list / 72) list) b₀
@@ -56,7 +46,6 @@ listing_start list b s w =
     let e : left list 0 ≡ details_from (length list / 72) list = ap (λ (k : ℕ). details_from (k / 72) list) n in
     record {
       place = omega arith;
-      within = omega arith;
       whole = w;
       long = refl;
       answer = listed_start s (left list 0) b ∙ ap (λ (ds : List Details). issued_list s ds b) e;
@@ -65,18 +54,18 @@ listing_start list b s w =
 
 module _ {list b₀ : List ℕ} {s₀ : State} {b : List ℕ} {s : State} {at i : ℕ} (l : Listing list b₀ s₀ b s at i) where
   -- all are issued
-  pub listing_end : length list ≤ at
+  pub listing_end : length list / 72 ≤ i
       → (record { number = 0; count = i; state = s } ≡ issued_list s₀ (details_from (length list / 72) list) b₀)
       × (b ≡ list_buffer s₀ (details_from (length list / 72) list) b₀)
   unfolding details_from
   listing_end h =
-      let n : (length list - at) / 72 ≡ 0 = omega arith in
+      let n : (length list - at) / 72 ≡ 0 = omega (arith, l.place, l.whole) in
       let e : left list at ≡ [] = ap (λ (k : ℕ). details_from k (drop at list)) n in (
         listed_end i s b ∙ sym (ap (λ (ds : List Details). listed i s ds b) e) ∙ l.answer,
         sym (ap (λ (ds : List Details). list_buffer s ds b) e ∙ buffer_none _ s b) ∙ l.buffer,
       )
 
-  module _ (h : at < length list) where
+  module _ (h : i < length list / 72) where
     pub piece_there : at + 72 ≤ length list
     piece_there = omega (arith, l.place, l.whole)
 
@@ -113,7 +102,6 @@ module _ {list b₀ : List ℕ} {s₀ : State} {b : List ℕ} {s : State} {at i 
           let ds = left list (at + 72) in
           record {
             place = omega (arith, l.place);
-            within = piece_there;
             whole = l.whole;
             long = m ∙ l.long;
             answer = listed_more s d ds b b₁ a p.0 p.1 z i ∙ sym (ap (λ (xs : List Details). listed i s xs b) left_is) ∙ l.answer;

@@ -1,16 +1,9 @@
 -- What holds of ditgrux_open and of ditgrux_open_shared, whose key is shared.
-use Prim.Native.Nat.{ℕ}
-use mathlib.Core.Path.{◌≡◌, refl, sym, ap, ◌∙◌}
-use mathlib.Core.Bool.{Bool, true, false, cond}
-use mathlib.Core.List.{List}
-use native.Mathlib.Omega.{arith}
-use borrow.Author.Tests.{eqb-true, eqb-false}
-use lib.Dec.{eqb}
-use lib.ListN.{length}
+use Rattle.std.proofs.Common.{ℕ, ◌≡◌, refl, sym, ap, ◌∙◌, Bool, true, false, cond, List, arith, eqb-true, eqb, length}
+use Rattle.std.proofs.lemmas.Bool.{eqb-false}
 use Rattle.journal.specs.Opening.{open_number, open_buffer}
 use Rattle.journal.specs.SharedKey.{SharedDigit}
-use Rattle.journal.specs.State.{unopened}
-use Rattle.journal.specs.declared.state.Opened.{Opened}
+use Rattle.journal.specs.State.{unopened, Opened}
 use Rattle.journal.proofs.Refusals.{refused_changes_nothing}
 use Rattle.journal.proofs.SharedKey.{shared_key_never_repeats, shared_digit_gets_32, shared_is_not_stored}
 use Rattle.device.specs.Layout.{settings_of, width_of, key_of, kept}

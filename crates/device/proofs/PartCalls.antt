@@ -1,14 +1,10 @@
 -- What the two calls of a check in parts show at their returns, over plain variables.
-use Prim.Native.Nat.{ℕ}
-use mathlib.Core.Path.{◌≡◌, sym, ap, ◌∙◌}
-use mathlib.Core.List.{List}
-use borrow.Author.Tests.{eq-eqb, ne_eqb}
-use lib.ListN.{length}
+use Rattle.std.proofs.Common.{ℕ, ◌≡◌, sym, ap, ◌∙◌, List, eq-eqb, ne_eqb, length}
 use Rattle.journal.specs.State.{unopened}
+use Rattle.journal.specs.declared.state.TakenOver.{TakenOver}
 use Rattle.journal.specs.Checking.{check_head}
 use Rattle.journal.specs.Parts.{check_steps}
 use Rattle.journal.specs.declared.state.State.{State}
-use Rattle.journal.specs.declared.state.TakenOver.{TakenOver}
 use Rattle.device.specs.Layout.{array_of, state_of, kept}
 use Rattle.device.specs.Calls.{width_with, head_answer, steps_answer}
 use Rattle.device.proofs.Sizes.{kept_not}

@@ -1,21 +1,15 @@
 -- A check in parts from C: its calls return and write what those of the journal give, and so what ditgrux_take_over returns and writes.
-use Prim.Native.Nat.{ℕ, zero, suc, ◌+◌, ◌<◌}
-use mathlib.Core.Path.{◌≡◌, refl, sym, ap, ◌∙◌, subst}
-use mathlib.Core.Bool.{Bool, true, false}
-use mathlib.Core.List.{List, [], ◌∷◌, ◌++◌}
-use native.Mathlib.Omega.{arith}
-use borrow.Author.Tests.{eqb-true, eqb-false}
-use lib.Dec.{eqb}
-use lib.ListN.{length, replicate}
+use Rattle.std.proofs.Common.{ℕ, zero, suc, ◌+◌, ◌<◌, ◌≡◌, refl, sym, ap, ◌∙◌, subst, Bool, true, false, List, [], ◌∷◌, ◌++◌, arith, eqb-true, eqb, length, replicate}
+use Rattle.std.proofs.lemmas.Bool.{eqb-false}
 use Rattle.primitives.specs.Bytes.{AllBytes}
 use Rattle.primitives.proofs.Rows.{ifZero-yes, ifZero-no}
 use Rattle.journal.specs.State.{unopened, TypedState}
+use Rattle.journal.specs.declared.state.TakenOver.{TakenOver}
 use Rattle.journal.specs.Checking.{accepted, check_head, take_over}
 use Rattle.journal.specs.Parts.{check_steps, checks_after, check_in_parts, total}
 use Rattle.journal.specs.PartLaws.{SameAnswer}
 use Rattle.journal.specs.Valid.{entries_in, state_after}
 use Rattle.journal.specs.declared.state.State.{State}
-use Rattle.journal.specs.declared.state.TakenOver.{TakenOver}
 use Rattle.journal.proofs.Refusals.{refused_changes_nothing}
 use Rattle.journal.proofs.CheckCalls.{head_passed}
 use Rattle.journal.proofs.PartSteps.{accepted_number, accepted_state, went, checks_none, checks_on, checks_stuck, total_more, total_none, steps_are_take_over, end_is_seen}

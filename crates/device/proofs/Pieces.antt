@@ -1,14 +1,7 @@
 -- Pieces one after the other, one for each element of a list: written by a loop, and read at a place.
-use Prim.Native.Nat.{ℕ, zero, suc, ◌+◌, ◌*◌, ◌≤◌, ◌<◌}
-use mathlib.Core.Path.{◌≡◌, sym, ap, ◌∙◌, subst}
-use mathlib.Core.List.{List, [], ◌∷◌, ◌++◌, append_assoc}
-use native.Mathlib.Nat.{mul-zero, mul-suc, le_of_suc-le-suc}
-use native.Mathlib.Numerals.{add-one}
-use native.Mathlib.Omega.{arith}
-use lib.ListN.{length, get_or, take, drop, length-append, drop_of_length-le}
-use lib.Seq.{drop-cons, drop_at, take_at, drop-drop}
-use Rattle.primitives.specs.Place.{overwrite, placed, place_after}
-use Rattle.primitives.proofs.Over.{placed_room, after_room}
+use Rattle.std.proofs.Common.{ℕ, zero, suc, ◌+◌, ◌*◌, ◌≤◌, ◌<◌, ◌≡◌, sym, ap, ◌∙◌, subst, List, [], ◌∷◌, ◌++◌, append_assoc, mul-zero, mul-suc, le_of_suc-le-suc, add-one, arith, length, get_or, take, drop, length-append, drop_of_length-le, drop-cons, drop_at, take_at, drop-drop}
+use Rattle.primitives.specs.Place.{overwrite, placed}
+use Rattle.primitives.proofs.Over.{placed_room}
 use Rattle.primitives.proofs.Writing.{Writing, writing_left, writing_more, writing_end, writing_fits}
 use Rattle.device.specs.Details.{pieces}
 
@@ -19,15 +12,14 @@ module _ {A : Type 0} (f : A → List ℕ) (z : A) where
 
   -- the loop that writes them
   module _ (xs : List A) (i : ℕ) {out₀ out : List ℕ} {at p : ℕ} (w : Writing out₀ at (pieces f xs) out p (pieces f (drop i xs))) where
-    pub piece_more : {r : ℕ} {out₁ : List ℕ} → i < length xs → (r ≡ place_after out p (f (get_or xs i z))) × (out₁ ≡ placed out p (f (get_or xs i z)))
-        → Writing out₀ at (pieces f xs) out₁ r (pieces f (drop (i + 1) xs))
-    piece_more {r} {out₁} h e =
+    pub piece_more : {q : ℕ} {out₁ : List ℕ} → i < length xs → p + length (f (get_or xs i z)) ≡ q → out₁ ≡ placed out p (f (get_or xs i z))
+        → Writing out₀ at (pieces f xs) out₁ q (pieces f (drop (i + 1) xs))
+    piece_more {q} {out₁} h k e =
         let y = f (get_or xs i z) in
         let rest = pieces f (drop (i + 1) xs) in
-        let q = here xs i h in
-        let room : p + length y ≤ length out = omega (arith, writing_fits w, ap length q, length-append y rest) in
-        subst (λ (o : ℕ). Writing out₀ at (pieces f xs) out₁ o rest) (sym (e.0 ∙ after_room out p y room))
-        (writing_more y rest (writing_left w q) (e.1 ∙ placed_room out p y room))
+        let l = here xs i h in
+        let room : p + length y ≤ length out = omega (arith, writing_fits w, ap length l, length-append y rest) in
+        subst (λ (o : ℕ). Writing out₀ at (pieces f xs) out₁ o rest) k (writing_more y rest (writing_left w l) (e ∙ placed_room out p y room))
 
     pub pieces_done : length xs ≤ i → out ≡ overwrite out₀ at (pieces f xs)
     unfolding pieces

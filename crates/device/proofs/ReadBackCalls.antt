@@ -1,21 +1,14 @@
 -- What the functions that read a receipt back show at their returns, over plain variables.
-use Prim.Native.Nat.{ℕ}
-use mathlib.Core.Path.{◌≡◌, refl, sym, ap, ◌∙◌}
-use mathlib.Core.Bool.{Bool, true, false, cond, not}
-use mathlib.Core.List.{List, []}
-use native.Mathlib.Omega.{arith}
-use borrow.Author.Tests.{eq-eqb, ne_eqb, eqb-true, not-true, not-false}
-use lib.Dec.{eqb}
-use lib.ListN.{length}
+use Rattle.std.proofs.Common.{ℕ, ◌≡◌, refl, sym, ap, ◌∙◌, Bool, true, false, cond, not, List, [], arith, eq-eqb, ne_eqb, eqb-true, eqb, length}
+use Rattle.std.proofs.lemmas.Bool.{not-true, not-false}
 use Rattle.primitives.specs.Place.{overwrite, placed, place_after}
 use Rattle.primitives.specs.Questions.{ask}
 use Rattle.primitives.proofs.Over.{over_nil, placed_room, after_room}
 use Rattle.primitives.proofs.Rows.{ask_zero, ask_yes, ask_no, ifZero-yes, ifZero-no}
 use Rattle.primitives.specs.Counter.{width_good}
 use Rattle.receipt.specs.Settings.{settings_good, settings_number}
-use Rattle.receipt.specs.Compact.{read_entry}
+use Rattle.receipt.specs.Compact.{read_entry, Found}
 use Rattle.receipt.specs.declared.settings.Settings.{Settings}
-use Rattle.receipt.specs.declared.entry.Found.{Found}
 use Rattle.receipt.proofs.Names.{id_own, settings_yes, settings_zero, settings_pass, settings_stop}
 use Rattle.journal.specs.Calls.{order_of}
 use Rattle.device.specs.Layout.{settings_of, width_of}

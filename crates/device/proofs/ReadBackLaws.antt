@@ -1,13 +1,6 @@
 -- A receipt is read back exactly, and what ditgrux_issue was given is what ditgrux_read gives.
-use Prim.Native.Nat.{ℕ, zero, suc, ◌+◌, ◌-◌, ◌^◌, ◌<◌}
-use mathlib.Core.Path.{◌≡◌, refl, sym, ap, ◌∙◌, subst}
-use mathlib.Core.Bool.{Bool, true, false, cond}
-use mathlib.Core.List.{List, [], ◌∷◌}
-use native.Mathlib.Omega.{arith}
-use borrow.Author.Tests.{eq-eqb, eqb-true, lt-ltb}
-use lib.Dec.{eqb}
-use lib.IntN.{ℤ, pos}
-use lib.ListN.{length, take, drop, get_or, get_or-replicate}
+use Rattle.std.proofs.Common.{ℕ, zero, suc, ◌+◌, ◌-◌, ◌^◌, ◌<◌, ◌≡◌, refl, sym, ap, ◌∙◌, subst, Bool, true, false, cond, List, [], ◌∷◌, arith, eq-eqb, eqb-true, lt-ltb, eqb, ℤ, pos, length, take, drop, get_or}
+use Rattle.std.proofs.lemmas.List.{get_or-replicate}
 use Rattle.primitives.specs.Bytes.{AllBytes}
 use Rattle.primitives.specs.Counter.{width_good, fits_in}
 use Rattle.primitives.specs.Place.{overwrite}
@@ -15,20 +8,20 @@ use Rattle.primitives.proofs.ByteLists.{bytes_take, bytes_drop, bytes_replicate}
 use Rattle.primitives.proofs.Rows.{ifZero-yes, ifZero-no}
 use Rattle.primitives.proofs.Twos.{fits_64}
 use Rattle.receipt.specs.Settings.{settings_good, TypedSettings}
-use Rattle.receipt.specs.Compact.{compact, spellable, TypedEntry}
+use Rattle.receipt.specs.Compact.{compact, spellable, TypedEntry, Found}
 use Rattle.receipt.specs.Exact.{Spelled}
 use Rattle.receipt.specs.declared.datetime.DateTime.{DateTime}
 use Rattle.receipt.specs.declared.details.Kind.{Kind}
 use Rattle.receipt.specs.declared.details.Kind.TheVariants.{Standard, Cancellation, Training}
 use Rattle.receipt.specs.declared.details.Details.{Details}
 use Rattle.receipt.specs.declared.entry.Entry.{Entry}
-use Rattle.receipt.specs.declared.entry.Found.{Found}
 use Rattle.receipt.proofs.ExactEntry.{exact, compact_bytes}
 use Rattle.journal.specs.State.{no_name, used, unopened, settings_now, TypedState}
 use Rattle.journal.specs.Issuing.{entry_of, text_of, issue_number, issued, issue_buffer}
 use Rattle.journal.specs.Calls.{Order, order_of}
 use Rattle.journal.specs.declared.state.State.{State}
-use Rattle.journal.proofs.Serials.{serials_used, newest_at}
+use Rattle.journal.proofs.Serials.{serials_used}
+use Rattle.device.proofs.Slots.{newest_at}
 use Rattle.journal.proofs.Answers.{Eight, Sound, sound-settings, issue-zero, issued-number}
 use Rattle.journal.proofs.Appended.{form_is_appended, order_back, text_is, entry_spelled}
 use Rattle.journal.proofs.ReceiptLines.{valid_place}

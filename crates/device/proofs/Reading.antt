@@ -1,20 +1,11 @@
 -- What is read from bytes, over plain variables.
-use Prim.Native.Nat.{ℕ, ◌+◌, ◌-◌, ◌≤◌}
-use mathlib.Core.Path.{◌≡◌, sym, ap, ◌∙◌}
-use mathlib.Core.List.{List, [], ◌∷◌}
-use native.Mathlib.Omega.{arith}
-use lib.IntN.{ℤ}
-use lib.ListN.{length, take, drop, length-drop}
-use lib.Seq.{take_all, length-take-le}
-use mir.Syntax.{w64}
-use mir.Val.{SFits, to_z, of_z}
-use mir.ValLaws.{to_z-of_z}
-use Rattle.primitives.specs.Place.{overwrite, placed}
-use Rattle.primitives.specs.Number.{number_at, count_at}
+use Rattle.std.proofs.lemmas.Int.{to_z-of_z}
+use Rattle.std.proofs.Common.{ℕ, ◌+◌, ◌≤◌, ◌≡◌, sym, ap, ◌∙◌, List, [], ◌∷◌, arith, ℤ, length, take, drop, take_all, SFits, to_z, of_z}
+use Rattle.std.specs.Int.{from_be_bytes, w32, w64}
+use Rattle.primitives.specs.Place.{overwrite}
+use Rattle.primitives.specs.Number.{number_of, number_after, value_of, value_after, count_at}
 use Rattle.primitives.specs.Counter.{counter_value}
-use Rattle.primitives.specs.declared.buffer.Number.TheVariants.{Is, Missing}
-use Rattle.primitives.proofs.Numbers.{number_there, number_found}
-use Rattle.primitives.proofs.Over.{length_over, read_over, placed_room}
+use Rattle.primitives.proofs.Over.{length_over, read_over}
 use Rattle.receipt.specs.declared.settings.Name.{Name}
 use Rattle.receipt.specs.declared.datetime.DateTime.{DateTime}
 use Rattle.receipt.specs.declared.details.Details.{Details}
@@ -30,32 +21,37 @@ over_all xs ys e =
     let r : 0 + length ys ≤ length xs = omega arith in
     sym (take_all (length ys) (overwrite xs 0 ys) (omega (arith, length_over xs 0 ys r))) ∙ read_over xs 0 ys r
 
-pub placed_all : (xs ys : List ℕ) → length ys ≡ length xs → placed xs 0 ys ≡ ys
-placed_all xs ys e = placed_room xs 0 ys (omega arith) ∙ over_all xs ys e
-
--- an array that a part of a list was copied to
-pub copied : (n : ℕ) (b zs : List ℕ) (at : ℕ) {r : List ℕ} → length zs ≡ n → at + n ≤ length b → r ≡ placed zs 0 (take (at + n - at) (drop at b))
-    → r ≡ take n (drop at b)
-copied n b zs at z h q =
-    let e : at + n - at ≡ n = omega arith in
-    let l : length (take n (drop at b)) ≡ n = length-take-le n (drop at b) (omega (arith, length-drop at b)) in
-    q ∙ ap (λ (k : ℕ). placed zs 0 (take k (drop at b))) e ∙ placed_all zs (take n (drop at b)) (l ∙ sym z)
-
 -- ---- numbers
 
-module _ (b : List ℕ) (at n : ℕ) where
-  pub long_found : {v : ℕ} → number_at b at n ≡ Is v → v ≡ count_at b at n
-  long_found e = (number_found b at n e).is ∙ sym (count_is b at n)
+value_4 : (bs : List ℕ) → length bs ≡ 4 → from_be_bytes w32 bs ≡ value_of bs
+unfolding value_of value_after number_of number_after
+value_4 [] l = absurd (omega (arith, l))
+value_4 (_ ∷ []) l = absurd (omega (arith, l))
+value_4 (_ ∷ _ ∷ []) l = absurd (omega (arith, l))
+value_4 (_ ∷ _ ∷ _ ∷ []) l = absurd (omega (arith, l))
+value_4 (a ∷ b ∷ c ∷ d ∷ []) l = omega arith
+value_4 (_ ∷ _ ∷ _ ∷ _ ∷ _ ∷ _) l = absurd (omega (arith, l))
 
-  pub not-missing {ℓ} : {X : Type ℓ} → n ≤ 8 → at + n ≤ length b → number_at b at n ≡ Missing → X
-  not-missing w h e =
-      let q = number_there b at n w h in
-      let z : ◌≡◌ {A = ℕ} 0 1 = cc in
-      absurd (omega arith)
+value_8 : (bs : List ℕ) → length bs ≡ 8 → from_be_bytes w64 bs ≡ value_of bs
+unfolding value_of value_after number_of number_after
+value_8 [] l = absurd (omega (arith, l))
+value_8 (_ ∷ []) l = absurd (omega (arith, l))
+value_8 (_ ∷ _ ∷ []) l = absurd (omega (arith, l))
+value_8 (_ ∷ _ ∷ _ ∷ []) l = absurd (omega (arith, l))
+value_8 (_ ∷ _ ∷ _ ∷ _ ∷ []) l = absurd (omega (arith, l))
+value_8 (_ ∷ _ ∷ _ ∷ _ ∷ _ ∷ []) l = absurd (omega (arith, l))
+value_8 (_ ∷ _ ∷ _ ∷ _ ∷ _ ∷ _ ∷ []) l = absurd (omega (arith, l))
+value_8 (_ ∷ _ ∷ _ ∷ _ ∷ _ ∷ _ ∷ _ ∷ []) l = absurd (omega (arith, l))
+value_8 (a ∷ b ∷ c ∷ d ∷ e ∷ f ∷ g ∷ h ∷ []) l = omega arith
+value_8 (_ ∷ _ ∷ _ ∷ _ ∷ _ ∷ _ ∷ _ ∷ _ ∷ _ ∷ _) l = absurd (omega (arith, l))
 
-pub counter_found : (b : List ℕ) (at : ℕ) {r : List ℕ} {v : ℤ} → SFits w64 v → r ≡ take 8 (drop at b) → v ≡ counter_value 8 r
-    → to_z w64 (of_z w64 v) ≡ counter_value 8 (take 8 (drop at b))
-counter_found b at {v = v} f e q = to_z-of_z w64 v f ∙ q ∙ ap (counter_value 8) e
+-- a number that was made of the bytes of an array
+module _ (b : List ℕ) (at : ℕ) {bs : List ℕ} {v : ℕ} where
+  pub word_found : length bs ≡ 4 → bs ≡ take 4 (drop at b) → v ≡ from_be_bytes w32 bs → v ≡ count_at b at 4
+  word_found l e q = q ∙ value_4 bs l ∙ ap value_of e ∙ sym (count_is b at 4)
+
+  pub long_found : length bs ≡ 8 → bs ≡ take 8 (drop at b) → v ≡ from_be_bytes w64 bs → v ≡ count_at b at 8
+  long_found l e q = q ∙ value_8 bs l ∙ ap value_of e ∙ sym (count_is b at 8)
 
 -- ---- the state
 
@@ -103,12 +99,6 @@ state_found b e₁ e₂ e₃ e₄ e₅ e₆ e₇ e₈ e₉ e₁₀ e₁₁ e₁�
 -- ---- the details of a receipt
 
 module _ (b : List ℕ) where
-  pub date_found : {year month day hour minute second : ℕ} {r : DateTime} → year ≡ count_at b 4 4 → month ≡ count_at b 8 4 → day ≡ count_at b 12 4 → hour ≡ count_at b 16 4
-      → minute ≡ count_at b 20 4 → second ≡ count_at b 24 4 → r ≡ date_of year month day hour minute second
-      → r ≡ date_of (number_in b 1) (number_in b 2) (number_in b 3) (number_in b 4) (number_in b 5) (number_in b 6)
-  unfolding number_in
-  date_found e₁ e₂ e₃ e₄ e₅ e₆ q = q ∙ (λ i. date_of (e₁ i) (e₂ i) (e₃ i) (e₄ i) (e₅ i) (e₆ i))
-
   pub amounts_found : {z₀ z₁ z₂ z₃ z₄ : ℤ} → SFits w64 z₀ → SFits w64 z₁ → SFits w64 z₂ → SFits w64 z₃ → SFits w64 z₄
       → z₀ ≡ counter_value 8 (take 8 (drop 32 b)) → z₁ ≡ counter_value 8 (take 8 (drop 40 b)) → z₂ ≡ counter_value 8 (take 8 (drop 48 b))
       → z₃ ≡ counter_value 8 (take 8 (drop 56 b)) → z₄ ≡ counter_value 8 (take 8 (drop 64 b))

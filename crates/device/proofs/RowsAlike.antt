@@ -1,8 +1,5 @@
 -- Rows of questions that mean the same.
-use Prim.Native.Nat.{ℕ, suc}
-use mathlib.Core.Path.{◌≡◌, refl}
-use mathlib.Core.Bool.{true, false}
-use mathlib.Core.Logic.{inl, inr}
+use Rattle.std.proofs.Common.{ℕ, suc, ◌≡◌, refl, true, false, inl, inr}
 use Rattle.primitives.specs.Questions.{ask, Row, question, AllYes, FirstNoIs, GivesFirstNo}
 use Rattle.primitives.proofs.FirstNo.{gives_ask, gives_same}
 use Rattle.primitives.proofs.Rows.{true-is-not-false}

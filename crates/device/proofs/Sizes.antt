@@ -1,13 +1,9 @@
 -- What the definitions say of slices of the right length, and of others.
-use Prim.Native.Nat.{ℕ}
-use mathlib.Core.Path.{◌≡◌, refl, sym, ◌∙◌}
-use mathlib.Core.Bool.{Bool, true, false, cond}
-use mathlib.Core.List.{List}
-use native.Mathlib.Omega.{arith}
-use borrow.Author.Tests.{eq-eqb, ne_eqb, eqb-true}
-use lib.Dec.{eqb}
-use lib.ListN.{length, take, drop, replicate, length-replicate}
-use lib.Seq.{take_all}
+use Rattle.std.proofs.Common.{ℕ, ◌≡◌, refl, sym, ◌∙◌, Bool, true, false, cond, List, arith, eq-eqb, ne_eqb, eqb-true, eqb, length, replicate}
+use Rattle.std.specs.Prelude.{Result, Ok, Err, IsOk, MatchResult}
+use Rattle.std.specs.Result.{result_unwrap_or}
+use Rattle.std.specs.Array.{IsWholeChunk}
+use Rattle.std.proofs.lemmas.List.{length-replicate}
 use Rattle.primitives.specs.Bytes.{AllBytes}
 use Rattle.primitives.specs.Counter.{width_good}
 use Rattle.primitives.proofs.ByteLists.{bytes_replicate}
@@ -36,8 +32,11 @@ module _ (n : ℕ) (b : List ℕ) where
   unfolding array_of
   array_whole h = rw (eq-eqb (length b) n h)
 
-  pub array_copied : {r : List ℕ} → length b ≡ n → r ≡ take n (drop 0 b) → r ≡ array_of n b
-  array_copied h e = e ∙ take_all n b (omega arith) ∙ sym (array_whole h)
+  -- the array that a slice is made into, or zeros
+  pub array_made : {E : Type 0} (r : Result (List ℕ) E) {s : List ℕ} → (length b ≡ n → IsOk r) × MatchResult r (λ y. IsWholeChunk b y n) (λ _. length b ≡ n → ⊥)
+      → s ≡ result_unwrap_or r (replicate n 0) → s ≡ array_of n b
+  array_made (Ok y) q e = e ∙ q.1.same ∙ sym (array_whole q.1.long)
+  array_made (Err _) q e = e ∙ array_none q.1
 
   pub array_long : length (array_of n b) ≡ n
   unfolding array_of

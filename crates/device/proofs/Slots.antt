@@ -1,21 +1,17 @@
 -- What the code's types say of an array of names and of a state, and the name at a place.
-use Prim.Native.Nat.{ℕ, zero, suc, ◌≤◌, ◌<◌}
-use mathlib.Core.Path.{◌≡◌, refl, sym, ◌∙◌}
-use mathlib.Core.List.{List, [], ◌∷◌, head-eq_of_cons-eq}
-use native.Mathlib.Nat.{le_of_suc-le-suc}
-use native.Mathlib.Omega.{arith}
-use lib.ListN.{length, get_or}
-use lib.Seq.{drop-cons}
+use Rattle.std.proofs.Common.{ℕ, zero, suc, ◌≤◌, ◌<◌, ◌≡◌, refl, sym, ◌∙◌, List, [], ◌∷◌, le_of_suc-le-suc, arith, length, get_or, drop-cons, rules, ◌-◌, ap, drop}
+use mathlib.Core.List.{head-eq_of_cons-eq}
 use mir.Val.{Val}
 use denote.Array.{each}
 use denote.Shadow.{shadow}
 use denote.Struct.Declared.{row}
-use borrow.Author.Rules.{rules}
 use borrow.Kind.Array.{e_struct}
 use Rattle.receipt.specs.declared.settings.Name.{Name}
 use Rattle.receipt.specs.contracts.settings.Name.{the_type}
 use Rattle.receipt.proofs.settings.Name.TheLaws.{the_laws, the_copy}
-use Rattle.journal.specs.State.{no_name, TypedState}
+use Rattle.journal.specs.State.{no_name, used, last_from, newest, TypedState}
+use Rattle.journal.proofs.Serials.{used_prefix}
+use lib.ListN.{get_or-append}
 use Rattle.journal.specs.declared.state.State.{State}
 use Rattle.journal.specs.contracts.state.State as state
 
@@ -38,6 +34,28 @@ pub name_none : (ns : List Name) (i : ℕ) (d : Name) → length ns ≤ i → ge
 name_none [] i d h = refl
 name_none (n ∷ ns) zero d h = absurd (omega arith)
 name_none (n ∷ ns) (suc i) d h = name_none ns i d (le_of_suc-le-suc h)
+
+-- the names that are used: the one at a place before they end, and the newest, which stands last
+pub used_at : (slots : List Name) (i : ℕ) (d : Name) → i < length (used slots) → get_or (used slots) i d ≡ get_or slots i d
+used_at slots i d h = sym (get_or-append (used slots) (drop (length (used slots)) slots) d i h) ∙ ap (λ (l : List Name). get_or l i d) (sym (used_prefix slots))
+
+last_at : (n : Name) (us : List Name) (d : Name) → last_from n us ≡ get_or (n ∷ us) (length us) d
+unfolding last_from
+last_at n [] d = refl
+last_at n (u ∷ us) d = last_at u us d
+
+last_is : (us : List Name) (d : Name) → 0 < length us → last_from no_name us ≡ get_or us (length us - 1) d
+unfolding last_from
+last_is [] d h = absurd (omega arith)
+last_is (u ∷ us) d h =
+    let k : suc (length us) - 1 ≡ length us = omega arith in
+    rw k (last_at u us d)
+
+pub newest_at : (slots : List Name) (k : ℕ) (d : Name) → k ≡ length (used slots) → 0 < k → get_or slots (k - 1) d ≡ newest slots
+unfolding newest
+newest_at slots k d e h =
+    ap (λ (n : ℕ). get_or slots (n - 1) d) e
+    ∙ sym (last_is (used slots) d (omega (arith, e)) ∙ used_at slots (length (used slots) - 1) d (omega (arith, e)))
 
 -- ---- states
 

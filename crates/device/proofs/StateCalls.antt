@@ -1,12 +1,5 @@
 -- What holds of the calls that take a state: a refused one, one with a state of another length, and the settings with one of its serials.
-use Prim.Native.Nat.{ℕ}
-use mathlib.Core.Path.{◌≡◌, refl, sym, ap, ◌∙◌, subst}
-use mathlib.Core.Bool.{Bool, true, false}
-use mathlib.Core.List.{List, []}
-use native.Mathlib.Omega.{arith}
-use borrow.Author.Tests.{eq-eqb, ltb-true, ltb-false}
-use lib.Dec.{ltb}
-use lib.ListN.{length}
+use Rattle.std.proofs.Common.{ℕ, ◌≡◌, refl, sym, ap, ◌∙◌, subst, Bool, true, false, List, [], arith, eq-eqb, ltb-true, ltb-false, ltb, length}
 use Rattle.primitives.proofs.ByteLists.{bytes_replicate}
 use Rattle.receipt.specs.Settings.{name_of}
 use Rattle.journal.specs.State.{no_name, used, unopened, TypedName, TypedRegister, TypedState}

@@ -1,37 +1,31 @@
 -- What the calls on texts show at their returns, over plain variables.
-use Prim.Native.Nat.{ℕ, zero, suc, ◌+◌, ◌-◌, ◌≤◌, ◌<◌}
-use mathlib.Core.Path.{◌≡◌, refl, sym, ap, ◌∙◌}
-use mathlib.Core.Bool.{Bool, true, false, cond}
-use mathlib.Core.List.{List}
-use mathlib.Core.Option.{Option, none, some}
-use native.Mathlib.Omega.{arith}
-use borrow.Author.Tests.{le-leb, lt-leb, leb-true, leb-false, eq-eqb, ne_eqb}
-use lib.Dec.{leb, eqb}
-use lib.ListN.{length}
+use Rattle.std.proofs.Common.{ℕ, zero, suc, ◌+◌, ◌-◌, ◌≤◌, ◌<◌, ◌≡◌, refl, sym, ap, ◌∙◌, Bool, true, false, cond, List, arith, le-leb, leb-true, leb-false, eq-eqb, ne_eqb, leb, eqb, length}
+use Rattle.std.proofs.Math.Option.{Option, none, some}
+use Rattle.std.proofs.lemmas.Bool.{lt-leb}
 use Rattle.primitives.specs.Place.{room, placed, place_after}
 use Rattle.primitives.specs.Sha256.{sha256}
 use Rattle.primitives.specs.Base64 as B
 use Rattle.primitives.specs.Base64.{encoding, decoding, encoded_length, answer_of, buffer_of}
 use Rattle.primitives.specs.declared.base64.Alphabet.{Alphabet}
 use Rattle.primitives.specs.declared.base64.Alphabet.TheVariants.{Standard, UrlSafe}
-use Rattle.primitives.specs.declared.base64.Decoded.{Decoded}
-use Rattle.primitives.specs.declared.base64.Decoded.TheVariants.{Upto, NoRoom}
+use Rattle.std.specs.Prelude.{Result, Ok, Err}
+use Rattle.primitives.specs.declared.base64.DecodeError.{DecodeError}
+use Rattle.primitives.specs.declared.base64.DecodeError.TheVariants.{NoRoom}
 use Rattle.primitives.specs.Base32.{encoding32, decoding32, encoded_length32}
 use Rattle.primitives.proofs.Base32Laws.{length_encoding32}
 use Rattle.primitives.proofs.Base64Lengths.{length_encoding}
 use Rattle.primitives.proofs.Digest.{length_sha256}
 use Rattle.primitives.proofs.Over.{placed_room, after_room, after_full}
 use Rattle.receipt.specs.Code.{id_place}
-use Rattle.primitives.specs.Answers.{written, answer_with, bufferWith}
-use Rattle.primitives.specs.declared.answer.Answer.{Answer}
+use Rattle.primitives.specs.Answers.{Answer, written, answer_with, bufferWith}
 use Rattle.receipt.specs.declared.machine_code.Part.{Part}
 use Rattle.device.specs.Texts.{fields_number, fields_length, hash_number, hash_buffer, alphabet_of, encode_answer, encode_buffer, decode_answer, decode_buffer, encode_answer32, encode_buffer32, decode_answer32, decode_buffer32, written_number, decoded_length, decoded_number}
 use Rattle.primitives.proofs.Answers as answers
 use Rattle.primitives.proofs.Answers.{written_is, written_room}
 
--- an answer in its two parts, beside the output
-pub parts_of : {a e : Answer} {b b₁ : List ℕ} → (a ≡ e) × (b ≡ b₁) → (a.number ≡ e.number) × (b ≡ b₁) × (a.length ≡ e.length)
-parts_of p = (ap (λ (x : Answer). x.number) p.0, p.1, ap (λ (x : Answer). x.length) p.0)
+-- an answer that was told in its two parts, beside the output
+pub parts_of : {a e : Answer} {n l : ℕ} {b b₁ : List ℕ} → (a ≡ e) × (b ≡ b₁) → (n ≡ a.number) × (l ≡ a.length) → (n ≡ e.number) × (b ≡ b₁) × (l ≡ e.length)
+parts_of p t = (t.0 ∙ ap (λ (x : Answer). x.number) p.0, p.1, t.1 ∙ ap (λ (x : Answer). x.length) p.0)
 
 -- ---- the ID field
 
@@ -132,7 +126,7 @@ module _ (out : List ℕ) where
   number_of none = refl
   number_of (some ys) = go (room out 0 ys) ∙ sym (ap (λ (x : Answer). x.number) (written_is out ys))
     where
-      go : (t : Bool) → decoded_number (cond t (Upto (0 + length ys)) NoRoom) ≡ (cond {A = Answer} t (record { number = 0; length = length ys }) (record { number = 23; length = 0 })).number
+      go : (t : Bool) → decoded_number (cond {A = Result ℕ DecodeError} t (Ok (0 + length ys)) (Err NoRoom)) ≡ (cond {A = Answer} t (record { number = 0; length = length ys }) (record { number = 23; length = 0 })).number
       go true = refl
       go false = refl
 
@@ -140,7 +134,7 @@ module _ (out : List ℕ) where
   length_of none = refl
   length_of (some ys) = go (room out 0 ys) ∙ sym (ap (λ (x : Answer). x.length) (written_is out ys))
     where
-      go : (t : Bool) → decoded_length (cond t (Upto (0 + length ys)) NoRoom) ≡ (cond {A = Answer} t (record { number = 0; length = length ys }) (record { number = 23; length = 0 })).length
+      go : (t : Bool) → decoded_length (cond {A = Result ℕ DecodeError} t (Ok (0 + length ys)) (Err NoRoom)) ≡ (cond {A = Answer} t (record { number = 0; length = length ys }) (record { number = 23; length = 0 })).length
       go true = omega arith
       go false = refl
 
@@ -150,11 +144,11 @@ module _ (out : List ℕ) where
 
 -- what a reader answers, as number, output and length
 module _ (out : List ℕ) (o : Option (List ℕ)) where
-  pub read_is : {d : Decoded} {n end : ℕ} {b : List ℕ} → (d ≡ answer_of o out 0) × (b ≡ buffer_of o out 0) → end ≡ decoded_length d → n ≡ decoded_number d
+  pub read_is : {d : Result ℕ DecodeError} {n end : ℕ} {b : List ℕ} → (d ≡ answer_of o out 0) × (b ≡ buffer_of o out 0) → end ≡ decoded_length d → n ≡ decoded_number d
       → (n ≡ (answer_with 22 o out).number) × (b ≡ bufferWith o out) × (end ≡ (answer_with 22 o out).length)
   read_is p ql qn = (qn ∙ ap decoded_number p.0 ∙ number_of out o, p.1 ∙ buffer_of_lem out o, ql ∙ ap decoded_length p.0 ∙ length_of out o)
 
-pub decode_is : (url : ℕ) (text out : List ℕ) {a : Alphabet} {d : Decoded} {n end : ℕ} {b : List ℕ} → a ≡ alphabet_of url
+pub decode_is : (url : ℕ) (text out : List ℕ) {a : Alphabet} {d : Result ℕ DecodeError} {n end : ℕ} {b : List ℕ} → a ≡ alphabet_of url
     → (d ≡ B.decode_answer a text out 0) × (b ≡ B.decode_buffer a text out 0) → end ≡ decoded_length d → n ≡ decoded_number d
     → (n ≡ (decode_answer url text out).number) × (b ≡ decode_buffer url text out) × (end ≡ (decode_answer url text out).length)
 unfolding decode_answer decode_buffer
@@ -162,7 +156,7 @@ decode_is url text out ea p ql qn =
     read_is out (decoding (alphabet_of url) text)
     (p.0 ∙ ap (λ (x : Alphabet). answer_of (decoding x text) out 0) ea, p.1 ∙ ap (λ (x : Alphabet). buffer_of (decoding x text) out 0) ea) ql qn
 
-pub decode_is_32 : (text out : List ℕ) {d : Decoded} {n end : ℕ} {b : List ℕ}
+pub decode_is_32 : (text out : List ℕ) {d : Result ℕ DecodeError} {n end : ℕ} {b : List ℕ}
     → (d ≡ answer_of (decoding32 text) out 0) × (b ≡ buffer_of (decoding32 text) out 0) → end ≡ decoded_length d → n ≡ decoded_number d
     → (n ≡ (decode_answer32 text out).number) × (b ≡ decode_buffer32 text out) × (end ≡ (decode_answer32 text out).length)
 unfolding decode_answer32 decode_buffer32

@@ -1,22 +1,15 @@
 -- What the calls on BASE64, BASE32 and SHA-256 answer and leave, in the header's words.
-use Prim.Native.Nat.{ℕ, ◌+◌, ◌-◌}
-use mathlib.Core.Path.{◌≡◌, refl, sym, ap, ◌∙◌, subst}
-use mathlib.Core.Bool.{Bool, cond}
-use mathlib.Core.List.{List}
-use mathlib.Core.Option.{Option, none, some}
-use native.Mathlib.Omega.{arith}
-use borrow.Author.Tests.{ne_eqb, le-leb, lt-leb}
-use lib.Dec.{eqb}
-use lib.ListN.{length}
+use Rattle.std.proofs.Common.{ℕ, ◌+◌, ◌-◌, ◌≡◌, refl, sym, ap, ◌∙◌, subst, Bool, cond, List, arith, ne_eqb, le-leb, eqb, length}
+use Rattle.std.proofs.Math.Option.{Option, none, some}
+use Rattle.std.proofs.lemmas.Bool.{lt-leb}
 use Rattle.primitives.specs.Bytes.{AllBytes}
 use Rattle.primitives.specs.Place.{placed}
-use Rattle.primitives.specs.Answers.{written, answer_with, bufferWith}
+use Rattle.primitives.specs.Answers.{Answer, written, answer_with, bufferWith}
 use Rattle.primitives.specs.Questions.{ask, ifZero}
 use Rattle.primitives.specs.Base32.{encoding32, decoding32}
 use Rattle.primitives.specs.Base64.{encoding, decoding}
 use Rattle.primitives.specs.declared.base64.Alphabet.{Alphabet}
 use Rattle.primitives.specs.declared.base64.Alphabet.TheVariants.{Standard, UrlSafe}
-use Rattle.primitives.specs.declared.answer.Answer.{Answer}
 use Rattle.primitives.proofs.Answers.{written_room, written_full}
 use Rattle.primitives.proofs.Over.{placed_room, placed_full}
 use Rattle.primitives.proofs.Laws.{decoding_is_exact, decoding_is_exact32}

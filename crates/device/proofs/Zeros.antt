@@ -1,26 +1,19 @@
 -- Values that are all zero, and how the questions answer them.
-use Prim.Native.Nat.{ℕ}
-use mathlib.Core.Path.{◌≡◌, refl, sym, ap, ◌∙◌}
-use mathlib.Core.Bool.{false}
-use mathlib.Core.List.{List}
-use native.Mathlib.Omega.{arith}
-use lib.ListN.{replicate}
-use borrow.Author.Tests.{le-ltb}
+use Rattle.std.proofs.Common.{ℕ, ◌≡◌, refl, sym, ap, ◌∙◌, false, List, arith, replicate, le-ltb}
 use Rattle.primitives.specs.Number.{digits_of, bytes_of}
 use Rattle.primitives.specs.Counter.{width_good, half, fits_in, counter_fits, twos, counter_bytes}
 use Rattle.primitives.proofs.Rows.{ask_no}
 use Rattle.receipt.specs.Settings.{between, csp_good, settings_number_for}
 use Rattle.journal.specs.State.{unopened}
+use Rattle.journal.specs.declared.state.TakenOver.{TakenOver}
 use Rattle.journal.specs.Changing.{change_number}
 use Rattle.primitives.specs.Questions.{ask}
 use Rattle.journal.specs.Opening.{open_number}
 use Rattle.journal.specs.Step.{sound_alone, sound, number_above, details_number_within}
 use Rattle.journal.specs.Issuing.{issue_number, issue_number_within}
 use Rattle.journal.specs.Preparing.{prepare_number}
-use Rattle.journal.specs.Parts.{ready, check_steps}
+use Rattle.journal.specs.Parts.{ready, handed_back, check_steps}
 use Rattle.journal.specs.declared.state.State.{State}
-use Rattle.journal.specs.declared.state.TakenOver.{TakenOver}
-use Rattle.journal.proofs.PartCalls.{handed_is}
 use Rattle.journal.proofs.PartSteps.{check_six}
 use Rattle.device.specs.Layout.{names_bytes, register_bytes, figures_bytes, state_bytes}
 use Rattle.device.specs.Details.{no_details}
@@ -41,6 +34,11 @@ no_settings_get_one shared n room = ask_no 1 _ csp_bad
 unopened_unsound : sound_alone unopened ≡ false
 unfolding sound_alone unopened
 unopened_unsound = rw csp_bad
+
+-- what a refused check hands back, by its parts
+pub handed_is : (m i : ℕ) (st : State) → record { number = m; index = i; state = st } ≡ handed_back m i st
+unfolding handed_back
+handed_is m i st = refl
 
 -- a check from it
 pub unopened_checked : (j : List ℕ) (n : ℕ) → check_steps unopened j n ≡ record { number = 6; index = 0; state = unopened }

@@ -1,6 +1,7 @@
 -- What the calls from C ask, in the words of include/ditgrux.h and in its order, apart from the tests that code follows: a call returns the number of its
 -- first "no", both ways. The proofs are in proofs/AskingInC.antt.
 use Rattle.std.specs.Prelude.{ℕ, ◌+◌, ◌≤◌, ◌<◌, ◌≡◌, Bool, true, List, [], ◌∷◌, ◌⊎◌, ℤ, pos, ◌+ℤ◌, length, get_or, replicate}
+use Rattle.primitives.specs.Answers.{Answer}
 use Rattle.primitives.specs.Bytes.{AllBytes}
 use Rattle.primitives.specs.Place.{overwrite, placed}
 use Rattle.primitives.specs.Counter.{counter_fits}
@@ -8,7 +9,6 @@ use Rattle.primitives.specs.Sha256.{sha256}
 use Rattle.primitives.specs.Base32.{encoding32}
 use Rattle.primitives.specs.Base64.{encoding}
 use Rattle.primitives.specs.declared.base64.Alphabet.TheVariants.{Standard, UrlSafe}
-use Rattle.primitives.specs.declared.answer.Answer.{Answer}
 use Rattle.primitives.specs.Questions.{Row, asked_all, question, GivesFirstNo}
 use Rattle.receipt.specs.Settings.{name_of}
 use Rattle.receipt.specs.SettingsWords.{IdByte, SerialByte, GoodCsp, GoodId, GoodSerial, GoodWidth, NoDigitIfShared}

@@ -1,12 +1,13 @@
 -- What the calls of a register answer and leave, from the bytes that they are given.
 use Rattle.std.specs.Prelude.{ℕ, Bool, cond, List, leb, eqb, ℤ, length, get_or}
+use Rattle.primitives.specs.Answers.{Answer}
 use Rattle.primitives.specs.Questions.{ask, ifZero}
 use Rattle.receipt.specs.Settings.{name_text, name_of, settings_number}
-use Rattle.primitives.specs.declared.answer.Answer.{Answer}
 use Rattle.receipt.specs.declared.settings.Name.{Name}
 use Rattle.receipt.specs.declared.settings.Settings.{Settings}
 use Rattle.receipt.specs.declared.details.Details.{Details}
-use Rattle.journal.specs.State.{no_name, used, unopened}
+use Rattle.journal.specs.State.{no_name, used, unopened, Opened, Issued, IssuedList, Changed}
+use Rattle.journal.specs.declared.state.TakenOver.{TakenOver}
 use Rattle.journal.specs.Opening.{opened, open_buffer}
 use Rattle.journal.specs.Preparing.{prepare_answer, prepare_buffer}
 use Rattle.journal.specs.Issuing.{issued, issue_buffer}
@@ -15,12 +16,7 @@ use Rattle.journal.specs.Changing.{changed, change_buffer}
 use Rattle.journal.specs.Calls.{Order}
 use Rattle.journal.specs.Checking.{check_head, take_over}
 use Rattle.journal.specs.Parts.{check_steps}
-use Rattle.journal.specs.declared.state.Opened.{Opened}
 use Rattle.journal.specs.declared.state.State.{State}
-use Rattle.journal.specs.declared.state.Issued.{Issued}
-use Rattle.journal.specs.declared.state.IssuedList.{IssuedList}
-use Rattle.journal.specs.declared.state.Changed.{Changed}
-use Rattle.journal.specs.declared.state.TakenOver.{TakenOver}
 use Rattle.device.specs.Layout.{settings_bytes, array_of, settings_of, width_of, key_of, state_of, kept}
 use Rattle.device.specs.Details.{details_of, list_in}
 

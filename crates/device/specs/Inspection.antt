@@ -1,9 +1,7 @@
 -- The export for an inspector over bytes.
 use Rattle.std.specs.Prelude.{ℕ, cond, List, eqb, length}
-use Rattle.exports.specs.Writing.{exported, export_buffer}
-use Rattle.exports.specs.Reading.{not_read, restored, restored_buffer}
-use Rattle.exports.specs.declared.writing.Exported.{Exported}
-use Rattle.exports.specs.declared.reading.Restored.{Restored}
+use Rattle.exports.specs.Writing.{exported, export_buffer, Exported}
+use Rattle.exports.specs.Reading.{not_read, restored, restored_buffer, Restored}
 use Rattle.device.specs.Layout.{array_of}
 use Rattle.device.specs.Calls.{width_with}
 

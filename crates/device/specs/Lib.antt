@@ -1,3 +1,4 @@
+pub mod Answers
 pub mod AskedInC
 pub mod Calls
 pub mod Demand

@@ -3,9 +3,8 @@ use Rattle.std.specs.Prelude.{ℕ, Bool, List, eqb, length}
 use Rattle.primitives.specs.Place.{overwrite}
 use Rattle.primitives.specs.Questions.{ask, ifZero}
 use Rattle.receipt.specs.Settings.{settings_number}
-use Rattle.receipt.specs.Compact.{read_entry}
+use Rattle.receipt.specs.Compact.{read_entry, Found}
 use Rattle.receipt.specs.declared.settings.Settings.{Settings}
-use Rattle.receipt.specs.declared.entry.Found.{Found}
 use Rattle.journal.specs.Calls.{Order, order_of}
 use Rattle.device.specs.Layout.{settings_of, width_of}
 use Rattle.device.specs.Details.{details_bytes}

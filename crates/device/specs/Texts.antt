@@ -1,16 +1,15 @@
 -- What the calls on texts answer and leave.
-use Rattle.std.specs.Prelude.{ℕ, ◌-◌, cond, List, leb, eqb, length}
+use Rattle.std.specs.Prelude.{ℕ, ◌-◌, cond, List, leb, eqb, length, Result, Ok, Err}
 use Rattle.primitives.specs.Place.{overwrite, placed}
 use Rattle.primitives.specs.Sha256.{sha256}
 use Rattle.primitives.specs.Base32.{encoding32, decoding32}
 use Rattle.primitives.specs.Base64.{encoding, decoding}
 use Rattle.primitives.specs.declared.base64.Alphabet.{Alphabet}
 use Rattle.primitives.specs.declared.base64.Alphabet.TheVariants.{Standard, UrlSafe}
-use Rattle.primitives.specs.declared.base64.Decoded.{Decoded}
-use Rattle.primitives.specs.declared.base64.Decoded.TheVariants.{Upto, Refused, NoRoom}
+use Rattle.primitives.specs.declared.base64.DecodeError.{DecodeError}
+use Rattle.primitives.specs.declared.base64.DecodeError.TheVariants.{Refused, NoRoom}
 use Rattle.receipt.specs.Code.{id_place}
-use Rattle.primitives.specs.Answers.{written, answer_with, bufferWith}
-use Rattle.primitives.specs.declared.answer.Answer.{Answer}
+use Rattle.primitives.specs.Answers.{Answer, written, answer_with, bufferWith}
 
 -- ---- the ID field of a code
 
@@ -73,12 +72,11 @@ decode_buffer32 text out = bufferWith (decoding32 text) out
 unfoldable pub written_number : ℕ → ℕ → ℕ
 written_number n end = cond (eqb n 0) 0 (cond (eqb end 0) 23 0)
 
-abbrev pub decoded_length : Decoded → ℕ
-decoded_length (Upto end) = end
-decoded_length Refused = 0
-decoded_length NoRoom = 0
+abbrev pub decoded_length : Result ℕ DecodeError → ℕ
+decoded_length (Ok end) = end
+decoded_length (Err _) = 0
 
-abbrev pub decoded_number : Decoded → ℕ
-decoded_number (Upto end) = 0
-decoded_number Refused = 22
-decoded_number NoRoom = 23
+abbrev pub decoded_number : Result ℕ DecodeError → ℕ
+decoded_number (Ok end) = 0
+decoded_number (Err Refused) = 22
+decoded_number (Err NoRoom) = 23

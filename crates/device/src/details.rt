@@ -24,14 +24,22 @@ pub(crate) fn no_details() -> Details
             minute: 0,
             second: 0,
         },
-        amounts: [0i64; 5],
+        amounts: [0; 5],
         kind: Kind::Standard,
     }
 }
 
-fn details_with(number: u32, date: DateTime, amounts: [i64; 5], kind: Kind) -> Details
-    ensures { result ≡ details_with number date amounts kind }
+// Details of kind 0, 1 or 2; all zero for any other kind. C has numbers for kinds, and the definition `of_kind` answers for each number, so there is no error
+// that a `TryFrom` could give.
+fn of_kind(number: u32, date: DateTime, amounts: [i64; 5], kind: u32) -> Details
+    ensures { result ≡ of_kind number date amounts kind }
 {
+    let kind = match kind {
+        0 => Kind::Standard,
+        1 => Kind::Cancellation,
+        2 => Kind::Training,
+        _ => return no_details(),
+    };
     Details {
         number,
         date,
@@ -40,35 +48,7 @@ fn details_with(number: u32, date: DateTime, amounts: [i64; 5], kind: Kind) -> D
     }
 }
 
-// Details of kind 0, 1 or 2; all zero for any other kind.
-fn of_kind(number: u32, date: DateTime, amounts: [i64; 5], kind: u32) -> Details
-    ensures { result ≡ of_kind number date amounts kind }
-{
-    if kind == 0 {
-        return details_with(number, date, amounts, Kind::Standard);
-    }
-    if kind == 1 {
-        return details_with(number, date, amounts, Kind::Cancellation);
-    }
-    if kind == 2 {
-        return details_with(number, date, amounts, Kind::Training);
-    }
-    no_details()
-}
-
-fn date_of(year: u32, month: u32, day: u32, hour: u32, minute: u32, second: u32) -> DateTime
-    ensures { result ≡ date_of year month day hour minute second }
-{
-    DateTime {
-        year,
-        month,
-        day,
-        hour,
-        minute,
-        second,
-    }
-}
-
+// Thirteen arguments, as the calls from C have them.
 pub(crate) fn details_of(
     number: u32,
     year: u32,
@@ -86,13 +66,20 @@ pub(crate) fn details_of(
 ) -> Details
     ensures { result ≡ details_of number year month day hour minute second a b c d e kind }
 {
-    let date = date_of(year, month, day, hour, minute, second);
-    let amounts = [a, b, c, d, e];
-    of_kind(number, date, amounts, kind)
+    let date = DateTime {
+        year,
+        month,
+        day,
+        hour,
+        minute,
+        second,
+    };
+    of_kind(number, date, [a, b, c, d, e], kind)
 }
 
 // ---- as bytes
 
+// The number that C has for a kind.
 fn kind_number(kind: Kind) -> u32
     ensures { result ≡ kind_number kind }
 {
@@ -108,11 +95,8 @@ fn put_numbers(numbers: [u32; 8], out: &mut [u8])
     requires { 32 ≤ length out.old }
     ensures { out.new ≡ overwrite out.old 0 (numbers_bytes numbers) }
 {
-    let mut at: usize = 0;
-    let mut i: usize = 0;
-    while i < 8 {
-        at = receipt::put_number(out, at, 4, numbers[i] as u64);
-        i += 1;
+    for (i, number) in numbers.iter().enumerate() {
+        let _ = receipt::put_number(out, 4 * i, 4, u64::from(*number));
     }
 }
 
@@ -121,12 +105,8 @@ fn put_amounts(amounts: [i64; 5], out: &mut [u8])
     requires { 72 ≤ length out.old }
     ensures { out.new ≡ overwrite out.old 32 (amounts_bytes amounts) }
 {
-    let mut at: usize = 32;
-    let mut i: usize = 0;
-    while i < 5 {
-        let bytes = primitives::counter_bytes(8, amounts[i]);
-        at = receipt::put(out, at, &bytes);
-        i += 1;
+    for (i, amount) in amounts.iter().enumerate() {
+        let _ = receipt::put(out, 32 + 8 * i, &primitives::counter_bytes(8, *amount));
     }
 }
 
@@ -136,37 +116,37 @@ pub(crate) fn put_details(d: Details, out: &mut [u8])
     ensures { out.new ≡ details_bytes d }
 {
     let date = d.date;
-    let amounts = d.amounts;
-    let k = d.kind;
-    let kind = kind_number(k);
-    let numbers = [
-        d.number,
-        date.year,
-        date.month,
-        date.day,
-        date.hour,
-        date.minute,
-        date.second,
-        kind,
-    ];
-    put_numbers(numbers, out);
-    put_amounts(amounts, out);
+    put_numbers(
+        [
+            d.number,
+            date.year,
+            date.month,
+            date.day,
+            date.hour,
+            date.minute,
+            date.second,
+            kind_number(d.kind),
+        ],
+        out,
+    );
+    put_amounts(d.amounts, out);
 }
 
-// ---- from bytes
+// ---- from bytes: of a slice of at least 72, since the details of a list from C lie in one slice after another
 
 // Year, month, day, hour, minute and second: the second to the seventh number.
 fn date_in(b: &[u8]) -> DateTime
     requires { 72 ≤ length b.now }
     ensures { let d : _ = b.now in result ≡ date_of (number_in d 1) (number_in d 2) (number_in d 3) (number_in d 4) (number_in d 5) (number_in d 6) }
 {
-    let year = word_at(b, 4);
-    let month = word_at(b, 8);
-    let day = word_at(b, 12);
-    let hour = word_at(b, 16);
-    let minute = word_at(b, 20);
-    let second = word_at(b, 24);
-    date_of(year, month, day, hour, minute, second)
+    DateTime {
+        year: word_at(b, 4),
+        month: word_at(b, 8),
+        day: word_at(b, 12),
+        hour: word_at(b, 16),
+        minute: word_at(b, 20),
+        second: word_at(b, 24),
+    }
 }
 
 // The five amounts after the numbers.
@@ -174,12 +154,14 @@ fn amounts_in(b: &[u8]) -> [i64; 5]
     requires { 72 ≤ length b.now }
     ensures { let d : _ = b.now in result ≡ amount_in d 0 ∷ amount_in d 1 ∷ amount_in d 2 ∷ amount_in d 3 ∷ amount_in d 4 ∷ [] }
 {
-    let standard = counter_at(b, 32);
-    let reduced_1 = counter_at(b, 40);
-    let reduced_2 = counter_at(b, 48);
-    let zero = counter_at(b, 56);
-    let special = counter_at(b, 64);
-    [standard, reduced_1, reduced_2, zero, special]
+    // Five calls: with `array::from_fn` over amounts the proof did not close.
+    [
+        counter_at(b, 32),
+        counter_at(b, 40),
+        counter_at(b, 48),
+        counter_at(b, 56),
+        counter_at(b, 64),
+    ]
 }
 
 // The details that 72 bytes stand for; all zero if their kind is not 0, 1 or 2.
@@ -187,9 +169,5 @@ pub(crate) fn details_in(b: &[u8]) -> Details
     requires { 72 ≤ length b.now }
     ensures { result ≡ details_in b.now }
 {
-    let number = word_at(b, 0);
-    let date = date_in(b);
-    let kind = word_at(b, 28);
-    let amounts = amounts_in(b);
-    of_kind(number, date, amounts, kind)
+    of_kind(word_at(b, 0), date_in(b), amounts_in(b), word_at(b, 28))
 }

@@ -3,8 +3,10 @@ ghost use Rattle.std.specs.Prelude.{◌≡◌, length};
 ghost use Rattle.device.specs.Layout.{kept};
 ghost use Rattle.device.specs.Inspection.{export_answer, export_output, read_answer, read_output};
 
+use super::answers::{tell, tell_index};
 use super::layout::{STATE, keep};
-use super::register::{key_from, width_with};
+use super::register::{array_of, width_with};
+use primitives::Refusal;
 
 // Takes a journal over and writes it with its certificates as an export. Questions 4, 14 to 21, 30 and 31, then 28 and 23.
 #[unsafe(no_mangle)]
@@ -22,12 +24,14 @@ pub extern "C" fn ditgrux_export(
         × (length.new ≡ (export_answer journal.now key.now width certificates.now output.old).length)
         × (index.new ≡ (export_answer journal.now key.now width certificates.now output.old).index) }
 {
-    let k = key_from(key);
-    let n = width_with(key, width);
-    let answer = exports::export(journal, k, n, certificates, output);
-    *length = answer.length;
-    *index = answer.index;
-    answer.number
+    let written = exports::export(
+        journal,
+        array_of(key),
+        width_with(key, width),
+        certificates,
+        output,
+    );
+    tell(tell_index(written, index), length)
 }
 
 // Reads an export, writes the journal that it spells and the state that it leads to. 6 if the state is not 447 bytes long, then questions 28, 29, 28
@@ -51,14 +55,20 @@ pub extern "C" fn ditgrux_read_export(
     if state.len() != STATE {
         *length = 0;
         *index = 0;
-        return 6;
+        return Refusal::BadState.number();
     }
-    let k = key_from(key);
-    let n = width_with(key, width);
-    let answer = exports::read_export(text, k, n, output);
-    let st = answer.state;
-    keep(st, state);
-    *length = answer.length;
-    *index = answer.index;
-    answer.number
+    match exports::read_export(text, array_of(key), width_with(key, width), output) {
+        Ok(restored) => {
+            keep(restored.state, state);
+            *length = restored.length;
+            *index = 0;
+            0
+        }
+        Err(refused) => {
+            keep(journal::unopened(), state);
+            *length = 0;
+            *index = refused.index;
+            refused.question.number()
+        }
+    }
 }

@@ -6,7 +6,7 @@ ghost use Rattle.primitives.specs.Counter.{counter_bytes, counter_value};
 ghost use Rattle.device.specs.Layout.{version, name_bytes, settings_bytes, names_bytes, register_bytes, state_bytes, name_at, settings_at, width_at, key_at, names_at, state_at, settings_of, width_of, key_of, state_of, kept};
 
 use journal::State;
-use receipt::{Name, Number, Settings};
+use receipt::{Name, Settings};
 
 // The version of the layouts.
 #[unsafe(no_mangle)]
@@ -21,36 +21,20 @@ pub(crate) const SETTINGS: usize = 123;
 
 pub(crate) const STATE: usize = 447;
 
+pub(crate) const NO_NAME: Name = Name {
+    bytes: [0; 32],
+    len: 0,
+};
+
 // ---- reading
 
-pub(crate) fn array3_at(b: &[u8], at: usize) -> [u8; 3]
-    requires { at + 3 ≤ length b.now }
-    ensures { result ≡ take 3 (drop at b.now) }
+pub(crate) fn array_at<const N: usize>(b: &[u8], at: usize) -> [u8; N]
+    requires { at + N ≤ length b.now }
+    ensures { result ≡ take N (drop at b.now) }
 {
-    let mut r = [0u8; 3];
-    let end = at + 3;
-    let _ = receipt::put(&mut r, 0, &b[at..end]);
-    r
-}
-
-fn array8_at(b: &[u8], at: usize) -> [u8; 8]
-    requires { at + 8 ≤ length b.now }
-    ensures { result ≡ take 8 (drop at b.now) }
-{
-    let mut r = [0u8; 8];
-    let end = at + 8;
-    let _ = receipt::put(&mut r, 0, &b[at..end]);
-    r
-}
-
-pub(crate) fn array32_at(b: &[u8], at: usize) -> [u8; 32]
-    requires { at + 32 ≤ length b.now }
-    ensures { result ≡ take 32 (drop at b.now) }
-{
-    let mut r = [0u8; 32];
-    let end = at + 32;
-    let _ = receipt::put(&mut r, 0, &b[at..end]);
-    r
+    let mut bytes = [0; N];
+    bytes.copy_from_slice(&b[at..at + N]);
+    bytes
 }
 
 // The number of four bytes.
@@ -58,10 +42,7 @@ pub(crate) fn word_at(b: &[u8], at: usize) -> u32
     requires { at + 4 ≤ length b.now }
     ensures { result ≡ count_at b.now at 4 }
 {
-    match receipt::number_at(b, at, 4) {
-        Number::Is(v) => v as u32,
-        Number::Missing => 0,
-    }
+    u32::from_be_bytes(array_at(b, at))
 }
 
 // The number of eight bytes.
@@ -69,10 +50,7 @@ fn long_at(b: &[u8], at: usize) -> usize
     requires { at + 8 ≤ length b.now }
     ensures { result ≡ count_at b.now at 8 }
 {
-    match receipt::number_at(b, at, 8) {
-        Number::Is(v) => v as usize,
-        Number::Missing => 0,
-    }
+    usize::from_be_bytes(array_at(b, at))
 }
 
 // The counter, or an amount, of eight bytes.
@@ -80,27 +58,28 @@ pub(crate) fn counter_at(b: &[u8], at: usize) -> i64
     requires { at + 8 ≤ length b.now }
     ensures { result ≡ counter_value 8 (take 8 (drop at b.now)) }
 {
-    let bytes = array8_at(b, at);
-    primitives::counter_value(8, bytes)
+    primitives::counter_value(8, array_at(b, at))
 }
 
 fn name_at(b: &[u8], at: usize) -> Name
     requires { at + 40 ≤ length b.now }
     ensures { result ≡ name_at b.now at }
 {
-    let bytes = array32_at(b, at);
-    let len = long_at(b, at + 32);
-    Name { bytes, len }
+    Name {
+        bytes: array_at(b, at),
+        len: long_at(b, at + 32),
+    }
 }
 
 fn settings_at(b: &[u8]) -> Settings
     requires { 123 ≤ length b.now }
     ensures { result ≡ settings_at b.now }
 {
-    let csp = array3_at(b, 0);
-    let id = name_at(b, 3);
-    let serial = name_at(b, 43);
-    Settings { csp, id, serial }
+    Settings {
+        csp: array_at(b, 0),
+        id: name_at(b, 3),
+        serial: name_at(b, 43),
+    }
 }
 
 fn width_at(b: &[u8]) -> usize
@@ -114,7 +93,7 @@ fn key_at(b: &[u8]) -> [u8; 32]
     requires { 123 ≤ length b.now }
     ensures { result ≡ key_at b.now }
 {
-    array32_at(b, 91)
+    array_at(b, 91)
 }
 
 // The eight serials of a state.
@@ -122,64 +101,51 @@ fn serials_at(b: &[u8]) -> [Name; 8]
     requires { 447 ≤ length b.now }
     ensures { result ≡ names_at b.now 43 8 }
 {
-    let s0 = name_at(b, 43);
-    let s1 = name_at(b, 83);
-    let s2 = name_at(b, 123);
-    let s3 = name_at(b, 163);
-    let s4 = name_at(b, 203);
-    let s5 = name_at(b, 243);
-    let s6 = name_at(b, 283);
-    let s7 = name_at(b, 323);
-    [s0, s1, s2, s3, s4, s5, s6, s7]
+    // Eight calls: with `array::from_fn` over names the proof did not close.
+    [
+        name_at(b, 43),
+        name_at(b, 83),
+        name_at(b, 123),
+        name_at(b, 163),
+        name_at(b, 203),
+        name_at(b, 243),
+        name_at(b, 283),
+        name_at(b, 323),
+    ]
 }
 
 fn state_at(b: &[u8]) -> State
     requires { 447 ≤ length b.now }
     ensures { result ≡ state_at b.now }
 {
-    let csp = array3_at(b, 0);
-    let id = name_at(b, 3);
-    let serials = serials_at(b);
-    let width = long_at(b, 363);
-    let key = array32_at(b, 371);
-    let counter = counter_at(b, 403);
-    let last = word_at(b, 411);
-    let issued = word_at(b, 415);
-    let chain = array8_at(b, 419);
-    let length = long_at(b, 427);
-    let since = word_at(b, 435);
-    let place = long_at(b, 439);
     State {
-        csp,
-        id,
-        serials,
-        width,
-        key,
-        counter,
-        last,
-        issued,
-        chain,
-        length,
-        since,
-        place,
+        csp: array_at(b, 0),
+        id: name_at(b, 3),
+        serials: serials_at(b),
+        width: long_at(b, 363),
+        key: array_at(b, 371),
+        counter: counter_at(b, 403),
+        last: word_at(b, 411),
+        issued: word_at(b, 415),
+        chain: array_at(b, 419),
+        length: long_at(b, 427),
+        since: word_at(b, 435),
+        place: long_at(b, 439),
     }
 }
 
 // ---- slices of any length
 
-// The settings in 123 bytes; all zero if the slice has another length.
+// The settings in 123 bytes; all zero if the slice has another length. Settings, width and key each ask the length of the slice, since C lends one of any
+// length and the definitions `settings_of`, `width_of` and `key_of` answer for each.
 pub(crate) fn settings_of(b: &[u8]) -> Settings
     ensures { result ≡ settings_of b.now }
 {
     if b.len() != SETTINGS {
-        let none = Name {
-            bytes: [0u8; 32],
-            len: 0,
-        };
         return Settings {
-            csp: [0u8; 3],
-            id: none,
-            serial: none,
+            csp: [0; 3],
+            id: NO_NAME,
+            serial: NO_NAME,
         };
     }
     settings_at(b)
@@ -200,7 +166,7 @@ pub(crate) fn key_of(b: &[u8]) -> [u8; 32]
     ensures { result ≡ key_of b.now }
 {
     if b.len() != SETTINGS {
-        return [0u8; 32];
+        return [0; 32];
     }
     key_at(b)
 }
@@ -222,8 +188,7 @@ fn put_name(name: Name, out: &mut [u8], at: usize)
     requires { at + 40 ≤ length out.old }
     ensures { out.new ≡ overwrite out.old at (name_bytes name) }
 {
-    let bytes = name.bytes;
-    let _ = receipt::put(out, at, &bytes);
+    let _ = receipt::put(out, at, &name.bytes);
     let _ = receipt::put_number(out, at + 32, 8, name.len as u64);
 }
 
@@ -232,12 +197,9 @@ fn put_names(s: Settings, out: &mut [u8])
     requires { 83 ≤ length out.old }
     ensures { out.new ≡ overwrite out.old 0 (s.csp ++ name_bytes s.id ++ name_bytes s.serial) }
 {
-    let csp = s.csp;
-    let id = s.id;
-    let serial = s.serial;
-    let _ = receipt::put(out, 0, &csp);
-    put_name(id, out, 3);
-    put_name(serial, out, 43);
+    let _ = receipt::put(out, 0, &s.csp);
+    put_name(s.id, out, 3);
+    put_name(s.serial, out, 43);
 }
 
 // Writes width and key after them.
@@ -263,11 +225,8 @@ fn put_serials(slots: [Name; 8], out: &mut [u8])
     requires { 363 ≤ length out.old }
     ensures { out.new ≡ overwrite out.old 43 (names_bytes slots) }
 {
-    let mut i: usize = 0;
-    while i < 8 {
-        let serial = slots[i];
-        put_name(serial, out, 43 + 40 * i);
-        i += 1;
+    for (i, serial) in slots.iter().enumerate() {
+        put_name(*serial, out, 43 + 40 * i);
     }
 }
 
@@ -276,15 +235,11 @@ fn put_register(st: State, out: &mut [u8])
     requires { 403 ≤ length out.old }
     ensures { out.new ≡ overwrite out.old 0 (register_bytes st) }
 {
-    let csp = st.csp;
-    let id = st.id;
-    let serials = st.serials;
-    let key = st.key;
-    let _ = receipt::put(out, 0, &csp);
-    put_name(id, out, 3);
-    put_serials(serials, out);
+    let _ = receipt::put(out, 0, &st.csp);
+    put_name(st.id, out, 3);
+    put_serials(st.serials, out);
     let _ = receipt::put_number(out, 363, 8, st.width as u64);
-    let _ = receipt::put(out, 371, &key);
+    let _ = receipt::put(out, 371, &st.key);
 }
 
 // Writes counter, last number and receipts issued after them.
@@ -292,8 +247,7 @@ fn put_counts(st: State, out: &mut [u8])
     requires { 447 ≤ length out.old }
     ensures { out.new ≡ overwrite out.old 403 (counter_bytes 8 st.counter ++ bytes_of 4 st.last ++ bytes_of 4 st.issued) }
 {
-    let counter = primitives::counter_bytes(8, st.counter);
-    let _ = receipt::put(out, 403, &counter);
+    let _ = receipt::put(out, 403, &primitives::counter_bytes(8, st.counter));
     let _ = receipt::put_number(out, 411, 4, st.last as u64);
     let _ = receipt::put_number(out, 415, 4, st.issued as u64);
 }
@@ -303,8 +257,7 @@ fn put_chain(st: State, out: &mut [u8])
     requires { 447 ≤ length out.old }
     ensures { out.new ≡ overwrite out.old 419 (st.chain ++ bytes_of 8 st.length ++ bytes_of 4 st.since ++ bytes_of 8 st.place) }
 {
-    let chain = st.chain;
-    let _ = receipt::put(out, 419, &chain);
+    let _ = receipt::put(out, 419, &st.chain);
     let _ = receipt::put_number(out, 427, 8, st.length as u64);
     let _ = receipt::put_number(out, 435, 4, st.since as u64);
     let _ = receipt::put_number(out, 439, 8, st.place as u64);
@@ -324,8 +277,7 @@ fn put_state(st: State, out: &mut [u8])
 pub(crate) fn keep(st: State, out: &mut [u8])
     ensures { out.new ≡ kept out.old st }
 {
-    if out.len() != STATE {
-        return;
+    if out.len() == STATE {
+        put_state(st, out);
     }
-    put_state(st, out);
 }

@@ -1,6 +1,7 @@
 // The receipt journal of a cash register for callers in other languages: a state is 447 bytes that the caller keeps.
 #![tactic(auto)]
 
+mod answers;
 mod details;
 mod inspection;
 mod layout;

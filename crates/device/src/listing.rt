@@ -1,5 +1,6 @@
 // A list of receipts as bytes, all issued with a failed device.
 ghost use Rattle.std.specs.Prelude.{◌≡◌, [], ◌∷◌, ◌/◌, ◌%◌, length};
+ghost use Rattle.journal.specs.State.{as_issued_list};
 ghost use Rattle.journal.specs.Listing.{issued_list, list_buffer};
 ghost use Rattle.device.specs.Layout.{state_of};
 ghost use Rattle.device.specs.Details.{no_details, details_from, list_in};
@@ -15,44 +16,39 @@ fn issue_each(state: &[u8], list: &[u8], buf: &mut [u8]) -> IssuedList
     requires { length list.now % 72 ≡ 0 }
     ensures { let ds : _ = details_from (length list.now / 72) list.now in
         let st : _ = state_of state.now in
-        (result ≡ issued_list st ds buf.old) × (buf.new ≡ list_buffer st ds buf.old) }
+        (as_issued_list result ≡ issued_list st ds buf.old) × (buf.new ≡ list_buffer st ds buf.old) }
 {
-    let mut s = state_of(state);
-    let mut at: usize = 0;
-    let mut i: usize = 0;
-    while at < list.len() {
-        let end = at + DETAILS;
-        let d = details_in(&list[at..end]);
-        let one = journal::issue_failed(s, d, buf);
-        if one.number != 0 {
-            return IssuedList {
-                number: one.number,
-                count: i,
-                state: s,
-            };
+    let mut state = state_of(state);
+    let receipts = list.len() / DETAILS;
+    for count in 0..receipts {
+        let at = DETAILS * count;
+        match journal::issue_failed(state, details_in(&list[at..at + DETAILS]), buf) {
+            Ok(after) => state = after,
+            Err(refusal) => {
+                return IssuedList {
+                    refused: Some(refusal),
+                    count,
+                    state,
+                };
+            }
         }
-        s = one.state;
-        at = end;
-        i += 1;
     }
     IssuedList {
-        number: 0,
-        count: i,
-        state: s,
+        refused: None,
+        count: receipts,
+        state,
     }
 }
 
 // Issues none, for a list that is not a whole number of details: refused as receipt number 0 is.
 fn issue_none(state: &[u8], buf: &mut [u8]) -> IssuedList
-    ensures { (result ≡ issued_list (state_of state.now) (no_details ∷ []) buf.old) × (buf.new ≡ buf.old) }
+    ensures { (as_issued_list result ≡ issued_list (state_of state.now) (no_details ∷ []) buf.old) × (buf.new ≡ buf.old) }
 {
-    let st = state_of(state);
-    let d = no_details();
-    let one = journal::issue_failed(st, d, buf);
+    let state = state_of(state);
     IssuedList {
-        number: one.number,
+        refused: journal::issue_failed(state, no_details(), buf).err(),
         count: 0,
-        state: st,
+        state,
     }
 }
 
@@ -60,7 +56,7 @@ fn issue_none(state: &[u8], buf: &mut [u8]) -> IssuedList
 fn issue_bytes(state: &[u8], list: &[u8], buf: &mut [u8]) -> IssuedList
     ensures { let ds : _ = list_in list.now in
         let st : _ = state_of state.now in
-        (result ≡ issued_list st ds buf.old) × (buf.new ≡ list_buffer st ds buf.old) }
+        (as_issued_list result ≡ issued_list st ds buf.old) × (buf.new ≡ list_buffer st ds buf.old) }
 {
     if list.len() % DETAILS != 0 {
         return issue_none(state, buf);
@@ -83,8 +79,10 @@ pub extern "C" fn ditgrux_issue_list(
         × (issued.new ≡ listed_count g list.now) }
 {
     let answer = issue_bytes(state, list, journal);
-    let after = answer.state;
-    keep(after, state);
+    keep(answer.state, state);
     *issued = answer.count;
-    answer.number
+    match answer.refused {
+        None => 0,
+        Some(refusal) => refusal.number(),
+    }
 }

@@ -3,8 +3,10 @@ ghost use Rattle.std.specs.Prelude.{◌≡◌, length};
 ghost use Rattle.device.specs.Layout.{kept};
 ghost use Rattle.device.specs.Calls.{head_answer, steps_answer};
 
-use super::layout::{STATE, keep, state_of};
-use super::register::{key_from, width_with};
+use super::answers::{keep_after, tell_index};
+use super::layout::{STATE, state_of};
+use super::register::{array_of, width_with};
+use primitives::Refusal;
 
 // Checks the head of a journal and writes the state of a register without receipts. 6 if the state is not 447 bytes long, then questions 4 and 14.
 #[unsafe(no_mangle)]
@@ -18,14 +20,11 @@ pub extern "C" fn ditgrux_check_head(
         × (state.new ≡ kept state.old (head_answer journal.now key.now width (length state.old)).state) }
 {
     if state.len() != STATE {
-        return 6;
+        return Refusal::BadState.number();
     }
-    let k = key_from(key);
-    let n = width_with(key, width);
-    let answer = journal::check_head(journal, k, n);
-    let st = answer.state;
-    keep(st, state);
-    answer.number
+    let checked = journal::check_head(journal, array_of(key), width_with(key, width));
+    // The head has no index.
+    keep_after(tell_index(checked, &mut 0), journal::unopened(), state)
 }
 
 // Goes on from the state through so many steps and writes the state after them. Questions 6, 15 to 21, 30 and 31.
@@ -41,9 +40,6 @@ pub extern "C" fn ditgrux_check_steps(
         × (index.new ≡ (steps_answer state.old journal.now steps).index) }
 {
     let st = state_of(state);
-    let answer = journal::check_steps(st, journal, steps);
-    let after = answer.state;
-    keep(after, state);
-    *index = answer.index;
-    answer.number
+    let checked = journal::check_steps(st, journal, steps);
+    keep_after(tell_index(checked, index), st, state)
 }

@@ -1,33 +1,37 @@
 // A receipt read back: the details and the signature of one compact form.
-ghost use Rattle.std.specs.Prelude.{◌≡◌, cond, [], length};
+ghost use Rattle.std.specs.Prelude.{◌≡◌, cond, [], length, IfOk, Some};
+ghost use Rattle.primitives.specs.Refusals.{answer_number};
+ghost use Rattle.receipt.specs.Compact.{as_found};
 ghost use Rattle.primitives.specs.Place.{overwrite};
 ghost use Rattle.device.specs.ReadBack.{read_number, read_back};
 
 use super::details::{DETAILS, put_details};
 use super::layout::{settings_of, width_of};
-use receipt::{Settings, Signature};
+use primitives::Refusal;
+use receipt::{Entry, Settings, Signature};
 
 // A signature is 64 bytes long.
 const SIGNATURE: usize = 64;
 
 // Questions 1 to 4 of the settings, 16 of the form, then 23 for outputs of these lengths.
-fn read_number(s: Settings, n: usize, ok: bool, details: usize, signature: usize) -> u32
-    ensures { result ≡ read_number s n ok details signature }
+fn ask_read(
+    s: Settings,
+    n: usize,
+    found: Option<Entry>,
+    details: usize,
+    signature: usize,
+) -> Result<Entry, Refusal>
+    ensures number { answer_number result ≡ read_number s n (as_found found).ok details signature }
+    ensures entry { IfOk result (λ e. found ≡ Some e) }
 {
-    let number = receipt::settings_number(s, n);
-    if number != 0 {
-        return number;
+    receipt::ask_settings(s, n)?;
+    let Some(entry) = found else {
+        return Err(Refusal::EntryMisspelled);
+    };
+    if details != DETAILS || signature != SIGNATURE {
+        return Err(Refusal::OutputShort);
     }
-    if !ok {
-        return 16;
-    }
-    if details != DETAILS {
-        return 23;
-    }
-    if signature != SIGNATURE {
-        return 23;
-    }
-    0
+    Ok(entry)
 }
 
 // Writes the signature that was given and returns its length; writes nothing if the device had failed.
@@ -38,8 +42,7 @@ fn put_signature(g: Signature, out: &mut [u8]) -> usize
     if g.failed {
         return 0;
     }
-    let bytes = g.bytes;
-    receipt::put(out, 0, &bytes)
+    receipt::put(out, 0, &g.bytes)
 }
 
 // Writes the details and the signature of a compact form. Questions 1 to 4, 16 and 23.
@@ -59,16 +62,15 @@ pub extern "C" fn ditgrux_read(
     let s = settings_of(settings);
     let n = width_of(settings);
     let found = receipt::read_entry(s, n, form);
-    let number = read_number(s, n, found.ok, details.len(), signature.len());
-    if number != 0 {
-        *length = 0;
-        return number;
+    match ask_read(s, n, found, details.len(), signature.len()) {
+        Ok(entry) => {
+            put_details(entry.fields.details, details);
+            *length = put_signature(entry.signature, signature);
+            0
+        }
+        Err(refusal) => {
+            *length = 0;
+            refusal.number()
+        }
     }
-    let e = found.entry;
-    let f = e.fields;
-    let d = f.details;
-    let g = e.signature;
-    put_details(d, details);
-    *length = put_signature(g, signature);
-    0
 }

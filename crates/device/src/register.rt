@@ -2,74 +2,54 @@
 ghost use Rattle.std.specs.Prelude.{◌≡◌, true, false, []};
 ghost use lib.ListN.{length};
 ghost use Rattle.primitives.specs.Place.{placed};
+ghost use Rattle.primitives.specs.Refusals.{answer_number};
 ghost use Rattle.device.specs.Layout.{array_of, kept};
 ghost use Rattle.device.specs.Calls.{settings_from, width_with, settings_answer, settings_returned, settings_buffer, counter_in, last_number_in, receipt_count_in, journal_length_in, serial_count_in, serial_in, serial_answer, serial_text_in, settings_in_returned, settings_in_left, prepared_from_c, prepared_output, slices_with, opened_number, opened_slices, call_with, issued_number, issued_slices, changed_number, changed_slices, take_over_answer};
 
+use super::answers::{keep_after, tell, tell_index};
 use super::details::details_of;
 use super::layout::{
-    SETTINGS, STATE, array3_at, array32_at, keep, key_of, put_settings, settings_of, state_of,
-    width_of,
+    NO_NAME, SETTINGS, STATE, key_of, put_settings, settings_of, state_of, width_of,
 };
 use journal::State;
+use primitives::Refusal;
 use receipt::{Name, Settings};
 
 // ---- settings
 
-// The three bytes; zeros if the slice has another length.
-fn csp_of(csp: &[u8]) -> [u8; 3]
-    ensures { result ≡ array_of 3 csp.now }
+// The N bytes; zeros if the slice has another length.
+pub(crate) fn array_of<const N: usize>(b: &[u8]) -> [u8; N]
+    ensures { result ≡ array_of N b.now }
 {
-    if csp.len() != 3 {
-        return [0u8; 3];
-    }
-    array3_at(csp, 0)
+    <[u8; N]>::try_from(b).unwrap_or([0; N])
 }
 
 fn settings_from(csp: &[u8], id: &[u8], serial: &[u8]) -> Settings
     ensures { result ≡ settings_from csp.now id.now serial.now }
 {
-    let c = csp_of(csp);
-    let i = receipt::name_of(id);
-    let s = receipt::name_of(serial);
     Settings {
-        csp: c,
-        id: i,
-        serial: s,
+        csp: array_of(csp),
+        id: receipt::name_of(id),
+        serial: receipt::name_of(serial),
     }
-}
-
-// The key of 32 bytes; zeros if the slice has another length.
-pub(crate) fn key_from(key: &[u8]) -> [u8; 32]
-    ensures { result ≡ array_of 32 key.now }
-{
-    if key.len() != 32 {
-        return [0u8; 32];
-    }
-    array32_at(key, 0)
 }
 
 // The width to use with a key: 0, which is not a valid width, if the key is not 32 bytes long.
 pub(crate) fn width_with(key: &[u8], n: usize) -> usize
     ensures { result ≡ width_with key.now n }
 {
-    if key.len() != 32 {
-        return 0;
-    }
-    n
+    if key.len() == 32 { n } else { 0 }
 }
 
 // Questions 1 to 4, then 23 for an output of this length.
-fn settings_answer(s: Settings, n: usize, room: usize) -> u32
-    ensures { result ≡ settings_answer s n room }
+fn ask_settings(s: Settings, n: usize, room: usize) -> Result<(), Refusal>
+    ensures { answer_number result ≡ settings_answer s n room }
 {
-    let number = receipt::settings_number(s, n);
-    if number != 0 {
-        return number;
-    }
+    receipt::ask_settings(s, n)?;
     if room != SETTINGS {
-        return 23;
+        return Err(Refusal::OutputShort);
     }
-    0
+    Ok(())
 }
 
 // Writes the settings.
@@ -89,12 +69,10 @@ pub extern "C" fn ditgrux_settings(
 {
     let s = settings_from(csp, id, serial);
     let n = width_with(key, width);
-    let number = settings_answer(s, n, settings.len());
-    if number != 0 {
-        return number;
+    if let Err(refusal) = ask_settings(s, n, settings.len()) {
+        return refusal.number();
     }
-    let k = key_from(key);
-    put_settings(s, n, k, settings);
+    put_settings(s, n, array_of(key), settings);
     0
 }
 
@@ -105,8 +83,7 @@ pub extern "C" fn ditgrux_settings(
 pub extern "C" fn ditgrux_counter(state: &[u8]) -> i64
     ensures { result ≡ counter_in state.now }
 {
-    let st = state_of(state);
-    st.counter
+    state_of(state).counter
 }
 
 // The last receipt number.
@@ -114,8 +91,7 @@ pub extern "C" fn ditgrux_counter(state: &[u8]) -> i64
 pub extern "C" fn ditgrux_last_number(state: &[u8]) -> u32
     ensures { result ≡ last_number_in state.now }
 {
-    let st = state_of(state);
-    st.last
+    state_of(state).last
 }
 
 // The receipts issued.
@@ -123,8 +99,7 @@ pub extern "C" fn ditgrux_last_number(state: &[u8]) -> u32
 pub extern "C" fn ditgrux_receipts(state: &[u8]) -> u32
     ensures { result ≡ receipt_count_in state.now }
 {
-    let st = state_of(state);
-    st.issued
+    state_of(state).issued
 }
 
 // The length of the journal.
@@ -132,8 +107,7 @@ pub extern "C" fn ditgrux_receipts(state: &[u8]) -> u32
 pub extern "C" fn ditgrux_journal_length(state: &[u8]) -> usize
     ensures { result ≡ journal_length_in state.now }
 {
-    let st = state_of(state);
-    st.length
+    state_of(state).length
 }
 
 // How many serials the register has had.
@@ -141,23 +115,19 @@ pub extern "C" fn ditgrux_journal_length(state: &[u8]) -> usize
 pub extern "C" fn ditgrux_serials(state: &[u8]) -> u32
     ensures { result ≡ serial_count_in state.now }
 {
-    let st = state_of(state);
-    let slots = st.serials;
-    journal::used_count(slots) as u32
+    journal::used_count(state_of(state).serials) as u32
 }
 
 // One of the register's serials, from 0; the empty name if there is no such serial.
 fn serial_in(st: State, which: u32) -> Name
     ensures { result ≡ serial_in st which }
 {
-    let slots = st.serials;
-    if journal::used_count(slots) <= which as usize {
-        return Name {
-            bytes: [0u8; 32],
-            len: 0,
-        };
+    let which = which as usize;
+    if which < journal::used_count(st.serials) {
+        st.serials[which]
+    } else {
+        NO_NAME
     }
-    slots[which as usize]
 }
 
 // Writes one of the register's serials, as text.
@@ -173,15 +143,13 @@ pub extern "C" fn ditgrux_serial(
         × (output.new ≡ placed output.old 0 text)
         × (length.new ≡ (serial_answer text (lib.ListN.length output.old)).length) }
 {
-    let st = state_of(state);
-    let serial = serial_in(st, which);
-    let bytes = serial.bytes;
-    let n = if serial.len <= 32 { serial.len } else { 32 };
+    let serial = serial_in(state_of(state), which);
+    let n = serial.len.min(32);
     if output.len() < n {
         *length = 0;
-        return 23;
+        return Refusal::OutputShort.number();
     }
-    let _ = receipt::put(output, 0, &bytes[0..n]);
+    let _ = receipt::put(output, 0, &serial.bytes[..n]);
     *length = n;
     0
 }
@@ -192,15 +160,14 @@ pub extern "C" fn ditgrux_settings_in(state: &[u8], which: u32, settings: &mut [
     ensures { (result ≡ settings_in_returned settings.old) × (settings.new ≡ settings_in_left state.now which settings.old) }
 {
     if settings.len() != SETTINGS {
-        return 23;
+        return Refusal::OutputShort.number();
     }
     let st = state_of(state);
+    // Into locals first: the check covers no field that is an array and goes into a struct.
     let csp = st.csp;
     let id = st.id;
-    let key = st.key;
     let serial = serial_in(st, which);
-    let s = Settings { csp, id, serial };
-    put_settings(s, st.width, key, settings);
+    put_settings(Settings { csp, id, serial }, st.width, st.key, settings);
     0
 }
 
@@ -214,15 +181,16 @@ fn open_with(settings: &[u8], shared: bool, journal: &mut [u8], state: &mut [u8]
         × (state.new ≡ (opened_slices settings.now shared g).state) }
 {
     if state.len() != STATE {
-        return 6;
+        return Refusal::BadState.number();
     }
-    let s = settings_of(settings);
-    let n = width_of(settings);
-    let key = key_of(settings);
-    let opened = journal::open(s, key, shared, n, journal);
-    let st = opened.state;
-    keep(st, state);
-    opened.number
+    let opened = journal::open(
+        settings_of(settings),
+        key_of(settings),
+        shared,
+        width_of(settings),
+        journal,
+    );
+    keep_after(opened, journal::unopened(), state)
 }
 
 // Opens a register. Questions 6 and 1 to 5.
@@ -273,14 +241,11 @@ pub extern "C" fn ditgrux_prepare(
         let a : _ = prepared_from_c state.now c (lib.ListN.length output.old) in
         (result ≡ a.number) × (output.new ≡ prepared_output state.now c output.old) × (length.new ≡ a.length) }
 {
-    let st = state_of(state);
     let d = details_of(
         number, year, month, day, hour, minute, second, standard, reduced_1, reduced_2, zero,
         special, kind,
     );
-    let answer = journal::prepare(st, d, output);
-    *length = answer.length;
-    answer.number
+    tell(journal::prepare(state_of(state), d, output), length)
 }
 
 // ---- issue
@@ -315,10 +280,7 @@ pub extern "C" fn ditgrux_issue(
         number, year, month, day, hour, minute, second, standard, reduced_1, reduced_2, zero,
         special, kind,
     );
-    let answer = journal::issue(st, d, signature, journal);
-    let after = answer.state;
-    keep(after, state);
-    answer.number
+    keep_after(journal::issue(st, d, signature, journal), st, state)
 }
 
 // ---- change
@@ -332,11 +294,8 @@ pub extern "C" fn ditgrux_change(state: &mut [u8], serial: &[u8], journal: &mut 
         × (journal.new ≡ (changed_slices g serial.now).journal) }
 {
     let st = state_of(state);
-    let name = receipt::name_of(serial);
-    let answer = journal::change(st, name, journal);
-    let after = answer.state;
-    keep(after, state);
-    answer.number
+    let changed = journal::change(st, receipt::name_of(serial), journal);
+    keep_after(changed, st, state)
 }
 
 // ---- take over
@@ -356,13 +315,8 @@ pub extern "C" fn ditgrux_take_over(
 {
     if state.len() != STATE {
         *index = 0;
-        return 6;
+        return Refusal::BadState.number();
     }
-    let k = key_from(key);
-    let n = width_with(key, width);
-    let answer = journal::take_over(journal, k, n);
-    let st = answer.state;
-    keep(st, state);
-    *index = answer.index;
-    answer.number
+    let taken = journal::take_over(journal, array_of(key), width_with(key, width));
+    keep_after(tell_index(taken, index), journal::unopened(), state)
 }

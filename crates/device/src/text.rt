@@ -1,10 +1,12 @@
 // The machine-readable code, the optical line, and calls for tests: SHA-256, BASE64 and BASE32.
 ghost use Rattle.std.specs.Prelude.{◌≡◌};
+ghost use Rattle.primitives.specs.Answers.{as_answer};
 ghost use Rattle.receipt.specs.Code.{code_answer, code_buffer, uncode_answer, uncode_buffer, id_place};
 ghost use Rattle.receipt.specs.Line.{line_answer, line_buffer, unline_answer, unline_buffer};
 ghost use Rattle.device.specs.Texts.{written_number, decoded_length, decoded_number, fields_number, fields_length, hash_number, hash_buffer, alphabet_of, encode_answer, encode_buffer, decode_answer, decode_buffer, encode_answer32, encode_buffer32, decode_answer32, decode_buffer32};
 
-use primitives::{Alphabet, Decoded};
+use super::answers::tell;
+use primitives::{Alphabet, DecodeError, Refusal};
 
 // ---- the machine-readable code
 
@@ -15,9 +17,7 @@ pub extern "C" fn ditgrux_code(form: &[u8], output: &mut [u8], length: &mut usiz
         × (output.new ≡ code_buffer form.now output.old)
         × (length.new ≡ (code_answer form.now output.old).length) }
 {
-    let answer = receipt::code(form, output);
-    *length = answer.length;
-    answer.number
+    tell(receipt::code(form, output), length)
 }
 
 // Writes the compact form of a code. Questions 24 and 23.
@@ -27,9 +27,7 @@ pub extern "C" fn ditgrux_uncode(code: &[u8], output: &mut [u8], length: &mut us
         × (output.new ≡ uncode_buffer code.now output.old)
         × (length.new ≡ (uncode_answer code.now output.old).length) }
 {
-    let answer = receipt::uncode(code, output);
-    *length = answer.length;
-    answer.number
+    tell(receipt::uncode(code, output), length)
 }
 
 // Where in a code the register ID stands, and its length. Question 24.
@@ -40,12 +38,10 @@ pub extern "C" fn ditgrux_fields(code: &[u8], start: &mut usize, length: &mut us
         × (length.new ≡ fields_length code.now) }
 {
     let place = receipt::id_place(code);
-    let a = place.start;
-    let e = place.end;
-    *start = a;
-    *length = e - a;
-    if a == e {
-        return 24;
+    *start = place.start;
+    *length = place.end - place.start;
+    if place.start == place.end {
+        return Refusal::BadCode.number();
     }
     0
 }
@@ -59,9 +55,7 @@ pub extern "C" fn ditgrux_line(code: &[u8], output: &mut [u8], length: &mut usiz
         × (output.new ≡ line_buffer code.now output.old)
         × (length.new ≡ (line_answer code.now output.old).length) }
 {
-    let answer = receipt::line(code, output);
-    *length = answer.length;
-    answer.number
+    tell(receipt::line(code, output), length)
 }
 
 // Writes the code of an optical line. Questions 27 and 23.
@@ -71,9 +65,7 @@ pub extern "C" fn ditgrux_unline(line: &[u8], output: &mut [u8], length: &mut us
         × (output.new ≡ unline_buffer line.now output.old)
         × (length.new ≡ (unline_answer line.now output.old).length) }
 {
-    let answer = receipt::unline(line, output);
-    *length = answer.length;
-    answer.number
+    tell(receipt::unline(line, output), length)
 }
 
 // ---- for tests
@@ -84,34 +76,32 @@ pub extern "C" fn ditgrux_sha256(data: &[u8], output: &mut [u8]) -> u32
     ensures { (result ≡ hash_number output.old) × (output.new ≡ hash_buffer «data».now output.old) }
 {
     if output.len() < 32 {
-        return 23;
+        return Refusal::OutputShort.number();
     }
-    let hash = primitives::sha256(data);
-    let _ = receipt::put(output, 0, &hash);
+    let _ = receipt::put(output, 0, &primitives::sha256(data));
     0
 }
 
-// 0 means padded BASE64, any other number BASE64-URL.
+// 0 means padded BASE64, any other number BASE64-URL: a number, since C asks.
 fn alphabet_of(url: u32) -> Alphabet
     ensures { result ≡ alphabet_of url }
 {
     if url == 0 {
-        return Alphabet::Standard;
+        Alphabet::Standard
+    } else {
+        Alphabet::UrlSafe
     }
-    Alphabet::UrlSafe
 }
 
-// The number of a writer that got n bytes and ended at this place: 23 if there were bytes and none was written.
-fn written_number(n: usize, end: usize) -> u32
-    ensures { result ≡ written_number n end }
+// The answer of a writer that got n bytes and ended at this place: refused if there were bytes and none was written.
+fn written(n: usize, end: usize) -> Result<usize, Refusal>
+    ensures { ((as_answer result).number ≡ written_number n end) × ((as_answer result).length ≡ end) }
 {
-    if n == 0 {
-        return 0;
+    if n != 0 && end == 0 {
+        Err(Refusal::OutputShort)
+    } else {
+        Ok(end)
     }
-    if end == 0 {
-        return 23;
-    }
-    0
 }
 
 // Writes the text of bytes. 23 if it does not fit.
@@ -126,29 +116,18 @@ pub extern "C" fn ditgrux_base64(
         × (output.new ≡ encode_buffer url «data».now output.old)
         × (length.new ≡ (encode_answer url «data».now output.old).length) }
 {
-    let alphabet = alphabet_of(url);
-    let end = primitives::base64_encode(alphabet, data, output, 0);
-    *length = end;
-    written_number(data.len(), end)
+    let end = primitives::base64_encode(alphabet_of(url), data, output, 0);
+    tell(written(data.len(), end), length)
 }
 
-fn decoded_length(d: Decoded) -> usize
-    ensures { result ≡ decoded_length d }
+// The answer of a reader.
+fn decoded(read: Result<usize, DecodeError>) -> Result<usize, Refusal>
+    ensures { ((as_answer result).number ≡ decoded_number read) × ((as_answer result).length ≡ decoded_length read) }
 {
-    match d {
-        Decoded::Upto(end) => end,
-        Decoded::Refused => 0,
-        Decoded::NoRoom => 0,
-    }
-}
-
-fn decoded_number(d: Decoded) -> u32
-    ensures { result ≡ decoded_number d }
-{
-    match d {
-        Decoded::Upto(_) => 0,
-        Decoded::Refused => 22,
-        Decoded::NoRoom => 23,
+    match read {
+        Ok(end) => Ok(end),
+        Err(DecodeError::Refused) => Err(Refusal::BadForm),
+        Err(DecodeError::NoRoom) => Err(Refusal::OutputShort),
     }
 }
 
@@ -164,10 +143,8 @@ pub extern "C" fn ditgrux_unbase64(
         × (output.new ≡ decode_buffer url text.now output.old)
         × (length.new ≡ (decode_answer url text.now output.old).length) }
 {
-    let alphabet = alphabet_of(url);
-    let decoded = primitives::base64_decode(alphabet, text, output, 0);
-    *length = decoded_length(decoded);
-    decoded_number(decoded)
+    let read = primitives::base64_decode(alphabet_of(url), text, output, 0);
+    tell(decoded(read), length)
 }
 
 // Writes the BASE32 of bytes. 23 if it does not fit.
@@ -178,8 +155,7 @@ pub extern "C" fn ditgrux_base32(data: &[u8], output: &mut [u8], length: &mut us
         × (length.new ≡ (encode_answer32 «data».now output.old).length) }
 {
     let end = primitives::base32_encode(data, output, 0);
-    *length = end;
-    written_number(data.len(), end)
+    tell(written(data.len(), end), length)
 }
 
 // Writes the bytes of a text in BASE32. 22 if the text is not canonical, 23 if its bytes do not fit.
@@ -189,7 +165,6 @@ pub extern "C" fn ditgrux_unbase32(text: &[u8], output: &mut [u8], length: &mut 
         × (output.new ≡ decode_buffer32 text.now output.old)
         × (length.new ≡ (decode_answer32 text.now output.old).length) }
 {
-    let decoded = primitives::base32_decode(text, output, 0);
-    *length = decoded_length(decoded);
-    decoded_number(decoded)
+    let read = primitives::base32_decode(text, output, 0);
+    tell(decoded(read), length)
 }

@@ -1,26 +1,23 @@
 -- The loop over an array, for items of any kind.
-use mathlib.Core.Path.{◌≡◌, refl, sym, ap, ◌∙◌}
-use mathlib.Core.Bool.{Bool, true, false, cond}
-use mathlib.Core.List.{List, [], ◌∷◌, ◌++◌, append_assoc}
-use Prim.Native.Nat.{ℕ, zero, suc, ◌-◌, ◌<◌, ◌≤◌}
-use native.Mathlib.Omega.{arith}
-use lib.ListN.{length}
+use Rattle.std.proofs.Common.{ℕ, suc, ◌-◌, ◌<◌, ◌≤◌, ◌≡◌, refl, sym, ap, ◌∙◌, List, [], ◌∷◌, ◌++◌, append_assoc, length, arith}
 use Rattle.exports.specs.Text.{Token, mark}
 use Rattle.exports.specs.Shape.{array, following, string}
-use Rattle.exports.specs.Places.{from, Reads, Begun, Followed}
+use Rattle.exports.specs.Places.{from, ReadTo, Absent, Begun, Followed}
 use Rattle.exports.specs.declared.walk.Cursor.{Cursor}
+use Rattle.exports.specs.declared.walk.Cursor.TheVariants.{Item, Past, Broken}
 use Rattle.exports.proofs.Tokening.{head_is, tail_is, other_mark}
 
 -- the measure: what is left of the text, while there is an item more
 abbrev pub remains : List ℕ → Cursor → ℕ
-remains text c = cond c.more (suc (length text) - c.at) 0
+remains text (Item p) = suc (length text) - p
+remains text (Past p) = 0
+remains text Broken = 0
 
-pub falls : (text : List ℕ) (c d : Cursor) → c.more ≡ true → c.at ≤ length text → (d.more ≡ true → c.at < d.at) → d.at ≤ length text → remains text d < remains text c
-falls text c d e l h i = rw e (go d.more refl)
-  where
-    go : (b : Bool) → d.more ≡ b → cond b (suc (length text) - d.at) 0 < suc (length text) - c.at
-    go true q = omega (arith, h q)
-    go false q = omega arith
+-- it falls from an item on to what stands after it
+pub falls : (text : List ℕ) (d : Cursor) {c : Cursor} {p e : ℕ} → c ≡ Item p → p ≤ length text → p < e → Followed text e d → remains text d < remains text c
+falls text (Item q) i h l f = rw i (omega (arith, f.onward, f.inside))
+falls text (Past q) i h l f = rw i (omega arith)
+falls text Broken i h l f = rw i (omega arith)
 
 module _ {A : Type 0} (item : A → List Token) where
   -- an array stands at ts₀ exactly if an item and what follows it stand at ts
@@ -117,65 +114,34 @@ module _ {A : Type 0} (item : A → List Token) where
 
   -- ---- at places: the invariant of a loop over an array
 
-  pub record Walk (text : List ℕ) (at : ℕ) (c : Cursor) : Type 0 where
-    pub inside : c.at ≤ length text
-    pub onward : 0 < c.at → at < c.at
-    pub more : c.more ≡ true → (0 < c.at) × Going (from text at) (from text c.at)
-    pub ended : c.more ≡ false → 0 < c.at → Done (from text at) (from text c.at)
-    pub none : c.more ≡ false → c.at ≡ 0 → Never (from text at)
+  pub record ItemAt (text : List ℕ) (at p : ℕ) : Type 0 where
+    pub inside : p ≤ length text
+    pub onward : at < p
+    pub going : Going (from text at) (from text p)
 
-  pub walk_start : {text : List ℕ} {at : ℕ} {c : Cursor} → Opens → Begun text at c → Walk text at c
-  walk_start o b =
-      record {
-        inside = b.inside;
-        onward = b.onward;
-        more = λ e. ((b.more e).0, going_start (b.more e).1 (b.more e).2);
-        ended = λ e p. done_start o (b.ended e p);
-        none = λ e z. never_start (b.none e z);
-      }
+  abbrev pub Walk : List ℕ → ℕ → Cursor → Type 0
+  Walk text at (Item p) = ItemAt text at p
+  Walk text at (Past p) = ReadTo (array item) text at p
+  Walk text at Broken = Absent (array item) text at
 
-  module _ {text : List ℕ} {at p : ℕ} {c : Cursor} (w : Walk text at c) (e : c.more ≡ true) (r : Reads item text c.at p) where
-    pub walk_refused : p ≡ 0 → Reads (array item) text at 0
-    walk_refused z =
-        record {
-          inside = omega arith;
-          onward = λ q. absurd (omega arith);
-          sound = λ q. absurd (omega arith);
-          complete = λ ys rest q. let b = (w.more e).1.complete ys rest q in absurd (omega (arith, (r.complete b.0 _ b.2).0));
-        }
+  pub walk_start : (text : List ℕ) (at : ℕ) (c : Cursor) → Opens → Begun text at c → Walk text at c
+  walk_start text at (Item p) o b = record { inside = b.bracket.inside; onward = b.bracket.onward; going = going_start b.bracket.is b.more }
+  walk_start text at (Past p) o b =
+      let d = done_start o b.is in
+      record { inside = b.inside; onward = b.onward; sound = d.sound; complete = d.complete }
+  walk_start text at Broken o b = record { none = (never_start b).complete }
 
-    pub walk_more : {d : Cursor} → (p ≡ 0 → ⊥) → Followed text p d → Walk text at d
-    walk_more {d} z f =
-        let pos : 0 < p = omega (arith, z) in
-        let up = w.onward (w.more e).0 in
-        let s = r.sound pos in
-        let g = (w.more e).1 in
-        let only : (x : A) (t : List Token) → from text c.at ≡ item x ++ t → from text p ≡ t = λ x t q. (r.complete x t q).1 in
-        record {
-          inside = f.inside;
-          onward = λ q. omega (arith, r.onward pos, f.onward q);
-          more = λ m. ((f.more m).0, going_more g s.0 s.1 only (f.more m).1);
-          ended = λ m q. going_end g s.0 s.1 only (f.ended m q);
-          none = λ m q. going_never g s.0 s.1 only (f.none m q);
-        }
+  pub walk_item : (text : List ℕ) (at : ℕ) {c : Cursor} {p : ℕ} → c ≡ Item p → Walk text at c → ItemAt text at p
+  walk_item text at e w = rw e at w
 
-    pub walk_falls : {d : Cursor} → (p ≡ 0 → ⊥) → Followed text p d → remains text d < remains text c
-    walk_falls {d} z f =
-        let pos : 0 < p = omega (arith, z) in
-        falls text c d e w.inside (λ m. omega (arith, r.onward pos, f.onward (f.more m).0)) f.inside
-
-  pub walk_end : {text : List ℕ} {at : ℕ} {c : Cursor} → Walk text at c → c.more ≡ false → Reads (array item) text at c.at
-  walk_end {text} {at} {c} w e =
-      record {
-        inside = w.inside;
-        onward = w.onward;
-        sound = λ p. (w.ended e p).sound;
-        complete = back c.at refl;
-      }
-    where
-      back : (n : ℕ) → c.at ≡ n → (ys : List A) (rest : List Token) → from text at ≡ array item ys ++ rest → (0 < c.at) × (from text c.at ≡ rest)
-      back zero z ys rest q = absurd ((w.none e z).complete ys rest q)
-      back (suc n) z ys rest q = let p : 0 < c.at = omega arith in (p, (w.ended e p).complete ys rest q)
+  module _ {text : List ℕ} {at p : ℕ} (w : ItemAt text at p) where
+    pub walk_more : {e : ℕ} → ReadTo item text p e → (d : Cursor) → Followed text e d → Walk text at d
+    walk_more r (Item q) f =
+        record { inside = f.inside; onward = omega (arith, w.onward, r.onward, f.onward); going = going_more w.going r.sound.0 r.sound.1 r.complete f.is }
+    walk_more r (Past q) f =
+        let d = going_end w.going r.sound.0 r.sound.1 r.complete f.is in
+        record { inside = f.inside; onward = omega (arith, w.onward, r.onward, f.onward); sound = d.sound; complete = d.complete }
+    walk_more r Broken f = record { none = (going_never w.going r.sound.0 r.sound.1 r.complete f).complete }
 
 -- ---- strings
 

@@ -1,8 +1,5 @@
 -- What is written without blanks and escapes is read back.
-use mathlib.Core.Path.{◌≡◌, refl, ap}
-use mathlib.Core.Bool.{Bool, true, ◌&&◌}
-use mathlib.Core.List.{List, [], ◌∷◌, ◌++◌, map}
-use Prim.Native.Nat.{ℕ}
+use Rattle.std.proofs.Common.{◌≡◌, refl, ap, Bool, true, ◌&&◌, List, [], ◌∷◌, ◌++◌, map, ℕ}
 use Rattle.exports.specs.Text.{Token, mark, word, is_mark, plain, every, text_of, Inside, close, letter, Tokens, end, sign, quoted}
 use Rattle.exports.specs.Shape.{group_name, array, following, string, Member, certificate, issuers, receipts, name_of, value_of, member, certificate_name, issuers_name, receipts_name, Element, object, written, document, elements, Shape, standard, plain_text, plain_element}
 use Rattle.exports.specs.Exact.{ReadsBack}

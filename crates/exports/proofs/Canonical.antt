@@ -1,17 +1,13 @@
 -- Canonical BASE64, four letters at a time.
-use mathlib.Core.Path.{◌≡◌, refl, sym, ap, ◌∙◌}
-use mathlib.Core.Bool.{Bool, true, false, cond, ◌&&◌, and-true, and-false}
-use mathlib.Core.List.{List, [], ◌∷◌}
-use Prim.Native.Nat.{ℕ, zero, suc, ◌+◌, ◌-◌, ◌%◌, ◌<◌, ◌≤◌}
-use native.Mathlib.Omega.{arith}
-use borrow.Author.Tests.{eq-eqb, ne_eqb, eqb-true, eqb-false}
-use lib.Dec.{eqb, ltb}
-use lib.ListN.{length, take, get_or}
+use Rattle.std.proofs.lemmas.Bool.{eqb-false}
+use Rattle.std.proofs.Common.{Result, Ok, Err, not, ◌≡◌, refl, sym, ap, ◌∙◌, Bool, true, false, cond, ◌&&◌, List, [], ◌∷◌, ℕ, zero, suc, ◌+◌, ◌-◌, ◌%◌, ◌<◌, ◌≤◌, arith, eq-eqb, ne_eqb, eqb-true, eqb, ltb, length, take, get_or}
+use Rattle.std.specs.Result.{result_eq}
+use mathlib.Core.Bool.{and-true, and-false}
 use Rattle.primitives.specs.Place.{room}
 use Rattle.primitives.specs.Base64.{digit, pad, known, ended, unmarked, letter_count, unpadded, bytes, accepted, decoding, decode_answer}
 use Rattle.primitives.specs.declared.base64.Alphabet.TheVariants.{Standard}
-use Rattle.primitives.specs.declared.base64.Decoded.{Decoded}
-use Rattle.primitives.specs.declared.base64.Decoded.TheVariants.{Upto, Refused, NoRoom}
+use Rattle.primitives.specs.declared.base64.DecodeError.{DecodeError}
+use Rattle.primitives.specs.declared.base64.DecodeError.TheVariants.{Refused, NoRoom}
 use Rattle.exports.specs.Reading.{canonical}
 use Rattle.exports.specs.Spelled.{is_empty}
 
@@ -156,35 +152,39 @@ few_not text h k = not_whole text (λ e. omega arith)
 -- ---- the reader's answer to four letters
 
 module _ (text out : List ℕ) (at : ℕ) where
-  not_refused : accepted Standard text ≡ true → Refused ≡ decode_answer Standard text out at → ⊥
+  not_refused : accepted Standard text ≡ true → Err Refused ≡ decode_answer Standard text out at → ⊥
   unfolding decoding
   not_refused e q = go (room out at (bytes Standard (unpadded Standard text))) (rw e at q)
     where
-      go : (t : Bool) → Refused ≡ cond t (Upto (at + length (bytes Standard (unpadded Standard text)))) NoRoom → ⊥
-      go true p = let k : ◌≡◌ {A = ℕ} 0 1 = cc in omega arith
-      go false p = let k : ◌≡◌ {A = ℕ} 0 1 = cc in omega arith
+      go : (t : Bool) → Err Refused ≡ cond t (Ok (at + length (bytes Standard (unpadded Standard text)))) (Err NoRoom) → ⊥
+      go true p = cc
+      go false p = cc
 
-  is_refused : accepted Standard text ≡ false → decode_answer Standard text out at ≡ Refused
+  is_refused : accepted Standard text ≡ false → decode_answer Standard text out at ≡ Err Refused
   unfolding decoding
   is_refused e = rw e
 
-  module _ {d : Decoded} (q : d ≡ decode_answer Standard text out at) where
-    pub refused_bad : d ≡ Refused → false ≡ canonical text
+  module _ {d : Result ℕ DecodeError} (q : d ≡ decode_answer Standard text out at) where
+    refused_bad : d ≡ Err Refused → false ≡ canonical text
     refused_bad r = go (accepted Standard text) refl
       where
         go : (t : Bool) → accepted Standard text ≡ t → false ≡ accepted Standard text
         go true e = absurd (not_refused e (sym r ∙ q))
         go false e = sym e
 
-    answered_good : (d ≡ Refused → ⊥) → true ≡ canonical text
-    answered_good r = go (accepted Standard text) refl
+    accepted_good : (d ≡ Err Refused → ⊥) → true ≡ canonical text
+    accepted_good r = go (accepted Standard text) refl
       where
         go : (t : Bool) → accepted Standard text ≡ t → true ≡ accepted Standard text
         go true e = sym e
         go false e = absurd (r (q ∙ is_refused e))
 
-    pub upto_good : {n : ℕ} → d ≡ Upto n → true ≡ canonical text
-    upto_good r = answered_good (λ s. let k : ◌≡◌ {A = ℕ} 0 1 = cc in omega arith)
-
-    pub full_good : d ≡ NoRoom → true ≡ canonical text
-    full_good r = answered_good (λ s. let k : ◌≡◌ {A = ℕ} 0 1 = cc in omega arith)
+    -- as the code asks it, by the equality of answers
+    pub told_good : (E : DecodeError → DecodeError → Bool) → E NoRoom Refused ≡ false → E Refused Refused ≡ true → {t : Bool}
+        → t ≡ not (result_eq eqb E d (Err Refused)) → t ≡ canonical text
+    told_good E n r {t} h = h ∙ go d refl
+      where
+        go : (x : Result ℕ DecodeError) → d ≡ x → not (result_eq eqb E x (Err Refused)) ≡ canonical text
+        go (Ok k) e = accepted_good (λ w. let z = sym e ∙ w in cc)
+        go (Err NoRoom) e = rw n (accepted_good (λ w. let z = sym e ∙ w in cc))
+        go (Err Refused) e = rw r (refused_bad e)

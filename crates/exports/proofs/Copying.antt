@@ -1,24 +1,15 @@
 -- Loops that copy texts from a buffer as the items of a list.
-use Prim.Native.Nat.{ℕ, suc, ◌+◌, ◌-◌, ◌≤◌, ◌<◌}
-use mathlib.Core.Path.{◌≡◌, refl, sym, ap, ◌∙◌, subst}
-use mathlib.Core.Bool.{Bool, true, false}
-use mathlib.Core.List.{List, [], ◌∷◌, ◌++◌, map, append_assoc, append-nil}
-use native.Mathlib.Omega.{arith}
-use borrow.Author.Tests.{lt-ltb}
-use lib.Dec.{ltb}
-use lib.ListN.{length, take, drop}
-use lib.Seq.{drop_at, take_at, drop-drop}
 use Rattle.primitives.specs.Number.{bytes_of}
 use Rattle.primitives.proofs.Numbers.{length_bytes_of}
 use Rattle.journal.specs.Head.{entry_text}
 use Rattle.exports.specs.Text.{every}
 use Rattle.exports.specs.Spelled.{sized_texts, short}
-use Rattle.exports.specs.Output.{moved, Puts}
-use Rattle.exports.specs.Writing.{comma, quoted, listed, in_base64, spelling}
-use Rattle.exports.specs.Passing.{SizedRead}
+use Rattle.std.proofs.Common.{Some, None, ℕ, suc, ◌+◌, ◌-◌, ◌≤◌, ◌<◌, ◌≡◌, refl, sym, ap, ◌∙◌, Bool, true, false, List, [], ◌∷◌, ◌++◌, map, append_assoc, append-nil, arith, lt-ltb, ltb, length, take, drop, drop_at, take_at, drop-drop}
+use Rattle.exports.specs.Output.{Out, Puts}
+use Rattle.exports.specs.Writing.{comma, quoted, listed}
+use Rattle.exports.specs.Passing.{NoText, SizedAt}
 use Rattle.exports.specs.Running.{StringsPut}
-use Rattle.exports.specs.declared.output.End.{End}
-use Rattle.exports.proofs.Putting.{puts_then, puts_is, puts_nothing, puts_still}
+use Rattle.exports.proofs.Putting.{puts_then, puts_is, puts_nothing}
 use Rattle.exports.proofs.Sized.{every_head, every_tail, sized_nil, sized_cons}
 
 -- ---- a part that is lent
@@ -54,46 +45,35 @@ module _ {A : Type 0} (item : A → List ℕ) where
       ∙ ap (λ (l : List ℕ). done ++ l) (append_assoc (comma (ltb 0 i)) (item x) (listed item true xs) ∙ sym (listed_cons (ltb 0 i) x xs))
       ∙ e
 
--- ---- strings as they are written
+-- ---- strings as they are
 
-pub spelling_coded : (coded : Bool) (w : List ℕ) → coded ≡ true → in_base64 w ≡ spelling coded w
-unfolding spelling
-spelling_coded coded w e = sym (ap (λ (b : Bool). spelling b w) e)
+pub all_same : (ws : List (List ℕ)) → map (λ (w : List ℕ). w) ws ≡ ws
+all_same [] = refl
+all_same (w ∷ ws) = ap (λ (l : List (List ℕ)). w ∷ l) (all_same ws)
 
-pub spelling_plain : (coded : Bool) (w : List ℕ) → coded ≡ false → w ≡ spelling coded w
-unfolding spelling
-spelling_plain coded w e = sym (ap (λ (b : Bool). spelling b w) e)
+-- ---- the loop: `i` of `count` texts are copied, each as it is spelled
 
-pub spellings_coded : (ws : List (List ℕ)) → map (spelling true) ws ≡ map in_base64 ws
-unfolding spelling
-spellings_coded ws = refl
-
-pub spellings_plain : (ws : List (List ℕ)) → map (spelling false) ws ≡ ws
-unfolding spelling
-spellings_plain [] = refl
-spellings_plain (w ∷ ws) = ap (λ (l : List (List ℕ)). w ∷ l) (spellings_plain ws)
-
--- ---- the loop: `i` of `count` texts are copied
-
-module _ (coded : Bool) where
-  pub record Underway (d : Bool) (count i : ℕ) (out₀ out : List ℕ) (p end : End) (tail : List ℕ) (ws : List (List ℕ)) (rest : List ℕ) : Type 0 where
+module _ (spelled : List ℕ → List ℕ) where
+  pub record Underway (d : Bool) (count i : ℕ) (o₀ o : Out) (tail : List ℕ) (ws : List (List ℕ)) (rest : List ℕ) : Type 0 where
     pub left : List (List ℕ)
     pub done : List ℕ
     pub many : i + length left ≡ count
     pub brief : every short left ≡ true
     pub here : tail ≡ sized_texts left ++ rest
-    pub put : Puts d out₀ out p end done
-    pub whole : done ++ listed quoted (ltb 0 i) (map (spelling coded) left) ≡ listed quoted false (map (spelling coded) ws)
+    pub put : Puts d o₀ o done
+    pub whole : done ++ listed quoted (ltb 0 i) (map spelled left) ≡ listed quoted false (map spelled ws)
 
-  pub record Copies (d : Bool) (j : List ℕ) (from count : ℕ) (out₀ : List ℕ) (p : End) (out : List ℕ) (end : End) (a i : ℕ) : Type 0 where
+  pub record Copies (d : Bool) (j : List ℕ) (from count : ℕ) (o₀ o : Out) (a i : ℕ) : Type 0 where
     pub few : i ≤ count
-    pub long : length out ≡ length out₀
+    pub same : o.lent ≡ o₀.lent
+    pub long : length o.bytes ≡ length o₀.bytes
     pub is : (ws : List (List ℕ)) (rest : List ℕ) → every short ws ≡ true → count ≡ length ws → drop from j ≡ sized_texts ws ++ rest
-        → Underway d count i out₀ out p end (drop a j) ws rest
+        → Underway d count i o₀ o (drop a j) ws rest
 
-  pub copies_start : (d : Bool) (j : List ℕ) (from count : ℕ) (out : List ℕ) (p : End) {end : End} → end ≡ moved (length out) p 0 → Copies d j from count out end out end from 0
-  copies_start d j from count out p {end} e = record {
+  pub copies_start : (d : Bool) (j : List ℕ) (from count : ℕ) (o : Out) → Copies d j from count o o from 0
+  copies_start d j from count o = record {
     few = omega arith;
+    same = refl;
     long = refl;
     is = λ ws rest h l q. record {
       left = ws;
@@ -101,26 +81,26 @@ module _ (coded : Bool) where
       many = omega (arith, l);
       brief = h;
       here = q;
-      put = subst (λ (x : End). Puts d out out x x []) (sym e) (puts_still (puts_nothing d out p));
+      put = puts_nothing d o;
       whole = refl;
     };
   }
 
-  module _ {d : Bool} {j : List ℕ} {from count : ℕ} {out₀ : List ℕ} {p : End} {out : List ℕ} {end : End} {a i : ℕ} (t : Copies d j from count out₀ p out end a i) where
-    pub record Next (tail : List ℕ) (ws : List (List ℕ)) (rest : List ℕ) (u : Underway d count i out₀ out p end tail ws rest) : Type 0 where
+  module _ {d : Bool} {j : List ℕ} {from count : ℕ} {o₀ o : Out} {a i : ℕ} (t : Copies d j from count o₀ o a i) where
+    pub record Next (tail : List ℕ) (ws : List (List ℕ)) (rest : List ℕ) (u : Underway d count i o₀ o tail ws rest) : Type 0 where
       pub text : List ℕ
       pub others : List (List ℕ)
       pub many : suc i + length others ≡ count
       pub brief : short text ≡ true
       pub briefs : every short others ≡ true
       pub here : tail ≡ entry_text text ++ (sized_texts others ++ rest)
-      pub whole : u.done ++ listed quoted (ltb 0 i) (map (spelling coded) (text ∷ others)) ≡ listed quoted false (map (spelling coded) ws)
+      pub whole : u.done ++ listed quoted (ltb 0 i) (map spelled (text ∷ others)) ≡ listed quoted false (map spelled ws)
 
-    next : i < count → (tail : List ℕ) (ws : List (List ℕ)) (rest : List ℕ) (u : Underway d count i out₀ out p end tail ws rest) → Next tail ws rest u
+    next : i < count → (tail : List ℕ) (ws : List (List ℕ)) (rest : List ℕ) (u : Underway d count i o₀ o tail ws rest) → Next tail ws rest u
     next h tail ws rest u = go u.left u.many u.brief u.here u.whole
       where
         go : (l : List (List ℕ)) → i + length l ≡ count → every short l ≡ true → tail ≡ sized_texts l ++ rest
-            → u.done ++ listed quoted (ltb 0 i) (map (spelling coded) l) ≡ listed quoted false (map (spelling coded) ws) → Next tail ws rest u
+            → u.done ++ listed quoted (ltb 0 i) (map spelled l) ≡ listed quoted false (map spelled ws) → Next tail ws rest u
         go [] m b q w = absurd (omega (arith, m))
         go (x ∷ l) m b q w = record {
           text = x;
@@ -132,54 +112,55 @@ module _ (coded : Bool) where
           whole = w;
         }
 
-    module _ (more : i < count) {e : ℕ} (r : SizedRead j a e) where
+    module _ (more : i < count) where
       -- a text is missing
-      pub copies_cut : e ≡ 0 → (start : End) → StringsPut d coded j from count out₀ out start (record { end = end; at = a })
-      copies_cut z start = record {
+      pub copies_cut : NoText j a → StringsPut d spelled j from count o₀ o None
+      copies_cut r = record {
+        same = t.same;
         long = t.long;
         is = λ ws rest h l q.
             let n = next more (drop a j) ws rest (t.is ws rest h l q) in
-            let y = r.complete n.text (sized_texts n.others ++ rest) n.brief n.here in
-            absurd (omega (arith, y.0, z));
+            absurd (r n.text (sized_texts n.others ++ rest) n.brief n.here);
       }
 
       -- one more is copied
-      pub copies_more : {out₁ : List ℕ} {end₁ : End} → Puts d out out₁ end end₁ (comma (ltb 0 i) ++ quoted (spelling coded (take (e - (a + 2)) (drop (a + 2) j))))
-          → Copies d j from count out₀ p out₁ end₁ e (i + 1)
-      copies_more {out₁} {end₁} w = record {
+      pub copies_more : {e : ℕ} → SizedAt j a e → {o₁ : Out} → Puts d o o₁ (comma (ltb 0 i) ++ quoted (spelled (take (e - (a + 2)) (drop (a + 2) j))))
+          → Copies d j from count o₀ o₁ e (i + 1)
+      copies_more {e} r {o₁} w = record {
         few = omega arith;
+        same = w.same ∙ t.same;
         long = w.long ∙ t.long;
         is = λ ws rest h l q.
             let u = t.is ws rest h l q in
             let n = next more (drop a j) ws rest u in
             let y = r.complete n.text (sized_texts n.others ++ rest) n.brief n.here in
-            let s = piece_is j a e n.text (sized_texts n.others ++ rest) n.here y.2 in
+            let s = piece_is j a e n.text (sized_texts n.others ++ rest) n.here y.1 in
             record {
               left = n.others;
-              done = u.done ++ (comma (ltb 0 i) ++ quoted (spelling coded n.text));
+              done = u.done ++ (comma (ltb 0 i) ++ quoted (spelled n.text));
               many = omega (arith, n.many);
               brief = n.briefs;
-              here = y.1;
-              put = puts_then u.put (puts_is (ap (λ (x : List ℕ). comma (ltb 0 i) ++ quoted (spelling coded x)) s) w);
-              whole = whole_more quoted i u.done (spelling coded n.text) (map (spelling coded) n.others) n.whole;
+              here = y.0;
+              put = puts_then u.put (puts_is (ap (λ (x : List ℕ). comma (ltb 0 i) ++ quoted (spelled x)) s) w);
+              whole = whole_more quoted i u.done (spelled n.text) (map spelled n.others) n.whole;
             };
       }
 
     -- all are copied
-    pub copies_whole : count ≤ i → {start : End} → p ≡ moved (length out₀) start 0 → StringsPut d coded j from count out₀ out start (record { end = end; at = a })
-    copies_whole h {start} e = record {
+    pub copies_whole : count ≤ i → StringsPut d spelled j from count o₀ o (Some a)
+    copies_whole h = record {
+      same = t.same;
       long = t.long;
       is = λ ws rest b l q.
           let u = t.is ws rest b l q in
           go ws rest u.left (omega (arith, u.many, t.few)) u.done u.put u.here u.whole;
     }
       where
-        go : (ws : List (List ℕ)) (rest : List ℕ) (l : List (List ℕ)) → length l ≡ 0 → (done : List ℕ) → Puts d out₀ out p end done → drop a j ≡ sized_texts l ++ rest
-            → done ++ listed quoted (ltb 0 i) (map (spelling coded) l) ≡ listed quoted false (map (spelling coded) ws)
-            → Puts d out₀ out start end (listed quoted false (map (spelling coded) ws)) × (drop a j ≡ rest)
+        go : (ws : List (List ℕ)) (rest : List ℕ) (l : List (List ℕ)) → length l ≡ 0 → (done : List ℕ) → Puts d o₀ o done → drop a j ≡ sized_texts l ++ rest
+            → done ++ listed quoted (ltb 0 i) (map spelled l) ≡ listed quoted false (map spelled ws)
+            → Puts d o₀ o (listed quoted false (map spelled ws)) × (drop a j ≡ rest)
         go ws rest (x ∷ l) z done w q all = absurd (omega arith)
         go ws rest [] z done w q all = (
-          puts_then (subst (λ (x : End). Puts d out₀ out₀ start x []) (sym e) (puts_nothing d out₀ start))
-              (puts_is (sym (append-nil done) ∙ ap (λ (l : List ℕ). done ++ l) (sym (listed_nil quoted (ltb 0 i))) ∙ all) w),
+          puts_is (sym (append-nil done) ∙ ap (λ (l : List ℕ). done ++ l) (sym (listed_nil quoted (ltb 0 i))) ∙ all) w,
           q ∙ ap (λ (l : List ℕ). l ++ rest) sized_nil,
         )

@@ -1,21 +1,20 @@
 -- The whole text: accepted exactly where the grammar derives it.
-use mathlib.Core.Path.{◌≡◌, refl, sym, ap, ap₂, ◌∙◌}
-use mathlib.Core.Bool.{true, false}
-use mathlib.Core.Logic.{◌↔◌}
-use mathlib.Core.List.{List, [], ◌∷◌, ◌++◌}
-use Prim.Native.Nat.{ℕ, zero, suc, ◌<◌}
-use native.Mathlib.Omega.{arith}
-use borrow.Author.Tests.{eqb-true, eq-eqb}
-use lib.Dec.{eqb}
+use Rattle.std.proofs.Common.{ℕ, ◌<◌, ◌≡◌, refl, sym, ap, ◌∙◌, true, false, List, [], ◌∷◌, ◌++◌, append_assoc, length, arith}
+use Rattle.std.specs.Prelude.{◌↔◌, Option, None, Some}
 use Rattle.exports.specs.Text.{Token, mark, word}
 use Rattle.exports.specs.Lexer.{lex}
 use Rattle.exports.specs.Shape.{group_name, following, array, string, Member, certificate, issuers, receipts, value_of, member, Written, object, written, document, elements, Shaped}
-use Rattle.exports.specs.Places.{from, Next, Reads, one, Keyed}
+use Rattle.exports.specs.Places.{from, Next, Marked, Expected, ReadTo, Absent, Reads, spelling, KeyedBy, Begun, GroupAt, GroupBegun}
 use Rattle.exports.specs.declared.lexer.Found.{Found}
+use Rattle.exports.specs.declared.lexer.Found.TheVariants.{End, Wrong, Quoted, Mark}
 use Rattle.exports.specs.declared.walk.Key.{Key}
-use Rattle.exports.proofs.Lexing.{no_truth}
-use Rattle.exports.proofs.Tokening.{nil_cons}
-use Rattle.exports.proofs.Members.{named, group_is}
+use Rattle.exports.specs.declared.walk.Cursor.{Cursor}
+use Rattle.exports.specs.declared.walk.Cursor.TheVariants.{Broken}
+use Rattle.exports.specs.declared.walk.Name.{Name}
+use Rattle.exports.specs.declared.walk.Name.TheVariants.{Group}
+use Rattle.exports.proofs.Lexing.{no_truth, from_end}
+use Rattle.exports.proofs.Tokening.{nil_cons, tail_is}
+use Rattle.exports.proofs.Members.{key_there}
 use Rattle.exports.proofs.Lexical.{Good, none, more, lexed, tokens_of}
 
 -- ---- no token of the grammar is wrong
@@ -65,76 +64,89 @@ unfolding document
 good_document ws =
     marked 123 (omega arith) (worded (marked 58 (omega arith) (good_append (good_array written good_written ws) (marked 125 (omega arith) none))))
 
--- ---- the steps of the walk
+-- ---- the place of the elements
 
-pub no_shape : {text : List ℕ} → ((ws : List Written) → from text 0 ≡ document ws → ⊥) → (false ≡ true) ↔ Shaped text
-unfolding from
-no_shape h = (λ e. no_truth e, λ s. absurd (h s.shape.order (lexed s.shape.spelled)))
+module _ {text : List ℕ} {p : ℕ} (r : Marked 123 text 0 p) where
+  pub group_no_key : ((n : Name) (rest : List Token) → from text p ≡ word (spelling n) ∷ mark 58 ∷ rest → ⊥) → (rest : List Token) → from text 0 ≡ mark 123 ∷ word group_name ∷ mark 58 ∷ rest → ⊥
+  group_no_key h rest q = h Group rest (tail_is (sym r.is ∙ q))
 
-module _ {text : List ℕ} {p : ℕ} (r : Reads (one 123) text 0 p) where
-  step_1 : (ws : List Written) → from text 0 ≡ document ws → (0 < p) × (from text p ≡ word group_name ∷ mark 58 ∷ (array written ws ++ (mark 125 ∷ [])))
+  module _ {k : Key} (d : KeyedBy text p k) where
+    pub group_other : (k.name ≡ Group → ⊥) → (rest : List Token) → from text 0 ≡ mark 123 ∷ word group_name ∷ mark 58 ∷ rest → ⊥
+    group_other n rest q = n (key_there d {n = Group} (tail_is (sym r.is ∙ q))).0
+
+module _ {text : List ℕ} where
+  pub group_begun : {p : ℕ} {c : Cursor} → GroupAt text p → Begun text p c → GroupBegun text c
   unfolding document
-  step_1 ws q = r.complete tt _ q
+  group_begun {p} g b = record { place = p; group = λ ws q. tail_is (tail_is (tail_is (sym g.is ∙ q))); begun = b }
 
-  pub shape_no_1 : p ≡ 0 → (false ≡ true) ↔ Shaped text
-  shape_no_1 z = no_shape (λ ws q. omega (arith, (step_1 ws q).0))
+  -- the end of the text is the place of no array
+  pub group_broken : ((rest : List Token) → from text 0 ≡ mark 123 ∷ word group_name ∷ mark 58 ∷ rest → ⊥) → GroupBegun text Broken
+  unfolding document
+  group_broken h = record { place = length text; group = λ ws q. absurd (h _ q); begun = λ r q. nil_cons (sym (from_end text) ∙ q) }
 
-  module _ {k : Key} (d : Keyed text p k) where
-    step_2 : (ws : List Written) → from text 0 ≡ document ws → (k.number ≡ 4) × (from text k.next ≡ array written ws ++ (mark 125 ∷ []))
-    step_2 ws q =
-        let c = d.complete group_name _ (step_1 ws q).1 in
-        let n : k.number ≡ 4 = c.0 ∙ group_is in
-        (n, c.1 (omega arith))
+-- ---- the whole
 
-    pub shape_no_2 : (k.number ≡ 4 → ⊥) → (false ≡ true) ↔ Shaped text
-    shape_no_2 n = no_shape (λ ws q. n (step_2 ws q).0)
+pub document_is : (ws : List Written) (rest : List Token) → document ws ++ rest ≡ mark 123 ∷ word group_name ∷ mark 58 ∷ (array written ws ++ (mark 125 ∷ rest))
+unfolding document
+document_is ws rest = simp append_assoc
 
-    module _ {e : ℕ} (a : Reads (array written) text k.next e) where
-      step_3 : (ws : List Written) → from text 0 ≡ document ws → (0 < e) × (from text e ≡ mark 125 ∷ [])
-      step_3 ws q = a.complete ws _ (step_2 ws q).1
+module _ {text : List ℕ} where
+  pub document_no_group : ((rest : List Token) → from text 0 ≡ mark 123 ∷ word group_name ∷ mark 58 ∷ rest → ⊥) → Absent document text 0
+  document_no_group h = record { none = λ ws rest q. h _ (q ∙ document_is ws rest) }
 
-      pub shape_no_3 : e ≡ 0 → (false ≡ true) ↔ Shaped text
-      shape_no_3 z = no_shape (λ ws q. omega (arith, (step_3 ws q).0))
+  module _ {p : ℕ} (g : GroupAt text p) where
+    -- where some elements are spelled, their array stands at the place
+    array_there : (ws : List Written) (rest : List Token) → from text 0 ≡ document ws ++ rest → from text p ≡ array written ws ++ (mark 125 ∷ rest)
+    array_there ws rest q = tail_is (tail_is (tail_is (sym g.is ∙ q ∙ document_is ws rest)))
 
-      module _ {f : ℕ} (b : Reads (one 125) text e f) where
-        step_4 : (ws : List Written) → from text 0 ≡ document ws → (0 < f) × (from text f ≡ [])
-        step_4 ws q = b.complete tt _ (step_3 ws q).1
+    pub document_no_array : Absent (array written) text p → Absent document text 0
+    document_no_array a = record { none = λ ws rest q. a.none ws _ (array_there ws rest q) }
 
-        pub shape_no_4 : f ≡ 0 → (false ≡ true) ↔ Shaped text
-        shape_no_4 z = no_shape (λ ws q. omega (arith, (step_4 ws q).0))
+    pub document_ends : {e : ℕ} → 0 < e → ReadTo (array written) text p e → (r : Option ℕ) → Expected 125 text e r → Reads document text 0 r
+    document_ends z a None h = record { none = λ ws rest q. h rest (a.complete ws _ (array_there ws rest q)) }
+    document_ends z a (Some r) h =
+        record {
+          inside = h.inside;
+          onward = omega (arith, h.onward);
+          sound =
+              (a.sound.0, g.is ∙ ap (λ (l : List Token). mark 123 ∷ word group_name ∷ mark 58 ∷ l) (a.sound.1 ∙ ap (λ (l : List Token). array written a.sound.0 ++ l) h.is) ∙ sym (document_is a.sound.0 (from text r)));
+          complete = λ ws rest q. tail_is (sym h.is ∙ a.complete ws _ (array_there ws rest q));
+        }
 
-        module _ {t : Found} (l : Next text f t) (np : p ≡ 0 → ⊥) (nk : k.number ≡ 4) (ne : e ≡ 0 → ⊥) (nf : f ≡ 0 → ⊥) where
-          -- the text, where nothing follows
-          whole : t.kind ≡ 0 → (ws : List Written) × (from text 0 ≡ document ws)
-          unfolding document
-          whole z =
-              let i : 0 < p = omega (arith, np) in
-              let j : 0 < k.number = omega arith in
-              let m : 0 < e = omega (arith, ne) in
-              let n : 0 < f = omega (arith, nf) in
-              let w = d.sound j in
-              let g = a.sound m in
-              let name : w.0 ≡ group_name = (named w.0).fourth (w.1 ∙ nk) in (
-                g.0,
-                (r.sound i).1
-                    ∙ ap (λ (x : List Token). mark 123 ∷ x) (w.2
-                    ∙ ap₂ (λ (x : List ℕ) (y : List Token). word x ∷ mark 58 ∷ y) name (g.1
-                    ∙ ap (λ (x : List Token). array written g.0 ++ x) ((b.sound n).1 ∙ ap (λ (x : List Token). mark 125 ∷ x) (l.ended z)))),
-              )
+no_more : (ws : List Written) → document ws ++ [] ≡ document ws
+unfolding document
+no_more ws = simp append_assoc
 
-          pub shape_last : (eqb t.kind 0 ≡ true) ↔ Shaped text
-          unfolding from
-          shape_last = (forth, λ s. back s.shape.order (lexed s.shape.spelled))
-            where
-              forth : eqb t.kind 0 ≡ true → Shaped text
-              forth q =
-                  let w = whole (eqb-true _ _ q) in
-                  let g : Good (lex text) = rw w.1 (good_document w.0) in
-                  record { elements = elements w.0; shape = record { order = w.0; same = refl; spelled = rw w.1 at (tokens_of text g) } }
+module _ {text : List ℕ} where
+  -- where the text spells some elements, their tokens stand at its start
+  spelled : {X : Type 0} → ((ws : List Written) → from text 0 ≡ document ws ++ [] → X) → Shaped text → X
+  unfolding from
+  spelled h s = h s.shape.order (lexed s.shape.spelled ∙ sym (no_more s.shape.order))
 
-              back : (ws : List Written) → from text 0 ≡ document ws → eqb t.kind 0 ≡ true
-              back ws q = eq-eqb _ _ (go t.kind refl)
-                where
-                  go : (n : ℕ) → t.kind ≡ n → t.kind ≡ 0
-                  go zero z = z
-                  go (suc n) z = nil_cons (sym (step_4 ws q).1 ∙ (l.is (omega arith)).1)
+  pub shape_none : Absent document text 0 → (false ≡ true) ↔ Shaped text
+  shape_none a = (λ e. no_truth e, λ s. absurd (spelled (λ ws q. a.none ws [] q) s))
+
+  module _ {e : ℕ} (r : ReadTo document text 0 e) where
+    -- nothing follows the tokens of some elements
+    nothing_more : Shaped text → from text e ≡ []
+    nothing_more s = spelled (λ ws q. r.complete ws [] q) s
+
+    pub shape_more : (t : Found) → Next text e t → (t ≡ End → ⊥) → (false ≡ true) ↔ Shaped text
+    shape_more t n h = (λ f. no_truth f, λ s. absurd (go t n h (nothing_more s)))
+      where
+        go : (t : Found) → Next text e t → (t ≡ End → ⊥) → from text e ≡ [] → ⊥
+        go End n h q = h refl
+        go Wrong n h q = nil_cons (sym q ∙ n)
+        go (Quoted p) n h q = nil_cons (sym q ∙ n.is)
+        go (Mark b p) n h q = nil_cons (sym q ∙ n.1.is)
+
+    pub shape_found : from text e ≡ [] → (true ≡ true) ↔ Shaped text
+    unfolding from
+    shape_found n = (λ t. shaped, λ s. refl)
+      where
+        shaped : Shaped text
+        shaped =
+            let ws = r.sound.0 in
+            let w : lex text ≡ document ws = r.sound.1 ∙ ap (λ (l : List Token). document ws ++ l) n ∙ no_more ws in
+            let g : Good (lex text) = rw w (good_document ws) in
+            record { elements = elements ws; shape = record { order = ws; same = refl; spelled = rw w at (tokens_of text g) } }

@@ -1,13 +1,6 @@
 -- The journal of elements taken over where its receipts lie: the answer is that of Take over on the journal that the elements spell.
-use Prim.Native.Nat.{ℕ, ◌<◌}
-use mathlib.Core.Path.{◌≡◌, refl, sym, ap, ◌∙◌}
-use mathlib.Core.Bool.{Bool, true, false, cond, not, ◌&&◌}
-use mathlib.Core.List.{List, [], ◌∷◌, map}
+use Rattle.std.proofs.Common.{ℕ, ◌<◌, ◌≡◌, refl, sym, ap, ◌∙◌, Bool, true, false, cond, not, ◌&&◌, List, [], ◌∷◌, map, arith, leb-true, eqb-true, eqb, leb, length, take, length-drop}
 use mathlib.Core.Option.{Option, none, some}
-use native.Mathlib.Omega.{arith}
-use borrow.Author.Tests.{leb-true, eqb-true}
-use lib.Dec.{eqb, leb}
-use lib.ListN.{length, take, length-drop}
 use Rattle.primitives.specs.Bytes.{same}
 use Rattle.primitives.specs.Base64.{decoding}
 use Rattle.primitives.specs.declared.base64.Alphabet.TheVariants.{UrlSafe}
@@ -28,7 +21,7 @@ use Rattle.exports.specs.Shape.{Element}
 use Rattle.exports.specs.Spelled.{short, GoodPair, GoodPairs, nothing, also, is_empty}
 use Rattle.exports.specs.Naming.{middle, field_of, settings_in, payload_names, not_named, named_by, named}
 use Rattle.exports.specs.Reading.{canonical, element_good, has_receipt, first_of, settings_of, names_register, owner_of, pair_of, journal_of_elements, survey_number}
-use Rattle.exports.specs.Running.{elements_run, owner_named, run_journal}
+use Rattle.exports.specs.Running.{elements_run, owner_settings, run_journal}
 use Rattle.exports.specs.TakenOver.{GoodParts, parts_taken}
 use Rattle.exports.proofs.TakenAsSpelled.{read_is_taken_over}
 
@@ -156,7 +149,7 @@ module _ (e : Element) (es : List Element) (key : List ℕ) (n : ℕ) where
   answered t = ifZero t.number (last_answer (elements_run (key_schedule key) t.state (e ∷ es))) t
 
   run_is : run_journal (e ∷ es) key n ≡ answered (settings_checked (settings_of e) key n)
-  unfolding run_journal owner_named settings_of answered
+  unfolding run_journal owner_settings settings_of answered
   run_is = refl
 
   run_yes : width_good n ≡ true → settings_good (settings_of e) ≡ true

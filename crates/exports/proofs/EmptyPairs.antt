@@ -1,11 +1,7 @@
 -- A journal with a pair without receipts is written, and its text gets 29.
-use Prim.Native.Nat.{ℕ, ◌<◌}
-use mathlib.Core.Path.{◌≡◌, refl, sym, ap, ◌∙◌}
-use mathlib.Core.Bool.{true, false, ◌&&◌}
-use mathlib.Core.List.{List, [], ◌∷◌, map}
+use Rattle.std.proofs.lemmas.List.{length-map}
+use Rattle.std.proofs.Common.{ℕ, ◌<◌, ◌≡◌, refl, sym, ap, ◌∙◌, true, false, ◌&&◌, List, [], ◌∷◌, map, arith, length, take}
 use mathlib.Core.Option.{some}
-use native.Mathlib.Omega.{arith}
-use lib.ListN.{length, take, length-map}
 use Rattle.primitives.specs.Questions.{ask}
 use Rattle.primitives.proofs.Rows.{ifZero-no}
 use Rattle.journal.specs.Valid.{Owner, Pair}

@@ -1,14 +1,8 @@
 -- An entry as it lies in a JSON string and as it is spelled there get the same answer: a compact form has neither a backslash nor "=".
-use Prim.Native.Nat.{ℕ, ◌+◌, ◌-◌, ◌<◌}
-use mathlib.Core.Path.{◌≡◌, refl, sym, ap, ◌∙◌}
-use mathlib.Core.Bool.{Bool, true, false, cond, ◌&&◌, ◌||◌, and-false}
-use mathlib.Core.List.{List, [], ◌∷◌, ◌++◌}
+use Rattle.std.proofs.Common.{ℕ, ◌+◌, ◌-◌, ◌<◌, ◌≡◌, refl, sym, ap, ◌∙◌, Bool, true, false, cond, ◌&&◌, ◌||◌, List, [], ◌∷◌, ◌++◌, arith, ltb-true, eqb-true, ltb, leb, eqb, length, get_or, take, drop, length-take, take-append-drop, take-take}
+use mathlib.Core.Bool.{and-false}
 use mathlib.Core.Option.{Option, none, some}
-use native.Mathlib.Omega.{arith}
-use borrow.Author.Tests.{ltb-true, eqb-true}
-use lib.Dec.{ltb, leb, eqb}
-use lib.ListN.{length, get_or, take, drop, length-take, take-append-drop}
-use lib.Seq.{take-length, take-take}
+use lib.Seq.{take-length}
 use Rattle.primitives.specs.Base64.{letters, quad, digit, known, ended, accepted, encoding, decoding}
 use Rattle.primitives.specs.Base64 as base
 use Rattle.primitives.specs.Text.{ascii}
@@ -23,12 +17,14 @@ use Rattle.journal.specs.Head.{entry_text}
 use Rattle.journal.specs.Step.{sound_alone}
 use Rattle.journal.specs.Checking.{found, context_number, text_number, after, stopped, checked, text_checked, entry_ready, entry_checked}
 use Rattle.journal.specs.declared.state.State.{State}
-use Rattle.journal.specs.declared.checking.Checked.{Checked}
+use Rattle.journal.specs.Checking.{Checked}
 use Rattle.journal.proofs.Places.{length_entry}
 use Rattle.exports.specs.Text.{Token}
 use Rattle.exports.specs.Shape.{string}
-use Rattle.exports.specs.Places.{from, holds, PartRead}
-use Rattle.exports.specs.declared.strings.Part.{Part}
+use Rattle.exports.specs.Lexer.{content}
+use Rattle.exports.specs.Places.{from, holds, Quotes}
+use Rattle.exports.specs.declared.lexer.Part.{Part}
+use Rattle.exports.proofs.Passing.{part_in}
 use Rattle.exports.proofs.Unescaping.{AsTheyLie, same, escaped, as_they_lie}
 
 -- ---- a byte that is no letter of the alphabet
@@ -152,14 +148,16 @@ lying_entry k st raw w (escaped l a b) =
     ∙ (ap (λ (t : Bool). cond t (stopped 16 st) (stopped 6 st)) (ready_size st s w n) ∙ sym (not_entry 61 equals w b k st))
 
 -- the part of a text that is lent to the check
-pub part_entry : (k : List (List ℕ)) (st : State) {text : List ℕ} {at : ℕ} {p : Part} → PartRead text at p → (p.next ≡ 0 → ⊥)
+pub part_entry : (k : List (List ℕ)) (st : State) {text : List ℕ} {at : ℕ} {p : Part} → Quotes text at p
     → (w : List ℕ) (r : List Token) → from text at ≡ string w ++ r
     → entry_checked k st (take (p.start + p.length - p.start) (drop p.start text)) ≡ entry_checked k st w
-part_entry k st {text} {at} {p} pr z w r q =
-    let long : p.length ≡ length w = pr.long w r q in
-    let quote = pr.quote (omega (arith, z)) in
+part_entry k st {text} {at} {p} i w r q =
+    let pr = part_in i in
+    let is : content (drop p.start text) 0 ≡ w = sym (pr.is w r q) in
+    let long : p.length ≡ length w = pr.long ∙ ap length is in
+    let quote = pr.quote in
     let m : ℕ = p.next - 1 - p.start in
     let d : List ℕ = drop p.start text in
     let e : p.start + p.length - p.start ≡ length w = omega (arith, long) in
     let f : take (length w) d ≡ take (length w) (take m d) = sym (take-take (length w) m d (omega (arith, long, quote))) in
-    ap (λ (n : ℕ). entry_checked k st (take n d)) e ∙ (ap (entry_checked k st) f ∙ lying_entry k st (take m d) w (as_they_lie (pr.spells w r q)))
+    ap (λ (n : ℕ). entry_checked k st (take n d)) e ∙ (ap (entry_checked k st) f ∙ lying_entry k st (take m d) w (as_they_lie (rw is at pr.spells)))

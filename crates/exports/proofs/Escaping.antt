@@ -1,10 +1,5 @@
 -- The escape stands for "=", and a backslash begins nothing else: a byte that stands neither between strings nor within an escape begins letters of a string.
-use Prim.Native.Nat.{ℕ}
-use mathlib.Core.Path.{◌≡◌, refl, sym, ◌∙◌, subst}
-use mathlib.Core.Bool.{true, false}
-use mathlib.Core.List.{List, [], ◌∷◌, ◌++◌}
-use mathlib.Core.Logic.{◌⊎◌, inl, inr}
-use native.Mathlib.Omega.{arith}
+use Rattle.std.proofs.Common.{ℕ, ◌≡◌, refl, sym, ◌∙◌, subst, true, false, List, [], ◌∷◌, ◌++◌, ◌⊎◌, inl, inr, arith}
 use Rattle.primitives.specs.Text.{ascii}
 use Rattle.primitives.proofs.Rows.{true-is-not-false}
 use Rattle.exports.specs.Text.{Token, word, mark, blank, is_mark, plain, Inside, close, letter, escape, Tokens, end, space, sign, quoted}

@@ -1,13 +1,8 @@
 -- The answer of `export` and its output, from what the calls in it say.
-use Prim.Native.Nat.{ℕ, ◌≤◌}
-use mathlib.Core.Path.{◌≡◌, refl, sym, ap, ◌∙◌, subst}
-use mathlib.Core.Bool.{Bool, true, false, not}
-use mathlib.Core.List.{List, map}
+use Rattle.std.proofs.lemmas.List.{length-map}
+use Rattle.std.proofs.lemmas.Bool.{not-true, not-false}
 use mathlib.Core.Option
 use mathlib.Core.Option.{Option, none, some}
-use mathlib.Core.Logic.{◌↔◌}
-use borrow.Author.Tests.{not-true, not-false}
-use lib.ListN.{length, drop, length-map}
 use Rattle.primitives.specs.Bytes.{AllBytes}
 use Rattle.primitives.specs.Place.{overwrite, placed, room}
 use Rattle.primitives.specs.Answers.{written, answer_with, bufferWith}
@@ -24,14 +19,18 @@ use Rattle.journal.proofs.AcceptedIsWritten.{names_good}
 use Rattle.journal.proofs.JournalStates.{state_of_journal}
 use Rattle.exports.specs.Spelled.{pairs_spelled, GoodPairs, pairs_of}
 use Rattle.exports.specs.Groups.{Group}
-use Rattle.exports.specs.Output.{start, Puts}
-use Rattle.exports.specs.Writing.{export_text, elements_for, export_of, answered, not_written, exported, export_buffer}
+use Rattle.exports.specs.Output.{start, Out, Puts}
+use Rattle.exports.specs.Writing.{as_exported, export_text, elements_for, export_of, answered, not_written, exported, export_buffer}
 use Rattle.exports.specs.Passing.{GroupsThere}
 use Rattle.exports.specs.Running.{ExportPut}
 use Rattle.exports.specs.GroupLaws.{text_pair}
-use Rattle.exports.specs.declared.output.End.{End}
-use Rattle.exports.specs.declared.writing.Exported.{Exported}
-use Rattle.exports.proofs.Putting.{two_runs, no_run}
+use Rattle.std.proofs.Common.{Some, None, Err, ℕ, ◌≤◌, ◌≡◌, refl, sym, ap, ◌∙◌, subst, Bool, true, false, not, List, map, ◌↔◌, length, drop}
+use Rattle.primitives.specs.declared.refusal.Refusal.TheVariants.{BadExport, OutputShort}
+use Rattle.primitives.proofs.Refusals.{numbers_are_not_zero}
+use Rattle.journal.specs.declared.state.RefusedAt.{RefusedAt}
+use Rattle.journal.specs.State.{as_taken_over}
+use Rattle.exports.specs.Writing.{Exported}
+use Rattle.exports.proofs.Putting.{Begins, two_runs, no_run}
 use Rattle.exports.proofs.GroupsBack.{groups_of_there, no_groups_there}
 use Rattle.exports.proofs.PairsBack.{valid_spelled, valid_good, valid_pairs, after_owner, owner_room}
 
@@ -59,8 +58,8 @@ module _ {j key : List ℕ} {n : ℕ} (v : Valid j key n) where
     text = export_text (elements_for (pairs_of j) t.groups)
 
     -- what a run writes or measures
-    pub run_puts : (d : Bool) (out out' : List ℕ) (r : End) → ExportPut d j s (length (pairs_of j)) out out' r → Puts d out out' start r (export_text (elements_for (pairs_of j) t.groups))
-    run_puts d out out' r x =
+    pub run_puts : (d : Bool) (o o' : Out) → ExportPut d j s (length (pairs_of j)) o o' → Puts d o o' (export_text (elements_for (pairs_of j) t.groups))
+    run_puts d o o' x =
         let ps = map (text_pair v.owner n) v.pairs in
         let e = valid_spelled v in
         x.is (pairs_of j) t.groups (subst GoodPairs (sym (valid_pairs v)) (valid_good v)) t.good refl t.count
@@ -96,11 +95,10 @@ placed_no out y e = rw e
 
 module _ (j key : List ℕ) (n : ℕ) (s out : List ℕ) where
   -- the journal is not accepted
-  pub export_refused : {t : TakenOver} → t ≡ take_over j key n → (t.number ≡ 0 → ⊥)
-      → (◌≡◌ {A = Exported} (record { number = t.number; index = t.index; length = 0 }) (exported j key n s out)) × (out ≡ export_buffer j key n s out)
+  pub export_refused : (r : RefusedAt) → as_taken_over (Err r) ≡ take_over j key n → (as_exported (Err r) ≡ exported j key n s out) × (out ≡ export_buffer j key n s out)
   unfolding exported export_buffer
-  export_refused {t} e h =
-      let z : (take_over j key n).number ≡ 0 → ⊥ = λ q. h (ap (λ (x : TakenOver). x.number) e ∙ q) in (
+  export_refused r e =
+      let z : (take_over j key n).number ≡ 0 → ⊥ = λ q. numbers_are_not_zero r.question (ap (λ (x : TakenOver). x.number) e ∙ q) in (
         ap not_written e ∙ sym (ifZero-no (take_over j key n).number (answered (answer_with 28 (export_of j s) out)) (not_written (take_over j key n)) z),
         sym (ifZero-no (take_over j key n).number (bufferWith (export_of j s) out) out z),
       )
@@ -130,15 +128,14 @@ module _ (j key : List ℕ) (n : ℕ) (s out : List ℕ) where
 
       module _ {g : Bool} (f : (g ≡ true) ↔ GroupsThere k s) where
         -- 28
-        pub export_other : not g ≡ true
-            → (◌≡◌ {A = Exported} (record { number = 28; index = 0; length = 0 }) (exported j key n s out)) × (out ≡ export_buffer j key n s out)
-        export_other h =
+        pub export_other : {r : RefusedAt} → not g ≡ true → r ≡ record { question = BadExport; index = 0 } → (as_exported (Err r) ≡ exported j key n s out) × (out ≡ export_buffer j key n s out)
+        export_other h p =
             let no_groups : GroupsThere (length (pairs_of j)) s → ⊥ =
             λ x. true-is-not-false (sym (not-true g h) ∙ f.1 (subst (λ (m : ℕ). GroupsThere m s) (sym many) x)) in
             let q = text_none valid s no_groups in
-            (sym (answer_is none q), sym (buffer_is none q))
+            (ap (λ (x : RefusedAt). as_exported (Err x)) p ∙ sym (answer_is none q), sym (buffer_is none q))
 
-        module _ (h : not g ≡ false) {out₁ : List ℕ} {r : End} (first : ExportPut true j s k out out₁ r) where
+        module _ (h : not g ≡ false) {m m' : Out} (begins : Begins (length out) m) (first : ExportPut false j s k m m') where
           groups : GroupsThere (length (pairs_of j)) s
           groups = there (f.0 (not-false g h))
 
@@ -149,25 +146,26 @@ module _ (j key : List ℕ) (n : ℕ) (s out : List ℕ) where
           unfolding whole
           text_some = text_is valid s groups
 
-          measured : Puts true out out₁ start r whole
+          measured : Puts false m m' whole
           unfolding whole
-          measured = run_puts valid s groups true out out₁ r (subst (λ (m : ℕ). ExportPut true j s m out out₁ r) many first)
+          measured = run_puts valid s groups false m m' (subst (λ (i : ℕ). ExportPut false j s i m m') many first)
 
           -- 23
-          pub export_full : not r.fits ≡ true
-              → (◌≡◌ {A = Exported} (record { number = 23; index = 0; length = 0 }) (exported j key n s out)) × (out₁ ≡ export_buffer j key n s out)
-          export_full l =
-              let c = no_run measured (not-true r.fits l) in (
-                sym (answer_is (some whole) text_some ∙ ap answered (written_full out whole c)),
-                measured.kept refl ∙ sym (buffer_is (some whole) text_some ∙ placed_no out whole c),
+          pub export_full : {r : RefusedAt} → m'.at ≡ None → r ≡ record { question = OutputShort; index = 0 } → (as_exported (Err r) ≡ exported j key n s out) × (out ≡ export_buffer j key n s out)
+          export_full l p =
+              let c = no_run out begins measured l in (
+                ap (λ (x : RefusedAt). as_exported (Err x)) p ∙ sym (answer_is (some whole) text_some ∙ ap answered (written_full out whole c)),
+                sym (buffer_is (some whole) text_some ∙ placed_no out whole c),
               )
 
           -- written
-          pub export_written : not r.fits ≡ false → {out₂ : List ℕ} {r₂ : End} → ExportPut false j s k out₁ out₂ r₂
-              → (◌≡◌ {A = Exported} (record { number = 0; index = 0; length = r.at }) (exported j key n s out)) × (out₂ ≡ export_buffer j key n s out)
+          pub export_written : {size : ℕ} → m'.at ≡ Some size → {w w' : Out} → w.bytes ≡ out → w.at ≡ start → ExportPut true j s k w w'
+              → (◌≡◌ {A = Exported} (record { number = 0; index = 0; length = size }) (exported j key n s out)) × (w'.bytes ≡ export_buffer j key n s out)
           unfolding whole
-          export_written l {out₂} {r₂} second =
-              let w = two_runs measured (not-false r.fits l) (run_puts valid s groups false out₁ out₂ r₂ (subst (λ (m : ℕ). ExportPut false j s m out₁ out₂ r₂) many second)) in (
-                ap (λ (m : ℕ). record { number = 0; index = 0; length = m }) w.at ∙ sym (answer_is (some whole) text_some ∙ ap answered (written_room out whole w.room)),
-                w.is ∙ sym (buffer_is (some whole) text_some ∙ placed_yes out whole w.room),
+          export_written {size} l {w} {w'} e a second =
+              let b : Begins (length w.bytes) m = subst (λ (x : List ℕ). Begins (length x) m) (sym e) begins in
+              let x = two_runs b measured l a (run_puts valid s groups true w w' (subst (λ (i : ℕ). ExportPut true j s i w w') many second)) in
+              let r : room out 0 whole ≡ true = subst (λ (y : List ℕ). room y 0 whole ≡ true) e x.room in (
+                ap (λ (i : ℕ). record { number = 0; index = 0; length = i }) x.at ∙ sym (answer_is (some whole) text_some ∙ ap answered (written_room out whole r)),
+                x.is ∙ ap (λ (y : List ℕ). overwrite y 0 whole) e ∙ sym (buffer_is (some whole) text_some ∙ placed_yes out whole r),
               )

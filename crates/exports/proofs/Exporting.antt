@@ -1,15 +1,6 @@
 -- The parts of an export and the whole of it, written one after the other.
-use Prim.Native.Nat.{ℕ, ◌+◌, ◌-◌, ◌≤◌, ◌<◌}
-use mathlib.Core.Path.{◌≡◌, refl, sym, ap, ◌∙◌, subst}
-use mathlib.Core.Bool.{Bool, true, false}
-use mathlib.Core.List.{List, [], ◌∷◌, ◌++◌, map, append_assoc, append-nil}
-use native.Mathlib.Omega.{arith}
-use lib.Dec.{ltb}
-use lib.ListN.{length, take, drop, get_or, length-append, length-drop}
-use lib.Seq.{drop-drop}
 use Rattle.primitives.specs.Bytes.{AllBytes}
 use Rattle.primitives.specs.Number.{bytes_of, value_of, count_at, number_at}
-use Rattle.primitives.specs.declared.buffer.Number.TheVariants.{Is, Missing}
 use Rattle.primitives.proofs.Numbers.{length_bytes_of}
 use Rattle.primitives.proofs.Counts.{count_found, count-missing}
 use Rattle.receipt.specs.Settings.{name_text}
@@ -18,43 +9,50 @@ use Rattle.journal.proofs.Sections.{length_section}
 use Rattle.exports.specs.Text.{every}
 use Rattle.exports.specs.Spelled.{TextPair, sized_texts, short, pair_spelled, pairs_spelled, GoodPair, GoodPairs, also}
 use Rattle.exports.specs.Shape.{Element}
-use Rattle.exports.specs.Groups.{Group, groups_text, group_good}
-use Rattle.exports.specs.Output.{start, moved, Puts}
-use Rattle.exports.specs.Writing.{comma, quoted, listed, in_base64, spelling, opening, before_certificate, before_issuers, before_receipts, ending, certificates_part, receipts_part, element_text, export_text, element_for, elements_for}
-use Rattle.exports.specs.Passing.{SizedRead}
-use Rattle.exports.specs.Running.{StringsPut, SigningPut, GroupPut, FourRead, SectionRead, PairPut, ElementsPut, ExportPut}
-use Rattle.exports.specs.declared.output.End.{End}
-use Rattle.exports.specs.declared.writing.Copied.{Copied}
-use Rattle.exports.proofs.Putting.{puts_then, puts_is, puts_nothing, puts_still}
+use Rattle.exports.specs.Groups.{Group, group_text, groups_text, group_good}
+use Rattle.std.proofs.Common.{suc, cond, Option, Some, None, MatchOption, IsSome, leb, ℕ, ◌+◌, ◌-◌, ◌≤◌, ◌<◌, ◌≡◌, refl, sym, ap, ◌∙◌, Bool, true, false, List, [], ◌∷◌, ◌++◌, map, append_assoc, append-nil, arith, ltb, length, take, drop, get_or, length-append, length-drop, drop-drop, leb-true, leb-false}
+use Rattle.primitives.proofs.Rows.{true-is-not-false}
+use Rattle.primitives.proofs.Numbers.{number_found}
+use Rattle.exports.specs.Output.{moved, Out, Puts}
+use Rattle.exports.specs.Writing.{comma, quoted, listed, in_base64, opening, before_certificate, before_issuers, before_receipts, ending, certificates_part, receipts_part, element_text, export_text, element_for, elements_for}
+use Rattle.exports.specs.Passing.{NoText, SizedAt}
+use Rattle.exports.specs.Running.{StringsPut, SigningPut, GroupPut, FourAt, SectionAt, SectionRead, PairPut, ElementsPut, ExportPut}
+use Rattle.exports.proofs.Putting.{puts_then, puts_is, puts_nothing}
 use Rattle.exports.proofs.Sized.{every_head, every_tail, sized_cons, all, good_texts, group_room, group_many, group_tail, groups_cons}
 use Rattle.exports.proofs.PairsBack.{pair_open, pair_end, pair_count, pair_entries, pairs_cons}
-use Rattle.exports.proofs.Copying.{piece_is, whole_more, listed_nil, spelling_coded, spellings_coded, spellings_plain}
+use Rattle.exports.proofs.Copying.{piece_is, whole_more, listed_nil, all_same}
 
-module _ {d : Bool} {out out₁ : List ℕ} {p a : End} where
-  pub comma_put : (more : Bool) {y : List ℕ} → Puts d out out₁ p a y → y ≡ comma more → Puts d out out₁ p a (comma more)
-  comma_put more w e = puts_is e w
+-- a "," where others went before
 
+pub comma_there : {d : Bool} {o o₁ : Out} {more : Bool} → more ≡ true → Puts d o o₁ (44 ∷ []) → Puts d o o₁ (comma more)
+comma_there e w = puts_is (sym (ap comma e)) w
+
+pub no_comma : (d : Bool) (o : Out) {more : Bool} → more ≡ false → Puts d o o (comma more)
+no_comma d o e = puts_is (sym (ap comma e)) (puts_nothing d o)
+
+module _ {d : Bool} {o o₁ : Out} where
   -- a string, after a "," where others went before
-  pub quoted_put : {out₂ out₃ out₄ : List ℕ} {b c e : End} (more : Bool) (w : List ℕ) → Puts d out out₁ p a (comma more) → Puts d out₁ out₂ a b (34 ∷ [])
-      → Puts d out₂ out₃ b c w → Puts d out₃ out₄ c e (34 ∷ []) → Puts d out out₄ p e (comma more ++ quoted w)
+  pub quoted_put : {o₂ o₃ o₄ : Out} (more : Bool) (w : List ℕ) → Puts d o o₁ (comma more) → Puts d o₁ o₂ (34 ∷ [])
+      → Puts d o₂ o₃ w → Puts d o₃ o₄ (34 ∷ []) → Puts d o o₄ (comma more ++ quoted w)
   unfolding quoted
   quoted_put more w x y z v = puts_then x (puts_then y (puts_then z v))
 
   -- ---- the certificate that signs
 
-  module _ (more : Bool) (s : List ℕ) (at : ℕ) {e : ℕ} (r : SizedRead s at e) where
-    pub signing_put : {out₂ out₃ : List ℕ} {b c : End} → Puts d out out₁ p a (comma more) → Puts d out₁ out₂ a b before_certificate
-        → Puts d out₂ out₃ b c (comma false ++ quoted (spelling true (take (e - (at + 2)) (drop (at + 2) s)))) → SigningPut d more s at out out₃ p (record { end = c; at = e })
-    signing_put x y z = record {
+  module _ (more : Bool) (s : List ℕ) (at : ℕ) where
+    pub signing_put : {e : ℕ} → SizedAt s at e → {o₂ o₃ : Out} → Puts d o o₁ (comma more) → Puts d o₁ o₂ before_certificate
+        → Puts d o₂ o₃ (comma false ++ quoted (in_base64 (take (e - (at + 2)) (drop (at + 2) s)))) → SigningPut d more s at o o₃ (Some e)
+    signing_put {e} r x y z = record {
+      same = z.same ∙ y.same ∙ x.same;
       long = z.long ∙ y.long ∙ x.long;
       is = λ w rest h q.
           let f = r.complete w rest h q in
-          let i = piece_is s at e w rest q f.2 in
-          (puts_then x (puts_then y (puts_is (ap (λ (l : List ℕ). quoted (spelling true l)) i ∙ ap quoted (sym (spelling_coded true w refl))) z)), f.1);
+          let i = piece_is s at e w rest q f.1 in
+          (puts_then x (puts_then y (puts_is (ap (λ (l : List ℕ). quoted (in_base64 l)) i) z)), f.0);
     }
 
-pub signing_none : (d more : Bool) (s : List ℕ) (at : ℕ) (out : List ℕ) (p : End) (r : Copied) {e : ℕ} → SizedRead s at e → e ≡ 0 → SigningPut d more s at out out p r
-signing_none d more s at out p r f z = record { long = refl; is = λ w rest h q. absurd (omega (arith, z, (f.complete w rest h q).0)) }
+pub signing_none : (d more : Bool) (s : List ℕ) (at : ℕ) (o : Out) → NoText s at → SigningPut d more s at o o None
+signing_none d more s at o f = record { same = refl; long = refl; is = λ w rest h q. absurd (f w rest h q) }
 
 -- ---- a group
 
@@ -62,50 +60,84 @@ part_is : (m : Bool) (c : List ℕ) (l : List (List ℕ)) → ((comma m ++ (befo
 unfolding certificates_part
 part_is m c l = simp append_assoc
 
-module _ (d more : Bool) (s : List ℕ) (at : ℕ) (out : List ℕ) (p : End) where
-  pub group_none : length s ≤ at → (r : Copied) → GroupPut d more s at out out p r
-  group_none h r = record { long = refl; is = λ g rest e q. absurd (omega (arith, group_room s at g rest q)) }
+module _ (d more : Bool) (s : List ℕ) (at : ℕ) (o : Out) where
+  pub group_none : length s ≤ at → GroupPut d more s at o o None
+  group_none h = record { same = refl; long = refl; is = λ g rest e q. absurd (omega (arith, group_room s at g rest q)) }
 
   module _ (h : at < length s) where
-    pub group_zero : get_or s at 0 ≡ 0 → (r : Copied) → GroupPut d more s at out out p r
-    group_zero z r = record { long = refl; is = λ g rest e q. absurd (omega (arith, z, group_many s at h g rest q)) }
+    pub group_zero : get_or s at 0 ≡ 0 → GroupPut d more s at o o None
+    group_zero z = record { same = refl; long = refl; is = λ g rest e q. absurd (omega (arith, z, group_many s at h g rest q)) }
 
-    pub group_put : {out₁ out₂ out₃ out₄ : List ℕ} {sg : Copied} {b : End} {t : Copied} {e : End} → SigningPut d more s (at + 1) out out₁ p sg
-        → Puts d out₁ out₂ sg.end b before_issuers → StringsPut d true s sg.at (get_or s at 0 - 1) out₂ out₃ b t → Puts d out₃ out₄ t.end e before_receipts
-        → GroupPut d more s at out out₄ p (record { end = e; at = t.at })
-    group_put {out₁} {out₂} {out₃} {out₄} {sg} {b} {t} {e} x y z v = record {
-      long = v.long ∙ z.long ∙ y.long ∙ x.long;
+    -- its certificate is missing
+    pub group_unsigned : {o₁ : Out} → SigningPut d more s (at + 1) o o₁ None → GroupPut d more s at o o₁ None
+    group_unsigned {o₁} x = record {
+      same = x.same;
+      long = x.long;
       is = λ g rest good q.
-          let k = good_texts g good in
-          let m = group_many s at h g rest q in
-          let l : drop (at + 1) s ≡ entry_text g.certificate ++ (sized_texts g.issuers ++ rest) =
-          group_tail s at h g rest q ∙ ap (λ (u : List ℕ). u ++ rest) (sized_cons g.certificate g.issuers) ∙ append_assoc (entry_text g.certificate) (sized_texts g.issuers) rest in
-          let f = x.is g.certificate (sized_texts g.issuers ++ rest) (every_head short g.certificate g.issuers k) l in
-          let i = z.is g.issuers rest (every_tail short g.certificate g.issuers k) (omega (arith, m)) f.1 in
-          (puts_is (part_is more (in_base64 g.certificate) (map in_base64 g.issuers)) (puts_then (puts_then (puts_then f.0 y) (puts_is (ap (listed quoted false) (spellings_coded g.issuers)) i.0)) v), i.1);
+          absurd (x.is g.certificate (sized_texts g.issuers ++ rest) (every_head short g.certificate g.issuers (good_texts g good)) (opened g rest good q)).1;
     }
+      where
+        opened : (g : Group) (rest : List ℕ) → group_good g ≡ true → drop at s ≡ group_text g ++ rest → drop (at + 1) s ≡ entry_text g.certificate ++ (sized_texts g.issuers ++ rest)
+        opened g rest good q =
+            group_tail s at h g rest q ∙ ap (λ (u : List ℕ). u ++ rest) (sized_cons g.certificate g.issuers) ∙ append_assoc (entry_text g.certificate) (sized_texts g.issuers) rest
+
+    module _ {o₁ o₂ o₃ : Out} {a c : ℕ} (e : c ≡ get_or s at 0) (x : SigningPut d more s (at + 1) o o₁ (Some a)) (y : Puts d o₁ o₂ before_issuers) where
+      module _ {r : Option ℕ} (z : StringsPut d in_base64 s a (c - 1) o₂ o₃ r) (g : Group) (rest : List ℕ) (good : group_good g ≡ true) (q : drop at s ≡ group_text g ++ rest) where
+        texts : every short (all g) ≡ true
+        texts = good_texts g good
+
+        opened : drop (at + 1) s ≡ entry_text g.certificate ++ (sized_texts g.issuers ++ rest)
+        opened =
+            group_tail s at h g rest q ∙ ap (λ (u : List ℕ). u ++ rest) (sized_cons g.certificate g.issuers) ∙ append_assoc (entry_text g.certificate) (sized_texts g.issuers) rest
+
+        signed : Puts d o o₁ (comma more ++ (before_certificate ++ quoted (in_base64 g.certificate))) × (drop a s ≡ sized_texts g.issuers ++ rest)
+        signed = x.is g.certificate (sized_texts g.issuers ++ rest) (every_head short g.certificate g.issuers texts) opened
+
+        listed_there : Puts d o₂ o₃ (listed quoted false (map in_base64 g.issuers)) × MatchOption r ⊥ (λ e. drop e s ≡ rest)
+        listed_there = z.is g.issuers rest (every_tail short g.certificate g.issuers texts) (omega (arith, e, group_many s at h g rest q)) signed.1
+
+      -- an issuer is missing
+      pub group_unlisted : StringsPut d in_base64 s a (c - 1) o₂ o₃ None → GroupPut d more s at o o₃ None
+      group_unlisted z = record {
+        same = z.same ∙ y.same ∙ x.same;
+        long = z.long ∙ y.long ∙ x.long;
+        is = λ g rest good q. absurd (listed_there z g rest good q).1;
+      }
+
+      pub group_put : {b : ℕ} → StringsPut d in_base64 s a (c - 1) o₂ o₃ (Some b) → {o₄ : Out} → Puts d o₃ o₄ before_receipts → GroupPut d more s at o o₄ (Some b)
+      group_put z v = record {
+        same = v.same ∙ z.same ∙ y.same ∙ x.same;
+        long = v.long ∙ z.long ∙ y.long ∙ x.long;
+        is = λ g rest good q.
+            let f = signed z g rest good q in
+            let i = listed_there z g rest good q in
+            (puts_is (part_is more (in_base64 g.certificate) (map in_base64 g.issuers)) (puts_then (puts_then (puts_then f.0 y) i.0) v), i.1);
+      }
 
 -- ---- counts and sections
 
 module _ (j : List ℕ) (at : ℕ) where
-  pub four_is : AllBytes j → {v : ℕ} → number_at j at 4 ≡ Is v → FourRead j at v
-  four_is b {v} e = let f = count_found j at 4 (omega arith) b e in record { small = f.1; is = λ h. f.0 }
+  pub four_is : AllBytes j → {v : ℕ} → number_at j at 4 ≡ Some v → FourAt j at v
+  four_is b {v} e = let f = count_found j at 4 (omega arith) b e in record { room = (number_found j at 4 e).room; small = f.1; is = f.0 }
 
-  pub four_none : number_at j at 4 ≡ Missing → FourRead j at 0
-  four_none e = record { small = omega arith; is = λ h. count-missing j at 4 (omega arith) h e }
+  pub four_none : number_at j at 4 ≡ None → length j < at + 4
+  four_none e = go (leb (at + 4) (length j)) refl
+    where
+      go : (t : Bool) → leb (at + 4) (length j) ≡ t → length j < at + 4
+      go true k = count-missing j at 4 (omega arith) (leb-true (at + 4) (length j) k) e
+      go false k = leb-false (at + 4) (length j) k
 
-  pub section_short : length j < at + 4 → SectionRead j at 0
+  pub section_short : length j < at + 4 → length j < section_end j at
   unfolding section_end
-  section_short h = record { inside = omega arith; is = λ k. absurd (omega (arith, k)) }
+  section_short h = omega arith
 
-  module _ {v : ℕ} (f : FourRead j at v) (h : at + 4 ≤ length j) where
-    pub section_cut : length j < at + 4 + v → SectionRead j at 0
-    unfolding section_end
-    section_cut l = record { inside = omega arith; is = λ k. absurd (omega (arith, k, f.is h)) }
-
-    pub section_whole : at + 4 + v ≤ length j → SectionRead j at (at + 4 + v)
-    unfolding section_end
-    section_whole l = record { inside = l; is = λ k. ap (λ (n : ℕ). at + 4 + n) (f.is h) }
+  pub section_moved : {v : ℕ} → FourAt j at v → (r : Option ℕ) → r ≡ moved (length j) (Some (at + 4)) v → SectionRead j at r
+  unfolding moved section_end
+  section_moved {v} f r e = rw e (go (leb (at + 4 + v) (length j)) refl)
+    where
+      go : (t : Bool) → leb (at + 4 + v) (length j) ≡ t → SectionRead j at (cond t (Some (at + 4 + v)) None)
+      go true k = record { inside = leb-true (at + 4 + v) (length j) k; is = ap (λ (n : ℕ). at + 4 + n) f.is }
+      go false k = omega (arith, leb-false (at + 4 + v) (length j) k, f.is)
 
 -- ---- a pair
 
@@ -146,28 +178,36 @@ receipts_is : (l : List (List ℕ)) → listed quoted false l ++ ending ≡ rece
 unfolding receipts_part
 receipts_is l = refl
 
-module _ (d : Bool) (j : List ℕ) (at : ℕ) (out : List ℕ) (p : End) {b : ℕ} (sr : SectionRead j at b) where
-  pub pair_cut : length j < b + 4 → (r : Copied) → PairPut d j at out out p r
-  pair_cut h r = record {
-    long = refl;
-    is = λ x rest f q. let m = pair_room j at x rest f q in absurd (omega (arith, m, h, sr.is (omega (arith, m))));
-  }
+module _ (d : Bool) (j : List ℕ) (at : ℕ) where
+  pub pair_cut : (o : Out) → length j < section_end j at → PairPut d j at o o None
+  pair_cut o h = record { same = refl; long = refl; is = λ x rest f q. let m = pair_room j at x rest f q in absurd (omega (arith, m, h)) }
 
-  pub pair_put : {v : ℕ} → FourRead j b v → {out₁ out₂ : List ℕ} {r : Copied} {e : End} → StringsPut d false j (b + 4) v out out₁ p r → Puts d out₁ out₂ r.end e ending
-      → PairPut d j at out out₂ p (record { end = e; at = r.at })
-  pair_put {v} four {out₁} {out₂} {r} {e} y z = record {
-    long = z.long ∙ y.long;
-    is = λ x rest f q.
-        let m = pair_room j at x rest f q in
-        let i : b ≡ section_end j at = sr.is (omega (arith, m)) in
-        let c : v ≡ length x.texts = four.is (omega (arith, m, i)) ∙ ap (λ (k : ℕ). count_at j k 4) i ∙ pair_many j at x rest f q in
-        let w = y.is x.texts rest f.short c (ap (λ (k : ℕ). drop (k + 4) j) i ∙ pair_texts_lem j at x rest f q) in
-        (puts_is (receipts_is x.texts) (puts_then (puts_is (ap (listed quoted false) (spellings_plain x.texts)) w.0) z), w.1);
-  }
+  module _ {b : ℕ} (sr : SectionAt j at b) where
+    pub pair_short : (o : Out) → length j < b + 4 → PairPut d j at o o None
+    pair_short o h = record { same = refl; long = refl; is = λ x rest f q. let m = pair_room j at x rest f q in absurd (omega (arith, m, h, sr.is)) }
+
+    module _ {v : ℕ} (four : FourAt j b v) {o o₁ : Out} {r : Option ℕ} (y : StringsPut d (λ (w : List ℕ). w) j (b + 4) v o o₁ r) where
+      pair_there : (x : TextPair) (rest : List ℕ) → GoodPair x → drop at j ≡ pair_spelled x ++ rest
+          → Puts d o o₁ (listed quoted false (map (λ (w : List ℕ). w) x.texts)) × MatchOption r ⊥ (λ e. drop e j ≡ rest)
+      pair_there x rest f q =
+          let c : v ≡ length x.texts = four.is ∙ ap (λ (k : ℕ). count_at j k 4) sr.is ∙ pair_many j at x rest f q in
+          y.is x.texts rest f.short c (ap (λ (k : ℕ). drop (k + 4) j) sr.is ∙ pair_texts_lem j at x rest f q)
+
+    pub pair_missing : {v : ℕ} → FourAt j b v → {o o₁ : Out} → StringsPut d (λ (w : List ℕ). w) j (b + 4) v o o₁ None → PairPut d j at o o₁ None
+    pair_missing four y = record { same = y.same; long = y.long; is = λ x rest f q. absurd (pair_there four y x rest f q).1 }
+
+    pub pair_put : {v : ℕ} → FourAt j b v → {o o₁ o₂ : Out} {e : ℕ} → StringsPut d (λ (w : List ℕ). w) j (b + 4) v o o₁ (Some e) → Puts d o₁ o₂ ending → PairPut d j at o o₂ (Some e)
+    pair_put four y z = record {
+      same = z.same ∙ y.same;
+      long = z.long ∙ y.long;
+      is = λ x rest f q.
+          let w = pair_there four y x rest f q in
+          (puts_is (receipts_is x.texts) (puts_then (puts_is (ap (listed quoted false) (all_same x.texts)) w.0) z), w.1);
+    }
 
 -- ---- elements: `i` of `k` are written
 
-pub record Going (d : Bool) (k i : ℕ) (out₀ out : List ℕ) (p end : End) (tail others : List ℕ) (ps : List TextPair) (gs : List Group) : Type 0 where
+pub record Going (d : Bool) (k i : ℕ) (o₀ o : Out) (tail others : List ℕ) (ps : List TextPair) (gs : List Group) : Type 0 where
   pub pairs : List TextPair
   pub groups : List Group
   pub done : List ℕ
@@ -177,19 +217,20 @@ pub record Going (d : Bool) (k i : ℕ) (out₀ out : List ℕ) (p end : End) (t
   pub good : every group_good groups ≡ true
   pub here : tail ≡ pairs_spelled pairs
   pub there : others ≡ groups_text groups
-  pub put : Puts d out₀ out p end done
+  pub put : Puts d o₀ o done
   pub whole : done ++ listed element_text (ltb 0 i) (elements_for pairs groups) ≡ listed element_text false (elements_for ps gs)
 
-pub record Elements (d : Bool) (j : List ℕ) (at : ℕ) (s : List ℕ) (k : ℕ) (out₀ : List ℕ) (p : End) (out : List ℕ) (end : End) (a g i : ℕ) : Type 0 where
+pub record Elements (d : Bool) (j : List ℕ) (at : ℕ) (s : List ℕ) (k : ℕ) (o₀ o : Out) (a g i : ℕ) : Type 0 where
   pub few : i ≤ k
-  pub long : length out ≡ length out₀
+  pub same : o.lent ≡ o₀.lent
+  pub long : length o.bytes ≡ length o₀.bytes
   pub is : (ps : List TextPair) (gs : List Group) → GoodPairs ps → every group_good gs ≡ true → length ps ≡ k → length gs ≡ k
-      → drop at j ≡ pairs_spelled ps → s ≡ groups_text gs → Going d k i out₀ out p end (drop a j) (drop g s) ps gs
+      → drop at j ≡ pairs_spelled ps → s ≡ groups_text gs → Going d k i o₀ o (drop a j) (drop g s) ps gs
 
-pub elements_start : (d : Bool) (j : List ℕ) (at : ℕ) (s : List ℕ) (k : ℕ) (out : List ℕ) (p : End) {end : End} → end ≡ moved (length out) p 0
-    → Elements d j at s k out end out end at 0 0
-elements_start d j at s k out p {end} e = record {
+pub elements_start : (d : Bool) (j : List ℕ) (at : ℕ) (s : List ℕ) (k : ℕ) (o : Out) → Elements d j at s k o o at 0 0
+elements_start d j at s k o = record {
   few = omega arith;
+  same = refl;
   long = refl;
   is = λ ps gs f h l m q r. record {
     pairs = ps;
@@ -201,7 +242,7 @@ elements_start d j at s k out p {end} e = record {
     good = h;
     here = q;
     there = r;
-    put = subst (λ (x : End). Puts d out out x x []) (sym e) (puts_still (puts_nothing d out p));
+    put = puts_nothing d o;
     whole = refl;
   };
 }
@@ -219,54 +260,105 @@ elements_nil : (gs : List Group) → elements_for [] gs ≡ []
 unfolding elements_for
 elements_nil gs = refl
 
-module _ {d : Bool} {j : List ℕ} {at : ℕ} {s : List ℕ} {k : ℕ} {out₀ : List ℕ} {p : End} {out : List ℕ} {end : End} {a g i : ℕ} (t : Elements d j at s k out₀ p out end a g i) where
-  pub elements_more : i < k → {out₁ out₂ : List ℕ} {x y : Copied} → GroupPut d (ltb 0 i) s g out out₁ end x → PairPut d j a out₁ out₂ x.end y
-      → Elements d j at s k out₀ p out₂ y.end y.at x.at (i + 1)
-  elements_more m {out₁} {out₂} {x} {y} v w = record {
-    few = omega arith;
-    long = w.long ∙ v.long ∙ t.long;
-    is = λ ps gs f h l n q r.
-        let u = t.is ps gs f h l n q r in
-        go ps gs u.pairs u.groups u.done u.many u.manys u.fit u.good u.here u.there u.put u.whole;
-  }
-    where
-      go : (ps : List TextPair) (gs : List Group) (qs : List TextPair) (hs : List Group) (done : List ℕ) → i + length qs ≡ k → i + length hs ≡ k → GoodPairs qs → every group_good hs ≡ true
-          → drop a j ≡ pairs_spelled qs → drop g s ≡ groups_text hs → Puts d out₀ out p end done
-          → done ++ listed element_text (ltb 0 i) (elements_for qs hs) ≡ listed element_text false (elements_for ps gs) → Going d k (i + 1) out₀ out₂ p y.end (drop y.at j) (drop x.at s) ps gs
-      go ps gs [] hs done l n f h q r z all = absurd (omega (arith, l))
-      go ps gs (b ∷ qs) [] done l n f h q r z all = absurd (omega (arith, n))
-      go ps gs (b ∷ qs) (c ∷ hs) done l n (also f fs) h q r z all =
-          let e₁ = v.is c (groups_text hs) (every_head group_good c hs h) (r ∙ groups_cons c hs) in
-          let e₂ = w.is b (pairs_spelled qs) f (q ∙ pairs_cons b qs) in
-          record {
-            pairs = qs;
-            groups = hs;
-            done = done ++ (comma (ltb 0 i) ++ element_text (element_for b c));
-            many = omega (arith, l);
-            manys = omega (arith, n);
-            fit = fs;
-            good = every_tail group_good c hs h;
-            here = e₂.1;
-            there = e₁.1;
-            put = puts_then z (puts_is (element_is (ltb 0 i) b c) (puts_then e₁.0 e₂.0));
-            whole = whole_more element_text i done (element_for b c) (elements_for qs hs) (ap (λ (es : List Element). done ++ listed element_text (ltb 0 i) es) (sym (elements_cons b qs c hs)) ∙ all);
-          }
+module _ {d : Bool} {j : List ℕ} {at : ℕ} {s : List ℕ} {k : ℕ} {o₀ o : Out} {a g i : ℕ} (t : Elements d j at s k o₀ o a g i) where
+  -- what is next
+  record Next (ps : List TextPair) (gs : List Group) (u : Going d k i o₀ o (drop a j) (drop g s) ps gs) : Type 0 where
+    pair : TextPair
+    pairs : List TextPair
+    group : Group
+    groups : List Group
+    many : suc i + length pairs ≡ k
+    manys : suc i + length groups ≡ k
+    fit : GoodPair pair
+    fits : GoodPairs pairs
+    good : group_good group ≡ true
+    goods : every group_good groups ≡ true
+    here : drop a j ≡ pair_spelled pair ++ pairs_spelled pairs
+    there : drop g s ≡ group_text group ++ groups_text groups
+    whole : u.done ++ listed element_text (ltb 0 i) (element_for pair group ∷ elements_for pairs groups) ≡ listed element_text false (elements_for ps gs)
 
-  pub elements_end : k ≤ i → {p₀ : End} → p ≡ moved (length out₀) p₀ 0 → ElementsPut d j at s k out₀ out p₀ end
-  elements_end m {p₀} e = record {
+  next : i < k → (ps : List TextPair) (gs : List Group) (u : Going d k i o₀ o (drop a j) (drop g s) ps gs) → Next ps gs u
+  next m ps gs u = go u.pairs u.groups u.many u.manys u.fit u.good u.here u.there u.whole
+    where
+      go : (qs : List TextPair) (hs : List Group) → i + length qs ≡ k → i + length hs ≡ k → GoodPairs qs → every group_good hs ≡ true
+          → drop a j ≡ pairs_spelled qs → drop g s ≡ groups_text hs
+          → u.done ++ listed element_text (ltb 0 i) (elements_for qs hs) ≡ listed element_text false (elements_for ps gs) → Next ps gs u
+      go [] hs l n f h q r all = absurd (omega (arith, l))
+      go (b ∷ qs) [] l n f h q r all = absurd (omega (arith, n))
+      go (b ∷ qs) (c ∷ hs) l n (also f fs) h q r all = record {
+        pair = b;
+        pairs = qs;
+        group = c;
+        groups = hs;
+        many = omega (arith, l);
+        manys = omega (arith, n);
+        fit = f;
+        fits = fs;
+        good = every_head group_good c hs h;
+        goods = every_tail group_good c hs h;
+        here = q ∙ pairs_cons b qs;
+        there = r ∙ groups_cons c hs;
+        whole = ap (λ (es : List Element). u.done ++ listed element_text (ltb 0 i) es) (sym (elements_cons b qs c hs)) ∙ all;
+      }
+
+  module _ (m : i < k) where
+    -- a group is missing
+    pub elements_ungrouped : {o₁ : Out} → GroupPut d (ltb 0 i) s g o o₁ None → ElementsPut d j at s k o₀ o₁ None
+    elements_ungrouped v = record {
+      same = v.same ∙ t.same;
+      long = v.long ∙ t.long;
+      is = λ ps gs f h l n q r. let x = next m ps gs (t.is ps gs f h l n q r) in absurd (v.is x.group (groups_text x.groups) x.good x.there).1;
+    }
+
+    module _ {g' : ℕ} {o₁ : Out} (v : GroupPut d (ltb 0 i) s g o o₁ (Some g')) where
+      -- a pair is missing
+      pub elements_unpaired : {o₂ : Out} → PairPut d j a o₁ o₂ None → ElementsPut d j at s k o₀ o₂ None
+      elements_unpaired w = record {
+        same = w.same ∙ v.same ∙ t.same;
+        long = w.long ∙ v.long ∙ t.long;
+        is = λ ps gs f h l n q r. let x = next m ps gs (t.is ps gs f h l n q r) in absurd (w.is x.pair (pairs_spelled x.pairs) x.fit x.here).1;
+      }
+
+      pub elements_more : {a' : ℕ} {o₂ : Out} → PairPut d j a o₁ o₂ (Some a') → Elements d j at s k o₀ o₂ a' g' (i + 1)
+      elements_more {a'} {o₂} w = record {
+        few = omega arith;
+        same = w.same ∙ v.same ∙ t.same;
+        long = w.long ∙ v.long ∙ t.long;
+        is = λ ps gs f h l n q r.
+            let u = t.is ps gs f h l n q r in
+            let x = next m ps gs u in
+            let e₁ = v.is x.group (groups_text x.groups) x.good x.there in
+            let e₂ = w.is x.pair (pairs_spelled x.pairs) x.fit x.here in
+            record {
+              pairs = x.pairs;
+              groups = x.groups;
+              done = u.done ++ (comma (ltb 0 i) ++ element_text (element_for x.pair x.group));
+              many = omega (arith, x.many);
+              manys = omega (arith, x.manys);
+              fit = x.fits;
+              good = x.goods;
+              here = e₂.1;
+              there = e₁.1;
+              put = puts_then u.put (puts_is (element_is (ltb 0 i) x.pair x.group) (puts_then e₁.0 e₂.0));
+              whole = whole_more element_text i u.done (element_for x.pair x.group) (elements_for x.pairs x.groups) x.whole;
+            };
+      }
+
+  pub elements_end : k ≤ i → (u : Unit {0}) → ElementsPut d j at s k o₀ o (Some u)
+  elements_end m u = record {
+    same = t.same;
     long = t.long;
     is = λ ps gs f h l n q r.
         let u = t.is ps gs f h l n q r in
-        go ps gs u.pairs u.groups u.done (omega (arith, u.many, t.few)) u.put u.whole;
+        (go ps gs u.pairs u.groups u.done (omega (arith, u.many, t.few)) u.put u.whole, refl);
   }
     where
-      go : (ps : List TextPair) (gs : List Group) (qs : List TextPair) (hs : List Group) (done : List ℕ) → length qs ≡ 0 → Puts d out₀ out p end done
-          → done ++ listed element_text (ltb 0 i) (elements_for qs hs) ≡ listed element_text false (elements_for ps gs) → Puts d out₀ out p₀ end (listed element_text false (elements_for ps gs))
+      go : (ps : List TextPair) (gs : List Group) (qs : List TextPair) (hs : List Group) (done : List ℕ) → length qs ≡ 0 → Puts d o₀ o done
+          → done ++ listed element_text (ltb 0 i) (elements_for qs hs) ≡ listed element_text false (elements_for ps gs) → Puts d o₀ o (listed element_text false (elements_for ps gs))
       go ps gs (b ∷ qs) hs done z w all = absurd (omega arith)
       go ps gs [] hs done z w all =
-          puts_then (subst (λ (x : End). Puts d out₀ out₀ p₀ x []) (sym e) (puts_nothing d out₀ p₀))
-          (puts_is (sym (append-nil done) ∙ ap (λ (l : List ℕ). done ++ l) (sym (listed_nil element_text (ltb 0 i)))
-          ∙ ap (λ (es : List Element). done ++ listed element_text (ltb 0 i) es) (sym (elements_nil hs)) ∙ all) w)
+          puts_is (sym (append-nil done) ∙ ap (λ (l : List ℕ). done ++ l) (sym (listed_nil element_text (ltb 0 i)))
+          ∙ ap (λ (es : List Element). done ++ listed element_text (ltb 0 i) es) (sym (elements_nil hs)) ∙ all) w
 
 -- ---- the whole text
 
@@ -274,11 +366,26 @@ export_is : (l : List ℕ) (es : List Element) → l ≡ listed element_text fal
 unfolding export_text
 export_is l es e = ap (λ (x : List ℕ). opening ++ (x ++ ending)) e
 
-pub export_put : (d : Bool) (j s : List ℕ) (k : ℕ) (out : List ℕ) {at : ℕ} → SectionRead j 7 at → {out₁ out₂ out₃ : List ℕ} {a b e : End} → Puts d out out₁ start a opening
-    → ElementsPut d j at s k out₁ out₂ a b → Puts d out₂ out₃ b e ending → ExportPut d j s k out out₃ e
-export_put d j s k out {at} r x y z = record {
-  long = z.long ∙ y.long ∙ x.long;
-  is = λ ps gs f h l m room q g.
-      let w = y.is ps gs f h l m (ap (λ (n : ℕ). drop n j) (r.is room) ∙ q) g in
-      puts_is (export_is (listed element_text false (elements_for ps gs)) (elements_for ps gs) refl) (puts_then x (puts_then w z));
-}
+module _ (d : Bool) (j s : List ℕ) (k : ℕ) where
+  pub export_cut : (o : Out) → length j < section_end j 7 → ExportPut d j s k o o
+  export_cut o h = record { same = refl; long = refl; is = λ ps gs f e l m room q g. absurd (omega (arith, h, room)) }
+
+  module _ {at : ℕ} (r : SectionAt j 7 at) {o o₁ : Out} (x : Puts d o o₁ opening) where
+    export_elements : {o₂ : Out} {t : Option (Unit {0})} → ElementsPut d j at s k o₁ o₂ t → (ps : List TextPair) (gs : List Group) → GoodPairs ps → every group_good gs ≡ true → length ps ≡ k
+        → length gs ≡ k → drop (section_end j 7) j ≡ pairs_spelled ps → s ≡ groups_text gs → Puts d o₁ o₂ (listed element_text false (elements_for ps gs)) × IsSome t
+    export_elements y ps gs f h l m q g = y.is ps gs f h l m (ap (λ (n : ℕ). drop n j) r.is ∙ q) g
+
+    pub export_missing : {o₂ : Out} → ElementsPut d j at s k o₁ o₂ None → ExportPut d j s k o o₂
+    export_missing y = record {
+      same = y.same ∙ x.same;
+      long = y.long ∙ x.long;
+      is = λ ps gs f h l m room q g. let e = (export_elements y ps gs f h l m q g).1 in true-is-not-false e;
+    }
+
+    pub export_put : {o₂ o₃ : Out} {u : Unit {0}} → ElementsPut d j at s k o₁ o₂ (Some u) → Puts d o₂ o₃ ending → ExportPut d j s k o o₃
+    export_put y z = record {
+      same = z.same ∙ y.same ∙ x.same;
+      long = z.long ∙ y.long ∙ x.long;
+      is = λ ps gs f h l m room q g.
+          puts_is (export_is (listed element_text false (elements_for ps gs)) (elements_for ps gs) refl) (puts_then x (puts_then (export_elements y ps gs f h l m q g).0 z));
+    }

@@ -1,22 +1,14 @@
 -- The answers of both calls are those of the questions in their order.
-use Prim.Native.Nat.{ℕ, zero, suc, ◌+◌, ◌≤◌}
-use mathlib.Core.Path.{◌≡◌, refl, sym, ap, ◌∙◌, subst}
-use mathlib.Core.Bool.{Bool, true, false, cond, ◌&&◌}
-use mathlib.Core.List.{List, [], ◌∷◌, ◌++◌, map}
-use mathlib.Core.Logic.{◌↔◌, ◌⊎◌, inl, inr}
+use Rattle.std.proofs.Common.{ℕ, zero, suc, ◌+◌, ◌≤◌, ◌≡◌, refl, sym, ap, ◌∙◌, subst, Bool, true, false, cond, ◌&&◌, List, [], ◌∷◌, ◌++◌, map, ◌↔◌, ◌⊎◌, inl, inr, arith, le-leb, leb-true, leb, length}
 use mathlib.Core.Option
 use mathlib.Core.Option.{Option, none, some}
-use native.Mathlib.Omega.{arith}
-use borrow.Author.Tests.{le-leb, leb-true}
-use lib.Dec.{leb}
-use lib.ListN.{length}
 use Rattle.primitives.specs.Bytes.{AllBytes}
 use Rattle.primitives.specs.Place.{overwrite, room}
 use Rattle.primitives.specs.Base64.{accepted, bytes, unpadded, decoding}
 use Rattle.primitives.specs.Answers.{written, answer_with}
 use Rattle.primitives.specs.Questions.{ask, ifZero, Row, asked_all, question, AllYes, FirstNoIs, GivesFirstNo}
 use Rattle.primitives.specs.declared.base64.Alphabet.TheVariants.{Standard}
-use Rattle.primitives.specs.declared.answer.Answer.{Answer}
+use Rattle.primitives.specs.Answers.{Answer}
 use Rattle.primitives.proofs.Rows.{both, true-is-not-false, ifZero-yes, ifZero-no}
 use Rattle.primitives.proofs.FirstNo.{gives_none, gives_ask, gives_same}
 use Rattle.primitives.proofs.Laws.{decoding_is_exact}
@@ -32,9 +24,9 @@ use Rattle.exports.specs.Naming.{named}
 use Rattle.exports.specs.Reading.{canonical, element_good, has_receipt, first_of, settings_of, names_register, owner_of, pair_of, journal_of_elements, survey_number, elements_number, not_read, restored_from, restored_by, restored, journal_by, restored_buffer}
 use Rattle.exports.specs.Writing.{elements_for, export_text, export_of, exported, export_buffer}
 use Rattle.exports.specs.InOrder.{AtEach, InBase64, CanonicalIsEncoding, UpTo65535, GoodElement, GoodText, HasReceipt, FirstNames, NamesSome, NamedBy, nothing, also, pairs_by, SpellJournal, questions_before, questions_of_reading, TakenAs, ReadingAnswers, GroupFits, GroupsFor, questions_of_writing, WritingAnswers}
-use Rattle.exports.specs.declared.naming.Named.{Named}
-use Rattle.exports.specs.declared.writing.Exported.{Exported}
-use Rattle.exports.specs.declared.reading.Restored.{Restored}
+use Rattle.exports.specs.Naming.{Named}
+use Rattle.exports.specs.Writing.{Exported}
+use Rattle.exports.specs.Reading.{Restored}
 use Rattle.exports.proofs.Unique.{exact, one_reading}
 use Rattle.exports.proofs.Sized.{every_nil, every_one, every_head, every_tail}
 use Rattle.exports.proofs.PlainLetters.{canonical_encoding}

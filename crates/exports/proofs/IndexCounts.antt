@@ -1,14 +1,6 @@
 -- The index of a refused reading: the receipts of all elements before the refused place.
-use Prim.Native.Nat.{ℕ, zero, suc, ◌+◌, ◌≤◌, ◌<◌}
-use mathlib.Core.Path.{◌≡◌, refl, sym, ap, ◌∙◌, subst}
-use mathlib.Core.Bool.{Bool, true, false, cond, not, ◌||◌}
-use mathlib.Core.List.{List, [], ◌∷◌, ◌++◌, map, append_assoc}
-use mathlib.Core.Logic.{⊎_elim}
+use Rattle.std.proofs.Common.{ℕ, zero, suc, ◌+◌, ◌≤◌, ◌<◌, ◌≡◌, refl, sym, ap, ◌∙◌, subst, Bool, true, false, cond, not, ◌||◌, List, [], ◌∷◌, ◌++◌, map, append_assoc, ⊎_elim, arith, eqb-true, eqb, length, length-append}
 use mathlib.Core.Option.{Option, none, some}
-use native.Mathlib.Omega.{arith}
-use borrow.Author.Tests.{eqb-true}
-use lib.Dec.{eqb}
-use lib.ListN.{length, length-append}
 use Rattle.primitives.specs.Number.{bytes_of}
 use Rattle.primitives.specs.Counter.{width_good}
 use Rattle.primitives.specs.Aes.{key_schedule}
@@ -33,7 +25,7 @@ use Rattle.exports.specs.Reading.{settings_of, owner_of, pair_of, journal_of_ele
 use Rattle.exports.specs.TakenOver.{GoodParts, parts_taken}
 use Rattle.exports.specs.Promises.{among}
 use Rattle.exports.specs.Indices.{receipt_count, journal_up_to, ReceiptRefused, SerialRefused, of_receipt, of_serial, of_neither, IndexCountsAllReceipts}
-use Rattle.exports.specs.declared.reading.Restored.{Restored}
+use Rattle.exports.specs.Reading.{Restored}
 use Rattle.exports.proofs.Sized.{sized_append}
 use Rattle.exports.proofs.PairsBack.{pairs_nil, pairs_cons}
 use Rattle.exports.proofs.TakenAsSpelled.{read_is_taken_over}

@@ -1,11 +1,6 @@
 -- Which bytes are blanks, marks and letters.
-use Prim.Native.Nat.{ℕ, ◌≤◌}
-use mathlib.Core.Path.{◌≡◌, refl, subst}
-use mathlib.Core.Bool.{Bool, true, false, not, ◌&&◌, ◌||◌}
-use mathlib.Core.List.{List, [], ◌∷◌, ◌++◌}
-use mathlib.Core.Logic.{◌↔◌, ◌⊎◌, inl, inr}
-use borrow.Author.Tests.{le-leb, leb-true, eq-eqb, ne_eqb, eqb-true, eqb-false, not-true}
-use lib.Dec.{eqb, leb}
+use Rattle.std.proofs.lemmas.Bool.{eqb-false, not-true}
+use Rattle.std.proofs.Common.{ℕ, ◌≤◌, ◌≡◌, refl, subst, Bool, true, false, not, ◌&&◌, ◌||◌, List, [], ◌∷◌, ◌++◌, ◌↔◌, ◌⊎◌, inl, inr, le-leb, leb-true, eq-eqb, ne_eqb, eqb-true, eqb, leb}
 use Rattle.primitives.proofs.Rows.{both, true-is-not-false}
 use Rattle.exports.specs.Text.{Token, blank, is_mark, plain, every, Tokens, end}
 use Rattle.exports.specs.Shape.{Element, document, Shape}

@@ -1,11 +1,6 @@
 -- The lexer finds exactly the tokens that the grammar gives a text.
-use mathlib.Core.Path.{◌≡◌, refl, sym, ap, ◌∙◌}
-use mathlib.Core.Bool.{Bool, true, false, cond, not, ◌||◌}
-use mathlib.Core.List.{List, [], ◌∷◌}
-use Prim.Native.Nat.{ℕ, zero, suc, ◌-◌}
-use native.Mathlib.Omega.{arith}
-use borrow.Author.Tests.{eqb-true}
-use lib.Dec.{eqb, eqb-suc-zero}
+use Rattle.std.proofs.Common.{◌≡◌, refl, sym, ap, ◌∙◌, Bool, true, false, cond, not, ◌||◌, List, [], ◌∷◌, ℕ, zero, suc, ◌-◌, arith, eqb-true, eqb}
+use lib.Dec.{eqb-suc-zero}
 use Rattle.exports.specs.Text.{Token, every, mark, word, blank, is_mark, plain, Inside, close, letter, escape, Tokens, end, space, sign, quoted}
 use Rattle.exports.specs.Lexer.{wrong, letter_left, after_byte, content, lex, lex_in}
 use Rattle.exports.specs.Exact.{right_kind, TokensExactly}

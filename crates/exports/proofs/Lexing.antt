@@ -1,58 +1,52 @@
 -- The loops of the lexer, step by step.
-use mathlib.Core.Path.{◌≡◌, refl, sym, ap, ◌∙◌}
-use mathlib.Core.Bool.{Bool, true, false, cond, ◌&&◌, not}
-use mathlib.Core.List.{List, [], ◌∷◌, ◌++◌}
-use Prim.Native.Nat.{ℕ, zero, suc, ◌+◌, ◌-◌, ◌<◌, ◌≤◌}
-use native.Mathlib.Omega.{arith}
-use native.Mathlib.Numerals.{add-one}
-use borrow.Author.Tests.{eq-eqb, ne_eqb, ltb-true, ltb-false, eqb-true, eqb-false}
-use lib.Dec.{eqb, ltb, leb, eqb-suc-zero}
-use lib.ListN.{length, take, drop, get_or, length-drop, drop_of_length-le}
-use lib.Seq.{drop-drop, drop-cons, drop-length, get_or-drop}
+use Rattle.std.proofs.Common.{ℕ, zero, suc, ◌+◌, ◌-◌, ◌<◌, ◌≤◌, ◌≡◌, refl, sym, ap, ◌∙◌, Bool, true, false, cond, ◌&&◌, not, List, [], ◌∷◌, ◌++◌, eqb, leb, ltb, length, take, drop, get_or, arith, add-one, length-drop, drop-cons, eq-eqb, ne_eqb, ltb-true, ltb-false, drop_of_length-le}
+use Rattle.std.proofs.lemmas.Bool.{eqb-true}
+use Rattle.std.specs.List.{prefix_len, starts_with}
+use Rattle.std.proofs.lemmas.List.{drop-drop, get_or-drop}
+use Rattle.std.proofs.lemmas.List.Sums.{prefix_len-le-length, prefix_len_stops}
+use Rattle.std.proofs.lemmas.Slice.Eq.{starts_is}
+use Rattle.std.proofs.lemmas.Bool.Decides.{Decides-eqb}
+use lib.Dec.{eqb-suc-zero}
+use lib.Seq.{drop-length, take-length}
 use Rattle.exports.specs.Text.{Token, mark, word, blank, is_mark, plain}
 use Rattle.exports.specs.Lexer.{wrong, letter_left, after_byte, before, content, lex, lex_in}
-use Rattle.exports.specs.Places.{from, Skipped, Stopped, EscapeAt, not_closed, Closed, at_end, Next, Unescaped, nothing, letter, escape, Lying, LettersAt, LetterRead}
-use Rattle.exports.specs.declared.lexer.Found.{Found}
-use Rattle.exports.specs.declared.lexer.Close.{Close}
+use Rattle.exports.specs.Places.{from, Skipped, Stopped, EscapeAt, Ends, Quotes, Marked, Unescaped, nothing, letter, escape, Lying, LettersAt, LetterAt}
+use Rattle.exports.specs.declared.lexer.Part.{Part}
 
 pub no_truth {ℓ} : {X : Type ℓ} → false ≡ true → X
 no_truth e = let z : ◌≡◌ {A = ℕ} 0 1 = cc in absurd (omega arith)
 
 -- ---- blanks
 
-pub record Skipping (text : List ℕ) (at i : ℕ) : Type 0 where
-  pub inside : i ≤ length text
-  pub onward : at ≤ i
-  pub same : from text at ≡ from text i
+-- what is lent from a place on
+pub rest_is : (text : List ℕ) (at : ℕ) → take (length text - at) (drop at text) ≡ drop at text
+rest_is text at = rw (← length-drop at text) (take-length (drop at text))
 
-pub skip_start : (text : List ℕ) (at : ℕ) → at ≤ length text → Skipping text at at
-skip_start text at h = record { inside = h; onward = omega arith; same = refl }
+drop_one : (n b : ℕ) (text : List ℕ) → drop (1 + n) (b ∷ text) ≡ drop n text
+drop_one n b text = let e : 1 + n ≡ suc n = omega arith in ap (λ (k : ℕ). drop k (b ∷ text)) e
 
-module _ {text : List ℕ} {at i : ℕ} (s : Skipping text at i) where
-  pub skip_more : i < length text → blank (get_or text i 0) ≡ true → Skipping text at (i + 1)
-  unfolding from lex
-  skip_more h e =
-      let a = s.onward in
-      record { inside = omega arith; onward = omega arith; same = s.same ∙ rw (add-one, drop-cons text i 0 h, e) }
+skip_lexed : (text : List ℕ) → lex text ≡ lex (drop (prefix_len blank text) text)
+unfolding lex
+skip_lexed [] = refl
+skip_lexed (b ∷ text) = go (blank b) refl (skip_lexed text)
+  where
+    go : (t : Bool) → blank b ≡ t → lex text ≡ lex (drop (prefix_len blank text) text) → lex (b ∷ text) ≡ lex (drop (cond t (1 + prefix_len blank text) 0) (b ∷ text))
+    go true e ih = rw e (ih ∙ ap lex (sym (drop_one _ b text)))
+    go false e ih = refl
 
-  pub skip_found : blank (get_or text i 0) ≡ false → Skipped text at i
-  skip_found e = record { inside = s.inside; onward = s.onward; same = s.same; stop = λ h. e }
-
-  pub skip_end : length text ≤ i → Skipped text at i
-  skip_end h = record { inside = s.inside; onward = s.onward; same = s.same; stop = λ l. absurd (omega arith) }
+pub skipped : {text : List ℕ} {at n : ℕ} → at ≤ length text → n ≡ prefix_len blank (take (length text - at) (drop at text)) → Skipped text at (at + n)
+unfolding from
+skipped {text} {at} {n} h q =
+    let e : n ≡ prefix_len blank (drop at text) = q ∙ ap (prefix_len blank) (rest_is text at) in
+    let l = prefix_len-le-length blank (drop at text) in
+    record {
+      inside = omega (arith, l, length-drop at text);
+      onward = omega arith;
+      same = skip_lexed (drop at text) ∙ rw (← e) (ap lex (drop-drop n at text));
+      stop = λ q. rw (← get_or-drop at text n 0, e) (prefix_len_stops blank (drop at text) 0 (omega (arith, length-drop at text)));
+    }
 
 -- ---- strings
-
--- the letters so far
-pub record Lexing (text : List ℕ) (start i : ℕ) : Type 0 where
-  pub inside : i ≤ length text
-  pub onward : start ≤ i
-  pub same : (c : List ℕ) → lex_in (drop start text) 0 c ≡ lex_in (drop i text) 0 c
-  pub clear : start + before (drop start text) ≡ i + before (drop i text)
-  pub long : start + length (content (drop start text) 0) ≡ i + length (content (drop i text) 0)
-
-pub plain_start : (text : List ℕ) (start : ℕ) → start ≤ length text → Lexing text start start
-plain_start text start h = record { inside = h; onward = omega arith; same = λ c. refl; clear = refl; long = refl }
 
 -- a plain byte is neither the quote nor the backslash
 pub plain_not : (b : ℕ) → plain b ≡ true → (eqb b 34 ≡ false) × (eqb b 92 ≡ false)
@@ -78,27 +72,38 @@ plain_content : (b : ℕ) (text : List ℕ) → plain b ≡ true → content (b 
 unfolding content
 plain_content b text e = let n = plain_not b e in rw (n.0, n.1)
 
-module _ {text : List ℕ} {start i : ℕ} (s : Lexing text start i) where
-  pub plain_more : i < length text → plain (get_or text i 0) ≡ true → Lexing text start (i + 1)
-  plain_more h e =
-      let a = s.onward in
-      let d : drop i text ≡ get_or text i 0 ∷ drop (suc i) text = drop-cons text i 0 h in
-      let b : before (drop i text) ≡ suc (before (drop (suc i) text)) = ap before d ∙ plain_before (get_or text i 0) (drop (suc i) text) e in
-      let l : length (content (drop i text) 0) ≡ suc (length (content (drop (suc i) text) 0))
-      = ap (λ (x : List ℕ). length (content x 0)) d ∙ ap length (plain_content (get_or text i 0) (drop (suc i) text) e) in
-      record {
-        inside = omega arith;
-        onward = omega arith;
-        same = λ c. s.same c ∙ ap (λ (l : List ℕ). lex_in l 0 c) d ∙ plain_lexed (get_or text i 0) (drop (suc i) text) c e ∙ rw (add-one i);
-        clear = rw (add-one i) (omega (arith, s.clear, b));
-        long = rw (add-one i) (omega (arith, s.long, l));
-      }
+-- the letters that a text begins with, as far as they are plain
+record Plain (text : List ℕ) (n : ℕ) : Type 0 where
+  pub same : (c : List ℕ) → lex_in text 0 c ≡ lex_in (drop n text) 0 c
+  pub clear : before text ≡ n + before (drop n text)
+  pub long : length (content text 0) ≡ n + length (content (drop n text) 0)
 
-  pub plain_found : plain (get_or text i 0) ≡ false → Stopped text start i
-  plain_found e = record { inside = s.inside; onward = s.onward; same = s.same; clear = s.clear; long = s.long; stop = λ h. e }
+plain_front : (text : List ℕ) → Plain text (prefix_len plain text)
+plain_front [] = record { same = λ c. refl; clear = omega arith; long = omega arith }
+plain_front (b ∷ text) = go (plain b) refl (plain_front text)
+  where
+    go : (t : Bool) → plain b ≡ t → Plain text (prefix_len plain text) → Plain (b ∷ text) (cond t (1 + prefix_len plain text) 0)
+    go true e p =
+        record {
+          same = λ c. plain_lexed b text c e ∙ p.same c ∙ ap (λ (l : List ℕ). lex_in l 0 c) (sym (drop_one _ b text));
+          clear = rw (drop_one _ b text) (omega (arith, plain_before b text e, p.clear));
+          long = rw (drop_one _ b text) (omega (arith, ap length (plain_content b text e), p.long));
+        }
+    go false e p = record { same = λ c. refl; clear = omega arith; long = omega arith }
 
-  pub plain_open : length text ≤ i → Stopped text start i
-  plain_open h = record { inside = s.inside; onward = s.onward; same = s.same; clear = s.clear; long = s.long; stop = λ l. absurd (omega arith) }
+pub stopped : {text : List ℕ} {start n : ℕ} → start ≤ length text → n ≡ prefix_len plain (take (length text - start) (drop start text)) → Stopped text start (start + n)
+stopped {text} {start} {n} h q =
+    let e : n ≡ prefix_len plain (drop start text) = q ∙ ap (prefix_len plain) (rest_is text start) in
+    let p = plain_front (drop start text) in
+    let d : drop (prefix_len plain (drop start text)) (drop start text) ≡ drop (start + n) text = rw e (drop-drop _ start text) in
+    record {
+      inside = omega (arith, prefix_len-le-length plain (drop start text), length-drop start text);
+      onward = omega arith;
+      same = λ c. p.same c ∙ ap (λ (l : List ℕ). lex_in l 0 c) d;
+      clear = omega (arith, p.clear, ap before d);
+      long = omega (arith, p.long, ap (λ (l : List ℕ). length (content l 0)) d);
+      stop = λ q. rw (← get_or-drop start text n 0, e) (prefix_len_stops plain (drop start text) 0 (omega (arith, length-drop start text)));
+    }
 
 -- ---- the escape
 
@@ -111,38 +116,13 @@ six_more n = omega arith
 escape_length : {l : List ℕ} (rest : List ℕ) → l ≡ escaped rest → length l ≡ length rest + 6
 escape_length rest e = ap length e ∙ six_more (length rest)
 
-no_escape : {text : List ℕ} {at : ℕ} → ((rest : List ℕ) → drop at text ≡ escaped rest → ⊥) → EscapeAt text at false
-no_escape h = record { is = λ e. no_truth e; none = λ e. h }
-
-pub escape_short : (text : List ℕ) (at : ℕ) → at ≤ length text → length text - at < 6 → EscapeAt text at false
-escape_short text at h l = no_escape (λ rest e. omega (arith, escape_length rest e, length-drop at text))
-
--- another byte stands in the place of one of its letters
-pub escape_other : (j : ℕ) (text : List ℕ) (at b : ℕ) → ((rest : List ℕ) → get_or (escaped rest) j 0 ≡ b) → (get_or text (at + j) 0 ≡ b → ⊥) → EscapeAt text at false
-escape_other j text at b l n = no_escape (λ rest e. n (sym (get_or-drop at text j 0) ∙ ap (λ (x : List ℕ). get_or x j 0) e ∙ l rest))
-
-pub escape_first : (text : List ℕ) (at : ℕ) → (get_or text at 0 ≡ 92 → ⊥) → EscapeAt text at false
-escape_first text at n = let z : at + 0 ≡ at = omega arith in escape_other 0 text at 92 (λ r. refl) (rw z n)
-
-pub escape_last : (text : List ℕ) (at : ℕ) → at ≤ length text → 6 ≤ length text - at
-    → get_or text at 0 ≡ 92 → get_or text (at + 1) 0 ≡ 117 → get_or text (at + 2) 0 ≡ 48 → get_or text (at + 3) 0 ≡ 48 → get_or text (at + 4) 0 ≡ 51
-    → EscapeAt text at (eqb (get_or text (at + 5) 0) 100)
-escape_last text at h l e₀ e₁ e₂ e₃ e₄ = go (eqb (get_or text (at + 5) 0) 100) refl
-  where
-    one : (j : ℕ) → j < 6 → drop (at + j) text ≡ get_or text (at + j) 0 ∷ drop (at + suc j) text
-    one j q = let s : suc (at + j) ≡ at + suc j = omega arith in drop-cons text (at + j) 0 (omega arith) ∙ ap (λ (n : ℕ). get_or text (at + j) 0 ∷ drop n text) s
-
-    zeroth : drop at text ≡ get_or text at 0 ∷ drop (at + 1) text
-    zeroth = let s : suc at ≡ at + 1 = omega arith in drop-cons text at 0 (omega arith) ∙ ap (λ (n : ℕ). get_or text at 0 ∷ drop n text) s
-
-    go : (t : Bool) → eqb (get_or text (at + 5) 0) 100 ≡ t → EscapeAt text at t
-    go false e = escape_other 5 text at 100 (λ r. refl) (eqb-false _ 100 e)
-    go true e =
-        let e₅ : get_or text (at + 5) 0 ≡ 100 = eqb-true _ 100 e in
-        record {
-          is = λ q. rw (zeroth, one 1 (omega arith), one 2 (omega arith), one 3 (omega arith), one 4 (omega arith), one 5 (omega arith), e₀, e₁, e₂, e₃, e₄, e₅);
-          none = λ q. no_truth (sym q);
-        }
+pub starts_escaped : (text : List ℕ) (at : ℕ) (r : Bool) → r ≡ starts_with eqb (take (length text - at) (drop at text)) (escaped []) → EscapeAt text at r
+starts_escaped text at r e =
+    let s = starts_is Decides-eqb (drop at text) (escaped []) r (e ∙ ap (λ (l : List ℕ). starts_with eqb l (escaped [])) (rest_is text at)) in
+    record {
+      is = λ t. s.0 t ∙ ap escaped (drop-drop 6 at text);
+      none = λ f rest q. no_truth (sym f ∙ s.1 rest q);
+    }
 
 -- the last k letters of an escape
 escape_left : ℕ → List ℕ
@@ -176,10 +156,6 @@ broken (suc k) (b ∷ text) c n = go (λ h. broken k text c h) (eqb b 34) (eqb b
 
 -- ---- a string
 
-no_string : (text : List ℕ) (start : ℕ) {r : Close} → r ≡ not_closed → ((c : List ℕ) → lex_in (drop start text) 0 c ≡ wrong) → Closed text start r
-no_string text start e h =
-    rw e (record { inside = omega arith; none = λ z. h; is = λ p. absurd (omega arith); quote = λ p. absurd (omega arith); long = λ p. absurd (omega arith) })
-
 -- neither a plain byte nor the quote nor an escape
 other_lexed : (b : ℕ) (text c : List ℕ) → plain b ≡ false → (b ≡ 34 → ⊥) → ((rest : List ℕ) → b ∷ text ≡ escaped rest → ⊥) → lex_in (b ∷ text) 0 c ≡ wrong
 unfolding lex_in after_byte escape_left letter_left
@@ -210,15 +186,10 @@ pub record Ending (text : List ℕ) (start i n : ℕ) : Type 0 where
   pub long : length (content (drop start text) 0) ≡ n + length (content (drop i text) 0)
   pub stop : i < length text → plain (get_or text i 0) ≡ false
 
-pub string_start : {text : List ℕ} {start i : ℕ} → Stopped text start i → Ending text start i (i - start)
-string_start s =
-    let a = s.onward in
-    record { inside = s.inside; small = omega arith; same = s.same; clear = s.clear; long = omega (arith, s.long); stop = s.stop }
-
 module _ {text : List ℕ} {start i n : ℕ} (s : Ending text start i n) where
-  pub string_open : {r : Close} → r ≡ not_closed → length text ≤ i → Closed text start r
+  pub string_open : length text ≤ i → (c : List ℕ) → lex_in (drop start text) 0 c ≡ wrong
   unfolding lex_in
-  string_open e h = no_string text start e (λ c. s.same c ∙ rw (drop_of_length-le text h))
+  string_open h c = s.same c ∙ rw (drop_of_length-le text h)
 
   module _ (h : i < length text) where
     here : drop i text ≡ get_or text i 0 ∷ drop (suc i) text
@@ -235,40 +206,38 @@ module _ {text : List ℕ} {start i n : ℕ} (s : Ending text start i n) where
     unfolding content
     none_at_quote e = rw (here, e)
 
-    pub string_close : get_or text i 0 ≡ 34 → Closed text start (record { length = n; next = i + 1 })
+    pub string_close : get_or text i 0 ≡ 34 → Ends text start (record { start = start; length = n; next = i + 1 })
     unfolding from lex_in
     string_close e =
-        let a = s.small in
         record {
+          begins = refl;
           inside = omega arith;
-          none = λ q. absurd (omega arith);
-          is = λ p. (omega arith, λ c. lexed_here c ∙ rw (e, add-one));
-          quote = λ p. omega (arith, s.clear, before_quote e);
-          long = λ p. omega (arith, s.long, none_at_quote e);
+          is = λ c. lexed_here c ∙ rw (e, add-one);
+          quote = omega (arith, s.clear, before_quote e);
+          long = omega (arith, s.long, none_at_quote e);
         }
 
-    pub string_wrong : {r : Close} {t : Bool} → r ≡ not_closed → (get_or text i 0 ≡ 34 → ⊥) → EscapeAt text i t → t ≡ false → Closed text start r
-    string_wrong q n e z =
-        no_string text start q (λ c. lexed_here c ∙ other_lexed (get_or text i 0) (drop (suc i) text) c (s.stop h) n (λ rest q. e.none z rest (here ∙ q)))
+    pub string_wrong : {t : Bool} → (get_or text i 0 ≡ 34 → ⊥) → EscapeAt text i t → t ≡ false → (c : List ℕ) → lex_in (drop start text) 0 c ≡ wrong
+    string_wrong n e z c = lexed_here c ∙ other_lexed (get_or text i 0) (drop (suc i) text) c (s.stop h) n (λ rest q. e.none z rest (here ∙ q))
 
-    module _ {t : Bool} (e : EscapeAt text i t) (z : t ≡ true) where
-      pub escape_room : i + 6 ≤ length text
-      escape_room = omega (arith, escape_length (drop (i + 6) text) (e.is z), length-drop i text)
+  module _ {t : Bool} (e : EscapeAt text i t) (z : t ≡ true) where
+    pub escape_room : i + 6 ≤ length text
+    escape_room = omega (arith, escape_length (drop (i + 6) text) (e.is z), length-drop i text)
 
-      pub string_more : {j : ℕ} → Stopped text (i + 6) j → Ending text start j (n + 1 + (j - (i + 6)))
-      string_more {j} p =
-          let a = p.onward in
-          let b : before (drop i text) ≡ before (drop (i + 6) text) + 6 = ap before (e.is z) ∙ escape_before (drop (i + 6) text) in
-          let l : length (content (drop i text) 0) ≡ suc (length (content (drop (i + 6) text) 0))
-          = ap (λ (x : List ℕ). length (content x 0)) (e.is z) ∙ ap length (escape_content (drop (i + 6) text)) in
-          record {
-            inside = p.inside;
-            small = omega (arith, s.small);
-            same = λ c. s.same c ∙ ap (λ (l : List ℕ). lex_in l 0 c) (e.is z) ∙ escape_lexed (drop (i + 6) text) c ∙ p.same c;
-            clear = omega (arith, s.clear, b, p.clear);
-            long = omega (arith, s.long, l, p.long);
-            stop = p.stop;
-          }
+    pub string_more : {j : ℕ} → Stopped text (i + 6) j → Ending text start j (n + (1 + (j - (i + 6))))
+    string_more {j} p =
+        let a = p.onward in
+        let b : before (drop i text) ≡ before (drop (i + 6) text) + 6 = ap before (e.is z) ∙ escape_before (drop (i + 6) text) in
+        let l : length (content (drop i text) 0) ≡ suc (length (content (drop (i + 6) text) 0))
+        = ap (λ (x : List ℕ). length (content x 0)) (e.is z) ∙ ap length (escape_content (drop (i + 6) text)) in
+        record {
+          inside = p.inside;
+          small = omega (arith, s.small);
+          same = λ c. s.same c ∙ ap (λ (l : List ℕ). lex_in l 0 c) (e.is z) ∙ escape_lexed (drop (i + 6) text) c ∙ p.same c;
+          clear = omega (arith, s.clear, b, p.clear);
+          long = omega (arith, s.long, l, p.long);
+          stop = p.stop;
+        }
 
 -- ---- what a good string spells, against the bytes that stand there
 
@@ -372,9 +341,9 @@ module _ {text : List ℕ} {at : ℕ} (l : LettersAt text at) where
   byte : Step (drop (suc at) text) [] l.good.0 (get_or text at 0) 0
   byte = step (get_or text at 0) (drop (suc at) text) 0 (rw this at l.good.1)
 
-  pub letter_none : get_or text at 0 ≡ 34 → LetterRead text at (record { some = false; byte = 0; next = at })
+  pub letter_none : get_or text at 0 ≡ 34 → content (drop at text) 0 ≡ []
   unfolding content
-  letter_none e = record { ended = λ q. rw (this, e); more = λ q. no_truth q }
+  letter_none e = rw (this, e)
 
   -- the backslash: five letters more
   slashed : {b : ℕ} → Step (drop (suc at) text) [] l.good.0 b 0 → b ≡ 92 → lex_in (drop (suc at) text) 5 [] ≡ word [] ∷ l.good.0
@@ -382,54 +351,48 @@ module _ {text : List ℕ} {at : ℕ} (l : LettersAt text at) where
   slashed (slash e) q = e
   slashed (other i j p e) q = no_truth (sym j ∙ eq-eqb _ 92 q)
 
-  plainly : {b : ℕ} → Step (drop (suc at) text) [] l.good.0 b 0 → (b ≡ 34 → ⊥) → (b ≡ 92 → ⊥) → lex_in (drop (suc at) text) 0 [] ≡ word [] ∷ l.good.0
-  plainly quoting q r = absurd (q refl)
-  plainly (slash e) q r = absurd (r refl)
-  plainly (other i j p e) q r = e
+  plain_step : {b : ℕ} → Step (drop (suc at) text) [] l.good.0 b 0 → (b ≡ 34 → ⊥) → (b ≡ 92 → ⊥) → lex_in (drop (suc at) text) 0 [] ≡ word [] ∷ l.good.0
+  plain_step quoting q r = absurd (q refl)
+  plain_step (slash e) q r = absurd (r refl)
+  plain_step (other i j p e) q r = e
 
-  pub letter_escape : get_or text at 0 ≡ 92 → LetterRead text at (record { some = true; byte = 61; next = at + 6 })
+  pub letter_escape : get_or text at 0 ≡ 92 → LetterAt text at (record { byte = 61; next = at + 6 })
   unfolding content
   letter_escape e =
       let s = following_escape 5 (drop (suc at) text) (slashed byte e) in
       let d : drop 5 (drop (suc at) text) ≡ drop (at + 6) text = drop-drop 5 (suc at) text ∙ ap (λ (n : ℕ). drop n text) (six at) in
       record {
-        ended = λ q. no_truth (sym q);
-        more = λ q. (omega arith, record { good = (l.good.0, rw d at s.0) }, rw (this, e) (ap (λ (x : List ℕ). 61 ∷ x) (s.1 ∙ ap (λ (x : List ℕ). content x 0) d)));
+        onward = omega arith;
+        good = record { good = (l.good.0, rw d at s.0) };
+        is = rw (this, e) (ap (λ (x : List ℕ). 61 ∷ x) (s.1 ∙ ap (λ (x : List ℕ). content x 0) d));
       }
 
-  pub letter_plain : (get_or text at 0 ≡ 34 → ⊥) → (get_or text at 0 ≡ 92 → ⊥) → LetterRead text at (record { some = true; byte = get_or text at 0; next = at + 1 })
+  pub letter_plain : (get_or text at 0 ≡ 34 → ⊥) → (get_or text at 0 ≡ 92 → ⊥) → LetterAt text at (record { byte = get_or text at 0; next = at + 1 })
   unfolding content
   letter_plain p q =
       record {
-        ended = λ r. no_truth (sym r);
-        more = λ r. (omega arith, record { good = (l.good.0, rw (add-one at) (plainly byte p q)) }, rw (this, ne_eqb (get_or text at 0) 34 p, ne_eqb (get_or text at 0) 92 q, add-one at));
+        onward = omega arith;
+        good = record { good = (l.good.0, rw (add-one at) (plain_step byte p q)) };
+        is = rw (this, ne_eqb (get_or text at 0) 34 p, ne_eqb (get_or text at 0) 92 q, add-one at);
       }
 
   pub escape_inside : get_or text at 0 ≡ 92 → at + 6 < length text
-  escape_inside e = letters_inside text (at + 6) ((letter_escape e).more refl).1
+  escape_inside e = letters_inside text (at + 6) (letter_escape e).good
 
 -- ---- the next token
 
-from_end : (text : List ℕ) → from text (length text) ≡ []
+pub from_end : (text : List ℕ) → from text (length text) ≡ []
 unfolding from lex
 from_end text = rw (drop-length text)
 
-pub mark_above : (b : ℕ) → is_mark b ≡ true → b ≡ 0 → ⊥
+-- a mark is not the quote
+pub mark_no_quote : (b : ℕ) → is_mark b ≡ true → b ≡ 34 → ⊥
 unfolding is_mark
-mark_above b e z = no_truth (rw z at e)
+mark_no_quote b e z = no_truth (rw z at e)
 
 module _ {text : List ℕ} {at p : ℕ} (s : Skipped text at p) where
-  pub next_end : {t : Found} → t ≡ at_end 0 (length text) → p ≡ length text → Next text at t
-  next_end q e =
-      rw q (record {
-        inside = omega arith;
-        start = omega arith;
-        ended = λ z. s.same ∙ ap (from text) e ∙ from_end text;
-        is = λ z. absurd (omega arith);
-        quote = λ z. absurd (omega arith);
-        lying = λ z. absurd (omega arith);
-        long = λ z. absurd (omega arith);
-      })
+  pub next_end : p ≡ length text → from text at ≡ []
+  next_end e = s.same ∙ ap (from text) e ∙ from_end text
 
   module _ (h : (p ≡ length text) → ⊥) where
     inside : p < length text
@@ -440,59 +403,37 @@ module _ {text : List ℕ} {at p : ℕ} (s : Skipped text at p) where
     unfolding from
     head = s.same ∙ ap lex (drop-cons text p 0 inside)
 
-    next_wrong : {t : Found} → t ≡ at_end 1 (length text) → from text at ≡ wrong → Next text at t
-    next_wrong q e =
-        let a = inside in
-        let o = s.onward in
-        rw q (record {
-          inside = omega arith;
-          start = omega arith;
-          ended = λ z. absurd (omega arith);
-          is = λ z. (omega arith, e ∙ ap (λ (l : List Token). mark 1 ∷ l) (sym (from_end text)));
-          quote = λ z. absurd (omega arith);
-          lying = λ z. absurd (omega arith);
-          long = λ z. absurd (omega arith);
-        })
-
     pub quote : get_or text p 0 ≡ 34 → from text at ≡ lex_in (drop (p + 1) text) 0 (content (drop (p + 1) text) 0)
     unfolding lex blank
     quote e = head ∙ rw (e, add-one)
 
-    module _ {r : Close} (e : get_or text p 0 ≡ 34) (k : Closed text (p + 1) r) where
-      pub next_no_string : {t : Found} → t ≡ at_end 1 (length text) → r.next ≡ 0 → Next text at t
-      next_no_string q z = next_wrong q (quote e ∙ k.none z _)
+    pub next_no_string : get_or text p 0 ≡ 34 → ((c : List ℕ) → lex_in (drop (p + 1) text) 0 c ≡ wrong) → from text at ≡ wrong
+    next_no_string e k = quote e ∙ k _
 
-      pub next_string : (r.next ≡ 0 → ⊥) → Next text at (record { kind = 34; start = p + 1; length = r.length; next = r.next })
-      next_string z =
-          let pos : 0 < r.next = omega (arith, z) in
-          let a = inside in
-          let o = s.onward in
-          let i = k.is pos in
-          record {
-            inside = k.inside;
-            start = omega arith;
-            ended = λ q. absurd (omega arith);
-            is = λ q. (omega (arith, i.0), quote e ∙ i.1 _);
-            quote = λ q. k.quote pos;
-            lying = λ q. lies (drop (p + 1) text) (i.1 []);
-            long = λ q. k.long pos;
-          }
+    pub next_string : {r : Part} → get_or text p 0 ≡ 34 → Ends text (p + 1) r → Quotes text at r
+    next_string {r} e k =
+        let o = s.onward in
+        let q = k.begins in
+        record {
+          inside = k.inside;
+          onward = omega (arith, k.quote);
+          is = rw q (quote e ∙ k.is _);
+          quote = rw q k.quote;
+          lying = rw q (lies (drop (p + 1) text) (k.is []));
+          long = rw q k.long;
+        }
 
-    pub next_mark : (b : ℕ) → get_or text p 0 ≡ b → (b ≡ 34 → ⊥) → is_mark b ≡ true → Next text at (record { kind = b; start = p; length = 0; next = p + 1 })
+    pub next_mark : (b : ℕ) → get_or text p 0 ≡ b → (b ≡ 34 → ⊥) → is_mark b ≡ true → Marked b text at (p + 1)
     unfolding from lex
     next_mark b e n m =
         let a = inside in
         let o = s.onward in
         record {
           inside = omega arith;
-          start = omega arith;
-          ended = λ q. absurd (mark_above b m q);
-          is = λ q. (omega arith, head ∙ rw (s.stop a, e, ne_eqb b 34 n, m, add-one));
-          quote = λ q. absurd (n q);
-          lying = λ q. absurd (n q);
-          long = λ q. absurd (n q);
+          onward = omega arith;
+          is = head ∙ rw (s.stop a, e, ne_eqb b 34 n, m, add-one);
         }
 
-    pub next_other : {t : Found} → t ≡ at_end 1 (length text) → (b : ℕ) → get_or text p 0 ≡ b → (b ≡ 34 → ⊥) → is_mark b ≡ false → Next text at t
+    pub next_other : (b : ℕ) → get_or text p 0 ≡ b → (b ≡ 34 → ⊥) → is_mark b ≡ false → from text at ≡ wrong
     unfolding lex
-    next_other q b e n m = next_wrong q (head ∙ rw (s.stop inside, e, ne_eqb b 34 n, m))
+    next_other b e n m = head ∙ rw (s.stop inside, e, ne_eqb b 34 n, m)

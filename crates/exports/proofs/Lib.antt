@@ -50,3 +50,4 @@ pub mod Escaping
 pub mod Plainly
 pub mod InOrder
 pub mod Roomy
+pub mod OneToOne

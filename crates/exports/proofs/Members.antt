@@ -1,39 +1,16 @@
 -- A member: its name, and the value that belongs to the name.
+use Rattle.std.proofs.Common.{ℕ, ◌<◌, ◌≤◌, ◌≡◌, refl, sym, ap, ap₂, ◌∙◌, cond, eqb, List, ◌∷◌, ◌++◌, length, arith}
+use Rattle.std.specs.Prelude.{Some, None}
 use Rattle.primitives.specs.Bytes.{same}
-use Rattle.primitives.proofs.ByteLists.{same_true}
-use mathlib.Core.Path.{◌≡◌, refl, sym, ap, ap₂, ◌∙◌}
-use mathlib.Core.Bool.{Bool, true, false, cond}
-use mathlib.Core.List.{List, ◌∷◌, ◌++◌}
-use Prim.Native.Nat.{ℕ, zero, suc, ◌<◌, ◌≤◌}
-use native.Mathlib.Omega.{arith}
 use Rattle.exports.specs.Text.{Token, mark, word}
-use Rattle.exports.specs.Shape.{certificate_name, issuers_name, receipts_name, group_name, string, strings, Member, certificate, issuers, receipts, name_of, value_of, member}
-use Rattle.exports.specs.Places.{from, Reads, one, name_number, Keyed, ValueRead, number_of, led, MemberKeyed, MemberRead, no_value}
+use Rattle.exports.specs.Shape.{certificate_name, issuers_name, receipts_name, group_name, Member, certificate, issuers, receipts, name_of, value_of, member}
+use Rattle.exports.specs.Places.{from, Marked, Absent, name_number, number_of, title, spelling, KeyedBy, ValueRead, led, MemberKeyedBy, MemberAt}
 use Rattle.exports.specs.declared.walk.Key.{Key}
-use Rattle.exports.specs.declared.shape.Value.{Value}
+use Rattle.exports.specs.declared.walk.Name.{Name}
+use Rattle.exports.specs.declared.walk.Name.TheVariants.{Certificate, Issuers, Receipts, Group}
+use Rattle.exports.proofs.Tokening.{tail_is, word_is}
 
--- ---- names and numbers
-
-pub record Named (w : List ℕ) (n : ℕ) : Type 0 where
-  pub first : n ≡ 1 → w ≡ certificate_name
-  pub second : n ≡ 2 → w ≡ issuers_name
-  pub third : n ≡ 3 → w ≡ receipts_name
-  pub fourth : n ≡ 4 → w ≡ group_name
-  pub few : n ≤ 4
-
-pub named : (w : List ℕ) → Named w (name_number w)
-unfolding name_number
-named w =
-    go (same w certificate_name) (same w issuers_name) (same w receipts_name) (same w group_name)
-    (same_true w certificate_name) (same_true w issuers_name) (same_true w receipts_name) (same_true w group_name)
-  where
-    go : (a b c d : Bool) → (a ≡ true → w ≡ certificate_name) → (b ≡ true → w ≡ issuers_name) → (c ≡ true → w ≡ receipts_name) → (d ≡ true → w ≡ group_name)
-        → Named w (cond a 1 (cond b 2 (cond c 3 (cond d 4 0))))
-    go true b c d p q r s = record { first = λ e. p refl; second = λ e. absurd (omega arith); third = λ e. absurd (omega arith); fourth = λ e. absurd (omega arith); few = omega arith }
-    go false true c d p q r s = record { first = λ e. absurd (omega arith); second = λ e. q refl; third = λ e. absurd (omega arith); fourth = λ e. absurd (omega arith); few = omega arith }
-    go false false true d p q r s = record { first = λ e. absurd (omega arith); second = λ e. absurd (omega arith); third = λ e. r refl; fourth = λ e. absurd (omega arith); few = omega arith }
-    go false false false true p q r s = record { first = λ e. absurd (omega arith); second = λ e. absurd (omega arith); third = λ e. absurd (omega arith); fourth = λ e. s refl; few = omega arith }
-    go false false false false p q r s = record { first = λ e. absurd (omega arith); second = λ e. absurd (omega arith); third = λ e. absurd (omega arith); fourth = λ e. absurd (omega arith); few = omega arith }
+-- ---- names
 
 pub number_is : (m : Member) → name_number (name_of m) ≡ number_of m
 unfolding name_number name_of number_of same certificate_name issuers_name receipts_name group_name
@@ -41,31 +18,57 @@ number_is (certificate w) = refl
 number_is (issuers ws) = refl
 number_is (receipts ws) = refl
 
-pub number_few : (m : Member) → (0 < number_of m) × (number_of m ≤ 3)
-unfolding number_of
-number_few (certificate w) = (omega arith, omega arith)
-number_few (issuers ws) = (omega arith, omega arith)
-number_few (receipts ws) = (omega arith, omega arith)
+-- no two names are spelled alike
+by_length : ℕ → Name
+by_length n = cond (eqb n 18) Certificate (cond (eqb n 22) Issuers (cond (eqb n 14) Receipts Group))
 
-pub group_is : name_number group_name ≡ 4
-unfolding name_number same certificate_name issuers_name receipts_name group_name
-group_is = refl
+length_tells : (n : Name) → by_length (length (spelling n)) ≡ n
+unfolding by_length certificate_name issuers_name receipts_name group_name
+length_tells Certificate = refl
+length_tells Issuers = refl
+length_tells Receipts = refl
+length_tells Group = refl
+
+spelled_once : (m n : Name) → spelling m ≡ spelling n → m ≡ n
+spelled_once m n e = sym (length_tells m) ∙ ap (λ (w : List ℕ). by_length (length w)) e ∙ length_tells n
+
+pub key_there : {text : List ℕ} {at : ℕ} {k : Key} → KeyedBy text at k → {n : Name} {rest : List Token} → from text at ≡ word (spelling n) ∷ mark 58 ∷ rest → (k.name ≡ n) × (from text k.next ≡ rest)
+key_there d q = let e = sym d.is ∙ q in (spelled_once _ _ (word_is e), tail_is (tail_is e))
+
+pub name_is : (m : Member) → name_of m ≡ spelling (title m)
+unfolding name_of
+name_is (certificate w) = refl
+name_is (issuers ws) = refl
+name_is (receipts ws) = refl
 
 -- ---- values
 
-pub value_string : {number : ℕ} {text : List ℕ} {at r : ℕ} → number ≡ 1 → Reads string text at r → ValueRead number text at r
-value_string e r = record { inside = r.inside; onward = r.onward; one = λ q. r; more = λ n. absurd (n e) }
+module _ (text : List ℕ) (at : ℕ) where
+  pub value_inside : (n : Name) (e : ℕ) → ValueRead n text at (Some e) → (at < e) × (e ≤ length text)
+  value_inside Certificate e v = (v.onward, v.inside)
+  value_inside Issuers e v = (v.onward, v.inside)
+  value_inside Receipts e v = (v.onward, v.inside)
+  value_inside Group e v = (v.onward, v.inside)
 
-pub value_strings : {number : ℕ} {text : List ℕ} {at r : ℕ} → (number ≡ 1 → ⊥) → Reads strings text at r → ValueRead number text at r
-value_strings n r = record { inside = r.inside; onward = r.onward; one = λ q. absurd (n q); more = λ m. r }
+  -- where a member with the name stands, its value was read
+  pub value_ends : (m : Member) {n : Name} (e : ℕ) → ValueRead n text at (Some e) → n ≡ title m → (rest : List Token) → from text at ≡ value_of m ++ rest → from text e ≡ rest
+  unfolding value_of
+  value_ends (certificate w) e v n rest q = let r = rw n at v in r.complete w rest q
+  value_ends (issuers ws) e v n rest q = let r = rw n at v in r.complete ws rest q
+  value_ends (receipts ws) e v n rest q = let r = rw n at v in r.complete ws rest q
 
--- where a member with the number stands, its value was read
-pub value_ends : {number : ℕ} {text : List ℕ} {at e : ℕ} → ValueRead number text at e → (m : Member) (rest : List Token) → number ≡ number_of m → from text at ≡ value_of m ++ rest
-    → (0 < e) × (from text e ≡ rest)
-unfolding number_of value_of
-value_ends v (certificate w) rest n q = (v.one n).complete w rest q
-value_ends v (issuers ws) rest n q = (v.more (λ o. omega arith)).complete ws rest q
-value_ends v (receipts ws) rest n q = (v.more (λ o. omega arith)).complete ws rest q
+  pub value_none : (m : Member) {n : Name} → ValueRead n text at None → n ≡ title m → (rest : List Token) → from text at ≡ value_of m ++ rest → ⊥
+  unfolding value_of
+  value_none (certificate w) v e rest q = let r = rw e at v in r.none w rest q
+  value_none (issuers ws) v e rest q = let r = rw e at v in r.none ws rest q
+  value_none (receipts ws) v e rest q = let r = rw e at v in r.none ws rest q
+
+  value_sound : (n : Name) (e : ℕ) → ValueRead n text at (Some e) → (n ≡ Group → ⊥) → (m : Member) × (title m ≡ n) × (from text at ≡ value_of m ++ from text e)
+  unfolding value_of
+  value_sound Certificate e v h = (certificate v.sound.0, refl, v.sound.1)
+  value_sound Issuers e v h = (issuers v.sound.0, refl, v.sound.1)
+  value_sound Receipts e v h = (receipts v.sound.0, refl, v.sound.1)
+  value_sound Group e v h = absurd (h refl)
 
 -- ---- a mark and a member's name
 
@@ -73,95 +76,48 @@ pub led_is : (b : ℕ) (m : Member) (rest : List Token) → led b m ++ rest ≡ 
 unfolding led member
 led_is b m rest = refl
 
-no_member_key : {text : List ℕ} {at lead : ℕ} → ((m : Member) (rest : List Token) → from text at ≡ led lead m ++ rest → ⊥) → MemberKeyed text at lead (record { number = 0; next = 0 })
-no_member_key h =
-    record {
-      inside = omega arith;
-      onward = λ p. absurd (omega arith);
-      small = omega arith;
-      sound = λ p. absurd (omega arith);
-      complete = λ m rest q. absurd (h m rest q);
-    }
+led_spelled : (b : ℕ) (m : Member) (rest : List Token) → led b m ++ rest ≡ mark b ∷ word (spelling (title m)) ∷ mark 58 ∷ (value_of m ++ rest)
+led_spelled b m rest = led_is b m rest ∙ rw (name_is m)
 
-pub key_no_mark : {text : List ℕ} {at lead : ℕ} → Reads (one lead) text at 0 → MemberKeyed text at lead (record { number = 0; next = 0 })
-key_no_mark {lead = lead} r = no_member_key (λ m rest q. omega (arith, (r.complete tt _ (q ∙ led_is lead m rest)).0))
+pub key_no_mark : {text : List ℕ} {at lead : ℕ} → ((rest : List Token) → from text at ≡ mark lead ∷ rest → ⊥) → Absent (led lead) text at
+key_no_mark {lead = lead} h = record { none = λ m rest q. h _ (q ∙ led_is lead m rest) }
 
-module _ {text : List ℕ} {at lead p : ℕ} {k : Key} (r : Reads (one lead) text at p) (z : p ≡ 0 → ⊥) (d : Keyed text p k) where
-  above : 0 < p
-  above = omega (arith, z)
+module _ {text : List ℕ} {at lead p : ℕ} (r : Marked lead text at p) where
+  pub key_no_name : ((n : Name) (rest : List Token) → from text p ≡ word (spelling n) ∷ mark 58 ∷ rest → ⊥) → Absent (led lead) text at
+  key_no_name h = record { none = λ m rest q. h (title m) _ (tail_is (sym r.is ∙ q ∙ led_spelled lead m rest)) }
 
-  -- where a member stands, its name was found
-  key_is : (m : Member) (rest : List Token) → from text at ≡ led lead m ++ rest → (k.number ≡ number_of m) × (from text k.next ≡ value_of m ++ rest)
-  key_is m rest q =
-      let s = (r.complete tt _ (q ∙ led_is lead m rest)).1 in
-      let c = d.complete (name_of m) (value_of m ++ rest) s in
-      let e : k.number ≡ number_of m = c.0 ∙ number_is m in
-      (e, c.1 (omega (arith, (number_few m).0)))
-
-  pub key_of_none : 3 < k.number → MemberKeyed text at lead (record { number = 0; next = 0 })
-  key_of_none h = no_member_key (λ m rest q. omega (arith, (key_is m rest q).0, (number_few m).1))
-
-  pub key_of_member : k.number ≤ 3 → MemberKeyed text at lead k
-  key_of_member h =
-      record {
-        inside = d.inside;
-        onward = λ n. omega (arith, r.onward above, d.onward n);
-        small = h;
-        sound = λ n. let s = d.sound n in (s.0, s.1, (r.sound above).1 ∙ ap (λ (l : List Token). mark lead ∷ l) s.2);
-        complete = key_is;
-      }
+  module _ {k : Key} (d : KeyedBy text p k) where
+    pub key_of_group : k.name ≡ Group → Absent (led lead) text at
+    key_of_group e = record { none = λ m rest q. group_title m (sym (key_there d (tail_is (sym r.is ∙ q ∙ led_spelled lead m rest))).0 ∙ e) }
+      where
+        group_title : (m : Member) → title m ≡ Group → ⊥
+        group_title (certificate w) q = cc
+        group_title (issuers ws) q = cc
+        group_title (receipts ws) q = cc
 
 -- ---- the member
 
-pub no_member : {text : List ℕ} {at lead : ℕ} {v : Value} → v ≡ no_value → ((m : Member) (rest : List Token) → from text at ≡ led lead m ++ rest → ⊥) → MemberRead text at lead v
-no_member i h =
-    rw i (record {
-      reads = record {
-        inside = omega arith;
-        onward = λ p. absurd (omega arith);
-        sound = λ p. absurd (omega arith);
-        complete = λ m rest q. absurd (h m rest q);
-      };
-      found = λ m rest q. absurd (h m rest q);
-      place = omega arith;
-    })
+module _ {text : List ℕ} {at lead : ℕ} {k : Key} (d : MemberKeyedBy text at lead k) where
+  -- where a member stands, its name was found
+  pub member_is : (m : Member) (rest : List Token) → from text at ≡ led lead m ++ rest → (k.name ≡ title m) × (from text k.next ≡ value_of m ++ rest)
+  member_is m rest q =
+      let e = tail_is (sym d.is ∙ q ∙ led_spelled lead m rest) in
+      (spelled_once _ _ (word_is e), tail_is (tail_is e))
 
-module _ {text : List ℕ} {at lead : ℕ} {k : Key} (d : MemberKeyed text at lead k) where
-  pub member_no_key : {v : Value} → v ≡ no_value → k.number ≡ 0 → MemberRead text at lead v
-  member_no_key i e = no_member i (λ m rest q. omega (arith, (d.complete m rest q).0, (number_few m).0))
+  pub member_no_value : ValueRead k.name text k.next None → Absent (led lead) text at
+  member_no_value v = record { none = λ m rest q. let i = member_is m rest q in value_none text k.next m v i.0 rest i.1 }
 
-  module _ {e : ℕ} (v : ValueRead k.number text k.next e) where
-    -- what a name and its value spell
-    spelled : (m : Member) (w : List ℕ) → w ≡ name_of m → from text at ≡ mark lead ∷ word w ∷ mark 58 ∷ from text k.next → from text k.next ≡ value_of m ++ from text e
-        → (m : Member) × (from text at ≡ led lead m ++ from text e)
-    spelled m w n q s = (m, q ∙ ap₂ (λ (x : List ℕ) (l : List Token). mark lead ∷ word x ∷ mark 58 ∷ l) n s ∙ sym (led_is lead m (from text e)))
-
-    pub member_found : (k.number ≡ 0 → ⊥) → MemberRead text at lead (record { number = k.number; place = k.next; next = e })
-    unfolding name_of value_of
-    member_found n₀ =
-        let pos : 0 < k.number = omega (arith, n₀) in
-        let o = d.onward pos in
-        record {
-          reads = record {
-            inside = v.inside;
-            onward = λ q. omega (arith, v.onward q);
-            sound = λ q. sounds q (d.sound pos).0 (d.sound pos).1 (d.sound pos).2;
-            complete = λ m rest q. let i = d.complete m rest q in value_ends v m rest i.0 i.1;
-          };
-          found = λ m rest q. let i = d.complete m rest q in (i.0, omega arith, i.1);
-          place = d.inside;
-        }
-      where
-        sounds : 0 < e → (w : List ℕ) → name_number w ≡ k.number → from text at ≡ mark lead ∷ word w ∷ mark 58 ∷ from text k.next
-            → (m : Member) × (from text at ≡ led lead m ++ from text e)
-        sounds q w n s = go k.number refl
-          where
-            nm : Named w (name_number w)
-            nm = named w
-
-            go : (j : ℕ) → k.number ≡ j → (m : Member) × (from text at ≡ led lead m ++ from text e)
-            go zero i = absurd (n₀ i)
-            go (suc zero) i = let x = (v.one i).sound q in spelled (certificate x.0) w (nm.first (n ∙ i)) s x.1
-            go (suc (suc zero)) i = let x = (v.more (λ o. omega arith)).sound q in spelled (issuers x.0) w (nm.second (n ∙ i)) s x.1
-            go (suc (suc (suc zero))) i = let x = (v.more (λ o. omega arith)).sound q in spelled (receipts x.0) w (nm.third (n ∙ i)) s x.1
-            go (suc (suc (suc (suc j)))) i = absurd (omega (arith, d.small))
+  pub member_found : {e : ℕ} → ValueRead k.name text k.next (Some e) → MemberAt text at lead (record { name = k.name; place = k.next; next = e })
+  member_found {e} v =
+      let i = value_inside text k.next k.name e v in
+      let x = value_sound text k.next k.name e v d.good in
+      record {
+        reads = record {
+          inside = i.1;
+          onward = omega (arith, d.onward, i.0);
+          sound = (x.0, d.is ∙ ap₂ (λ (n : Name) (l : List Token). mark lead ∷ word (spelling n) ∷ mark 58 ∷ l) (sym x.1) x.2 ∙ sym (led_spelled lead x.0 (from text e)));
+          complete = λ m rest q. let j = member_is m rest q in value_ends text k.next m e v j.0 rest j.1;
+        };
+        found = member_is;
+        place = d.inside;
+      }

@@ -1,13 +1,6 @@
 -- The statement of specs/Names.antt: what a receipt of bytes names is exactly what its text is put together from.
-use Prim.Native.Nat.{ℕ, zero, suc, ◌≤◌, ◌<◌}
-use mathlib.Core.Path.{◌≡◌, refl, sym, ap, ◌∙◌, subst}
-use mathlib.Core.Bool.{Bool, true, false, cond, ◌&&◌}
-use mathlib.Core.List.{List, ◌∷◌, ◌++◌}
+use Rattle.std.proofs.Common.{ℕ, zero, suc, ◌≤◌, ◌<◌, ◌≡◌, refl, sym, ap, ◌∙◌, subst, Bool, true, false, cond, ◌&&◌, List, ◌∷◌, ◌++◌, arith, eqb-true, eq-eqb, leb-true, eqb, leb, length, take, drop, get_or, take-append-drop}
 use mathlib.Core.Option.{Option, none, some}
-use native.Mathlib.Omega.{arith}
-use borrow.Author.Tests.{eqb-true, eq-eqb, leb-true}
-use lib.Dec.{eqb, leb}
-use lib.ListN.{length, take, drop, get_or, take-append-drop}
 use Rattle.primitives.specs.Text.{ascii}
 use Rattle.primitives.specs.Bytes.{AllBytes, same}
 use Rattle.primitives.specs.Base64.{encoding, decoding}
@@ -29,7 +22,7 @@ use Rattle.receipt.proofs.MarkCounts.{count_append, count_none, none_counted}
 use Rattle.receipt.proofs.Names.{GoodName, GoodSettings, good_settings, letters_no_mark, text_of, name_of_lem}
 use Rattle.exports.specs.Naming.{middle, field_of, settings_in, payload_names, not_named, named_by, named}
 use Rattle.exports.specs.Names.{NamesIn, NamesRegister, FirstReceiptExactly}
-use Rattle.exports.specs.declared.naming.Named.{Named}
+use Rattle.exports.specs.Naming.{Named}
 use Rattle.exports.proofs.NamedRaw.{upto, past, middle_is}
 use Rattle.exports.proofs.PayloadNames.{name_long}
 use Rattle.exports.proofs.Splits.{front, rest, split, count_rest, front_without, front_at, rest_at, count_at, after_at, split_after, count_after, Before, split_many, count_many, skip_many}

@@ -1,14 +1,7 @@
 -- A receipt names the same settings as it lies in a JSON string and as it is spelled there: an escape has no ".", and no payload has one.
-use Prim.Native.Nat.{ℕ, suc, ◌+◌, ◌-◌}
-use mathlib.Core.Path.{◌≡◌, refl, sym, ap, ◌∙◌}
-use mathlib.Core.Bool.{Bool, true, false, cond, ◌&&◌, and-false}
-use mathlib.Core.List.{List, ◌∷◌}
-use mathlib.Core.Logic.{◌⊎◌, inl, inr, ⊎_elim}
+use Rattle.std.proofs.Common.{◌≤◌, ℕ, suc, ◌+◌, ◌-◌, ◌≡◌, refl, sym, ap, ◌∙◌, Bool, true, false, cond, ◌&&◌, List, ◌∷◌, ◌⊎◌, inl, inr, ⊎_elim, add-one, arith, ltb, eqb, length, take, drop}
+use mathlib.Core.Bool.{and-false}
 use mathlib.Core.Option.{Option, none, some}
-use native.Mathlib.Numerals.{add-one}
-use native.Mathlib.Omega.{arith}
-use lib.Dec.{ltb, eqb}
-use lib.ListN.{length, take, drop}
 use lib.Seq.{take-length}
 use Rattle.primitives.specs.Bytes.{same}
 use Rattle.primitives.specs.Base64.{digit, known, ended, accepted, decoding}
@@ -20,8 +13,7 @@ use Rattle.receipt.specs.Line.{count_of}
 use Rattle.receipt.specs.Settings.{settings_good}
 use Rattle.receipt.proofs.Names.{good_settings}
 use Rattle.exports.specs.Places.{Unescaped, nothing, letter, escape}
-use Rattle.exports.specs.Naming.{middle, field_of, settings_in, payload_names, not_named, named_by, named}
-use Rattle.exports.specs.Running.{SmallNames}
+use Rattle.exports.specs.Naming.{Named, middle, field_of, settings_in, payload_names, not_named, named_by, named}
 
 -- ---- the middle part
 
@@ -99,6 +91,10 @@ named_raw {raw} {w} u =
     λ i. cond (eqb (count_both u i) 2) (named_by (d i)) not_named
 
 -- ---- names that end within their arrays
+
+pub record SmallNames (n : Named) : Type 0 where
+  pub id : n.settings.id.len ≤ 32
+  pub serial : n.settings.serial.len ≤ 32
 
 small_none : SmallNames not_named
 small_none = record { id = omega arith; serial = omega arith }

@@ -1,18 +1,16 @@
 -- A string against a name: bytes are compared, and that decides what is spelled.
-use mathlib.Core.Path.{◌≡◌, refl, sym, ◌∙◌}
-use mathlib.Core.Bool.{Bool, true, false, cond, ◌&&◌}
-use mathlib.Core.List.{List, [], ◌∷◌}
-use Prim.Native.Nat.{ℕ, suc, ◌+◌, ◌<◌, ◌≤◌}
-use native.Mathlib.Omega.{arith}
-use native.Mathlib.Numerals.{add-one}
-use borrow.Author.Tests.{eq-eqb, ne_eqb, eqb-false, not-true}
-use lib.Dec.{eqb}
-use lib.ListN.{length, drop, get_or, drop_of_length-le}
-use lib.Seq.{drop-cons}
+use Rattle.std.proofs.Common.{ℕ, suc, ◌<◌, ◌≡◌, refl, sym, ap, ◌∙◌, Bool, true, false, cond, ◌&&◌, List, [], ◌∷◌, ◌++◌, eqb, length, drop, get_or, arith, drop-cons, eq-eqb, ne_eqb, drop_of_length-le}
+use Rattle.std.proofs.lemmas.Bool.{eqb-true, eqb-false, not-true}
+use Rattle.std.specs.List.{starts_with}
+use Rattle.std.proofs.lemmas.Slice.Eq.{starts_is}
+use Rattle.std.proofs.lemmas.Bool.Decides.{Decides-eqb}
 use Rattle.primitives.specs.Bytes.{same}
+use Rattle.primitives.proofs.ByteLists.{same_true, same_refl}
 use Rattle.exports.specs.Lexer.{content}
 use Rattle.exports.specs.Shape.{certificate_name, issuers_name, receipts_name, group_name}
-use Rattle.exports.specs.Places.{bare, name_number}
+use Rattle.exports.specs.Places.{bare, spelling}
+use Rattle.exports.specs.declared.walk.Name.{Name}
+use Rattle.exports.specs.declared.walk.Name.TheVariants.{Certificate, Issuers, Receipts, Group}
 use Rattle.exports.proofs.Lexing.{no_truth}
 
 pub both : (a b : Bool) → (a && b) ≡ true → (a ≡ true) × (b ≡ true)
@@ -24,12 +22,6 @@ unfolding same
 differs b x u v xs true t h n = refl
 differs b x u v xs false true h n = rw (ne_eqb 61 x (λ e. h (sym e)))
 differs b x u v xs false false h n = rw (ne_eqb b x n)
-
-ends : (b : ℕ) (u v : List ℕ) (s t : Bool) → same (cond s [] (cond t (61 ∷ u) (b ∷ v))) [] ≡ s
-unfolding same
-ends b u v true t = refl
-ends b u v false true = refl
-ends b u v false false = refl
 
 record Bare (x : ℕ) (xs : List ℕ) : Type 0 where
   pub quote : x ≡ 34 → ⊥
@@ -50,68 +42,69 @@ bare_is x xs e =
       rest = p.1;
     }
 
--- ---- the loop
+-- ---- a name is spelled in one way
 
-pub record Spelling (text name : List ℕ) (start at i : ℕ) : Type 0 where
-  pub inside : at ≤ length text
-  pub within : i ≤ length name
-  pub bare' : bare (drop i name) ≡ true
-  pub same : same (content (drop start text) 0) name ≡ same (content (drop at text) 0) (drop i name)
+bare_content : (name rest : List ℕ) → bare name ≡ true → content (name ++ rest) 0 ≡ name ++ content rest 0
+unfolding content
+bare_content [] rest h = refl
+bare_content (x ∷ xs) rest h =
+    let b = bare_is x xs h in
+    rw (ne_eqb x 34 b.quote, ne_eqb x 92 b.backslash, bare_content xs rest b.rest)
 
-pub spell_start : (text name : List ℕ) (start : ℕ) → start ≤ length text → bare name ≡ true → Spelling text name start start 0
-spell_start text name start h b = record { inside = h; within = omega arith; bare' = b; same = refl }
+same_front : (name w : List ℕ) → same (name ++ w) name ≡ same w []
+unfolding same
+same_front [] w = refl
+same_front (x ∷ xs) w = rw (eq-eqb x x refl) (same_front xs w)
 
-module _ {text name : List ℕ} {start at i : ℕ} (s : Spelling text name start at i) where
-  pub spell_short : i < length name → length text ≤ at → false ≡ same (content (drop start text) 0) name
-  unfolding content same
-  spell_short h l = sym (s.same ∙ rw (drop_of_length-le text l, drop-cons name i 0 h))
+pub spelled_end : (s name : List ℕ) → bare name ≡ true → s ≡ name ++ [] → same (content s 0) name ≡ true
+unfolding content same
+spelled_end s name h e = rw (e, bare_content name [] h, same_front name [])
 
-  module _ (h : i < length name) (l : at < length text) where
-    bare_here : Bare (get_or name i 0) (drop (suc i) name)
-    bare_here = bare_is _ _ (rw (drop-cons name i 0 h) at s.bare')
+pub spelled_before : (s name : List ℕ) (b : ℕ) (rest : List ℕ) → bare name ≡ true → s ≡ name ++ (b ∷ rest) → same (content s 0) name ≡ eqb b 34
+unfolding content same
+spelled_before s name b rest h e = rw (e, bare_content name (b ∷ rest) h, same_front name (content (b ∷ rest) 0)) (ends (eqb b 34) (eqb b 92))
+  where
+    ends : (q t : Bool) → same (cond q [] (cond t (61 ∷ content rest 5) (b ∷ content rest 0))) [] ≡ q
+    ends true t = refl
+    ends false true = refl
+    ends false false = refl
 
-    pub spell_differ : (get_or text at 0 ≡ get_or name i 0 → ⊥) → false ≡ same (content (drop start text) 0) name
-    unfolding content
-    spell_differ n = sym (s.same ∙ rw (drop-cons name i 0 h, drop-cons text at 0 l) (differs _ _ _ _ _ (eqb (get_or text at 0) 34) (eqb (get_or text at 0) 92) bare_here.equals n))
+pub spelled_not : (s name : List ℕ) → bare name ≡ true → ((rest : List ℕ) → s ≡ name ++ rest → ⊥) → same (content s 0) name ≡ false
+unfolding content same
+spelled_not s [] h n = absurd (n s refl)
+spelled_not [] (x ∷ xs) h n = refl
+spelled_not (b ∷ s) (x ∷ xs) h n = go (eqb b x) refl (λ m. spelled_not s xs (bare_is x xs h).rest m)
+  where
+    k : Bare x xs
+    k = bare_is x xs h
 
-    pub spell_more : get_or text at 0 ≡ get_or name i 0 → Spelling text name start (at + 1) (i + 1)
-    unfolding content same
-    spell_more e =
-        record {
-          inside = omega arith;
-          within = omega arith;
-          bare' = rw add-one bare_here.rest;
-          same =
-              s.same
-              ∙ rw (add-one at, add-one i, drop-cons name i 0 h, drop-cons text at 0 l, e, ne_eqb _ _ bare_here.quote, ne_eqb _ _ bare_here.backslash, eq-eqb (get_or name i 0) (get_or name i 0) refl);
-        }
+    go : (t : Bool) → eqb b x ≡ t → (((rest : List ℕ) → s ≡ xs ++ rest → ⊥) → same (content s 0) xs ≡ false) → same (content (b ∷ s) 0) (x ∷ xs) ≡ false
+    go true e ih =
+        let q = eqb-true b x e in
+        rw (q, ne_eqb x 34 k.quote, ne_eqb x 92 k.backslash, eq-eqb x x refl) (ih (λ rest r. n rest (λ t. q t ∷ r t)))
+    go false e ih = differs b x _ _ xs (eqb b 34) (eqb b 92) k.equals (eqb-false b x e)
 
-  pub spell_close : length name ≤ i → at < length text → eqb (get_or text at 0) 34 ≡ same (content (drop start text) 0) name
-  unfolding content
-  spell_close h l = sym (s.same ∙ rw (drop_of_length-le name h, drop-cons text at 0 l) (ends _ _ _ (eqb (get_or text at 0) 34) (eqb (get_or text at 0) 92)))
+-- a string whose letters begin with the name spells it if the quote, or the end of the text, follows
+pub spelled : (s name : List ℕ) (r : Bool) → bare name ≡ true → r ≡ starts_with eqb s name
+    → (r ≡ false → same (content s 0) name ≡ false) × (r ≡ true → length s ≡ length name → same (content s 0) name ≡ true)
+    × (r ≡ true → length name < length s → same (content s 0) name ≡ eqb (get_or s (length name) 0) 34)
+spelled s name r h e =
+    let i = starts_is Decides-eqb s name r e in (
+      λ f. spelled_not s name h (λ rest q. no_truth (sym f ∙ i.1 rest q)),
+      λ t l. spelled_end s name h (i.0 t ∙ ap (λ (x : List ℕ). name ++ x) (drop_of_length-le s (omega arith))),
+      λ t l. spelled_before s name (get_or s (length name) 0) (drop (suc (length name)) s) h (i.0 t ∙ ap (λ (x : List ℕ). name ++ x) (drop-cons s (length name) 0 l)),
+    )
 
-  pub spell_all : length name ≤ i → length text ≤ at → true ≡ same (content (drop start text) 0) name
-  unfolding content same
-  spell_all h l = sym (s.same ∙ rw (drop_of_length-le name h, drop_of_length-le text l))
+-- ---- which name it is
 
--- ---- the row of names
+pub name_yes : {w n : List ℕ} {r : Bool} → r ≡ same w n → r ≡ true → w ≡ n
+name_yes {w} {n} e t = same_true w n (sym e ∙ t)
 
-pub name_1 : (w : List ℕ) {r₁ : Bool} → r₁ ≡ same w certificate_name → r₁ ≡ true → 1 ≡ name_number w
-unfolding name_number
-name_1 w e₁ t₁ = rw (← e₁, t₁)
+pub name_no : {w n : List ℕ} {r : Bool} → r ≡ same w n → r ≡ false → w ≡ n → ⊥
+name_no {w} {n} e f q = no_truth (sym f ∙ e ∙ rw q (same_refl n))
 
-pub name_2 : (w : List ℕ) {r₁ r₂ : Bool} → r₁ ≡ same w certificate_name → r₁ ≡ false → r₂ ≡ same w issuers_name → r₂ ≡ true → 2 ≡ name_number w
-unfolding name_number
-name_2 w e₁ t₁ e₂ t₂ = rw (← e₁, t₁, ← e₂, t₂)
-
-pub name_3 : (w : List ℕ) {r₁ r₂ r₃ : Bool} → r₁ ≡ same w certificate_name → r₁ ≡ false → r₂ ≡ same w issuers_name → r₂ ≡ false → r₃ ≡ same w receipts_name → r₃ ≡ true → 3 ≡ name_number w
-unfolding name_number
-name_3 w e₁ t₁ e₂ t₂ e₃ t₃ = rw (← e₁, t₁, ← e₂, t₂, ← e₃, t₃)
-
-pub name_4 : (w : List ℕ) {r₁ r₂ r₃ r₄ : Bool} → r₁ ≡ same w certificate_name → r₁ ≡ false → r₂ ≡ same w issuers_name → r₂ ≡ false → r₃ ≡ same w receipts_name → r₃ ≡ false → r₄ ≡ same w group_name → r₄ ≡ true → 4 ≡ name_number w
-unfolding name_number
-name_4 w e₁ t₁ e₂ t₂ e₃ t₃ e₄ t₄ = rw (← e₁, t₁, ← e₂, t₂, ← e₃, t₃, ← e₄, t₄)
-
-pub name_0 : (w : List ℕ) {r₁ r₂ r₃ r₄ : Bool} → r₁ ≡ same w certificate_name → r₁ ≡ false → r₂ ≡ same w issuers_name → r₂ ≡ false → r₃ ≡ same w receipts_name → r₃ ≡ false → r₄ ≡ same w group_name → r₄ ≡ false → 0 ≡ name_number w
-unfolding name_number
-name_0 w e₁ t₁ e₂ t₂ e₃ t₃ e₄ t₄ = rw (← e₁, t₁, ← e₂, t₂, ← e₃, t₃, ← e₄, t₄)
+pub name_none : {w : List ℕ} → (w ≡ certificate_name → ⊥) → (w ≡ issuers_name → ⊥) → (w ≡ receipts_name → ⊥) → (w ≡ group_name → ⊥) → (n : Name) → w ≡ spelling n → ⊥
+name_none a b c d Certificate = a
+name_none a b c d Issuers = b
+name_none a b c d Receipts = c
+name_none a b c d Group = d

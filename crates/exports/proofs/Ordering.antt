@@ -1,10 +1,5 @@
 -- Names in any order, and blanks between tokens.
-use Prim.Native.Nat.{ℕ}
-use mathlib.Core.Path.{◌≡◌, refl, sym, ap, subst}
-use mathlib.Core.Bool.{true}
-use mathlib.Core.List.{List, [], ◌∷◌, ◌++◌}
-use native.Mathlib.Omega.{arith}
-use lib.ListN.{length}
+use Rattle.std.proofs.Common.{ℕ, ◌≡◌, refl, sym, ap, subst, true, List, [], ◌∷◌, ◌++◌, arith, length}
 use Rattle.exports.specs.Text.{Token, blank, every, Inside, close, letter, escape, Tokens, end, space, sign, quoted}
 use Rattle.exports.specs.Shape.{Member, certificate, issuers, receipts, certificates_of, issuers_of, receipts_of, Element}
 use Rattle.exports.specs.Orders.{Order, szb, sbz, zsb, zbs, bsz, bzs, EachOnce, AnyOrder, BlanksBetween}

@@ -1,19 +1,15 @@
 -- The bytes of a payload, read from its letters.
-use Prim.Native.Nat.{ℕ, zero, suc, ◌+◌, ◌-◌, ◌*◌, ◌/◌, ◌%◌, ◌≤◌, ◌<◌}
-use mathlib.Core.Path.{◌≡◌, refl, sym, ap, ◌∙◌}
-use mathlib.Core.Bool.{Bool, true, false, cond, ◌&&◌}
-use mathlib.Core.List.{List, [], ◌∷◌, ◌++◌}
-use mathlib.Core.Logic.{◌⊎◌, ⊎_elim}
+use Rattle.std.proofs.Common.{Result, Ok, Err, ℕ, zero, suc, ◌+◌, ◌-◌, ◌*◌, ◌/◌, ◌%◌, ◌≤◌, ◌<◌, min, ◌≡◌, refl, sym, ap, ◌∙◌, Bool, true, false, cond, ◌&&◌, List, [], ◌∷◌, ◌++◌, arith, ltb, eqb, length, take, drop, get_or, length-take}
+use Rattle.std.specs.Result.{result_eq}
 use mathlib.Core.Option.{Option, none, some}
-use native.Mathlib.Omega.{arith}
-use lib.Dec.{ltb}
-use lib.ListN.{length, take, drop, get_or, length-take, length-drop, get_or-append}
-use lib.Seq.{take_all, take-length}
+use Rattle.std.proofs.lemmas.Grind.{common_steps}
+use lib.ListN.{get_or-append}
+use lib.Seq.{take-length}
 use Rattle.primitives.specs.Place.{overwrite, room}
 use Rattle.primitives.specs.Base64.{digit, from_digits, triple, bytes, known, ended, accepted, decoding, answer_of, buffer_of}
 use Rattle.primitives.specs.declared.base64.Alphabet.TheVariants.{UrlSafe}
-use Rattle.primitives.specs.declared.base64.Decoded.{Decoded}
-use Rattle.primitives.specs.declared.base64.Decoded.TheVariants.{Upto, Refused, NoRoom}
+use Rattle.primitives.specs.declared.base64.DecodeError.{DecodeError}
+use Rattle.primitives.specs.declared.base64.DecodeError.TheVariants.{Refused, NoRoom}
 use Rattle.primitives.proofs.Over.{placed_room}
 use Rattle.primitives.proofs.Rows.{both}
 use Rattle.primitives.proofs.Base64Lengths.{length_bytes}
@@ -31,33 +27,44 @@ module _ (m : List ℕ) where
 
   -- the answers of the reader
   module _ (out : List ℕ) (at : ℕ) where
-    answered : {d : Decoded} → d ≡ answer_of (decoding UrlSafe m) out at → d ≡ answer_of (cond (accepted UrlSafe m) (some (bytes UrlSafe m)) none) out at
+    answered : {d : Result ℕ DecodeError} → d ≡ answer_of (decoding UrlSafe m) out at → d ≡ answer_of (cond (accepted UrlSafe m) (some (bytes UrlSafe m)) none) out at
     answered e = e ∙ ap (λ (o : Option (List ℕ)). answer_of o out at) decoding_is
 
-    pub canonical_read : (n : ℕ) → Upto n ≡ answer_of (decoding UrlSafe m) out at → true ≡ accepted UrlSafe m
-    canonical_read n e = go (accepted UrlSafe m) (answered e)
+    canonical_read : {d : Result ℕ DecodeError} → d ≡ answer_of (decoding UrlSafe m) out at → (d ≡ Err Refused → ⊥) → accepted UrlSafe m ≡ true
+    canonical_read {d} e n = go (accepted UrlSafe m) (answered e)
       where
-        go : (t : Bool) → Upto n ≡ answer_of (cond t (some (bytes UrlSafe m)) none) out at → true ≡ t
+        go : (t : Bool) → d ≡ answer_of (cond t (some (bytes UrlSafe m)) none) out at → t ≡ true
         go true k = refl
-        go false k = let z : ◌≡◌ {A = ℕ} 0 1 = cc in absurd (omega arith)
+        go false k = absurd (n k)
 
-    pub canonical_full : NoRoom ≡ answer_of (decoding UrlSafe m) out at → true ≡ accepted UrlSafe m
-    canonical_full e = go (accepted UrlSafe m) (answered e)
-      where
-        go : (t : Bool) → NoRoom ≡ answer_of (cond t (some (bytes UrlSafe m)) none) out at → true ≡ t
-        go true k = refl
-        go false k = let z : ◌≡◌ {A = ℕ} 0 1 = cc in absurd (omega arith)
-
-    pub canonical_refused : Refused ≡ answer_of (decoding UrlSafe m) out at → false ≡ accepted UrlSafe m
+    canonical_refused : Err Refused ≡ answer_of (decoding UrlSafe m) out at → accepted UrlSafe m ≡ false
     canonical_refused e = go (accepted UrlSafe m) (answered e)
       where
-        fits : (t : Bool) → Refused ≡ cond t (Upto (at + length (bytes UrlSafe m))) NoRoom → false ≡ true
-        fits true k = let z : ◌≡◌ {A = ℕ} 0 1 = cc in absurd (omega arith)
-        fits false k = let z : ◌≡◌ {A = ℕ} 0 1 = cc in absurd (omega arith)
+        fits : (t : Bool) → Err Refused ≡ cond t (Ok (at + length (bytes UrlSafe m))) (Err NoRoom) → true ≡ false
+        fits true k = cc
+        fits false k = cc
 
-        go : (t : Bool) → Refused ≡ answer_of (cond t (some (bytes UrlSafe m)) none) out at → false ≡ t
+        go : (t : Bool) → Err Refused ≡ answer_of (cond t (some (bytes UrlSafe m)) none) out at → t ≡ false
         go true k = fits (room out at (bytes UrlSafe m)) k
         go false k = refl
+
+    -- as the code asks it, by the equality of answers
+    module _ {d : Result ℕ DecodeError} (q : d ≡ answer_of (decoding UrlSafe m) out at) (E : DecodeError → DecodeError → Bool) (n : E NoRoom Refused ≡ false) (r : E Refused Refused ≡ true) where
+      pub told_refused : true ≡ result_eq eqb E d (Err Refused) → accepted UrlSafe m ≡ false
+      told_refused h = go d refl h
+        where
+          go : (x : Result ℕ DecodeError) → d ≡ x → true ≡ result_eq eqb E x (Err Refused) → accepted UrlSafe m ≡ false
+          go (Ok k) e t = cc
+          go (Err NoRoom) e t = let z : true ≡ false = t ∙ n in cc
+          go (Err Refused) e t = canonical_refused (sym e ∙ q)
+
+      pub told_read : false ≡ result_eq eqb E d (Err Refused) → accepted UrlSafe m ≡ true
+      told_read h = go d refl h
+        where
+          go : (x : Result ℕ DecodeError) → d ≡ x → false ≡ result_eq eqb E x (Err Refused) → accepted UrlSafe m ≡ true
+          go (Ok k) e t = canonical_read q (λ w. let z = sym e ∙ w in cc)
+          go (Err NoRoom) e t = canonical_read q (λ w. let z = sym e ∙ w in cc)
+          go (Err Refused) e t = let z : false ≡ true = t ∙ r in cc
 
 -- ---- one group
 
@@ -141,25 +148,12 @@ module _ (m : List ℕ) (i : ℕ) (pre : (accepted UrlSafe m ≡ true) × (i < l
       ∙ get_or-append (bytes UrlSafe g) (drop (0 + length (bytes UrlSafe g)) zeros) 0 (i % 3) at_group.inside
       ∙ at_group.is ∙ ap (λ (j : ℕ). get_or (bytes UrlSafe m) j 0) e
 
-  -- the group as it is lent
-  abbrev Lent : ℕ → Type 0
-  Lent e = ((4 < length m - i / 3 * 4) × (e ≡ i / 3 * 4 + 4)) ⊎ ((length m - i / 3 * 4 ≤ 4) × (e ≡ length m))
+  -- it is lent, or the rest of the letters
+  pub group_lent : {n : ℕ} → n ≡ min (length (take (length m - i / 3 * 4) (drop (i / 3 * 4) m))) 4
+      → take n (take (length m - i / 3 * 4) (drop (i / 3 * 4) m)) ≡ take 4 (drop (i / 3 * 4) m)
+  group_lent {n} e = grind (arith, common_steps)
 
-  pub lent_inside : (e : ℕ) → Lent e → (i / 3 * 4 ≤ e) × (e ≤ length m)
-  lent_inside e came =
-      ⊎_elim (λ w. (omega (arith, w.1), omega (arith, w.0, w.1))) (λ w. (omega (arith, w.1, group_inside), omega (arith, w.1))) came
-
-  pub byte_read : {e : ℕ} {out : List ℕ} → Lent e
-      → out ≡ buffer_of (decoding UrlSafe (take (e - i / 3 * 4) (drop (i / 3 * 4) m))) zeros 0 → get_or out (i % 3) 0 ≡ get_or (bytes UrlSafe m) i 0
-  byte_read {e} {out} came b =
-      ap (λ (l : List ℕ). get_or l (i % 3) 0) b
-      ∙ ap (λ (l : List ℕ). get_or (buffer_of (decoding UrlSafe l) zeros 0) (i % 3) 0) (⊎_elim lent_four lent_rest came)
-      ∙ group_read
-    where
-      lent_four : (4 < length m - i / 3 * 4) × (e ≡ i / 3 * 4 + 4) → take (e - i / 3 * 4) (drop (i / 3 * 4) m) ≡ take 4 (drop (i / 3 * 4) m)
-      lent_four w = let q : e - i / 3 * 4 ≡ 4 = omega (arith, w.1) in rw q
-
-      lent_rest : (length m - i / 3 * 4 ≤ 4) × (e ≡ length m) → take (e - i / 3 * 4) (drop (i / 3 * 4) m) ≡ take 4 (drop (i / 3 * 4) m)
-      lent_rest w =
-          take_all (e - i / 3 * 4) (drop (i / 3 * 4) m) (omega (arith, w.1, length-drop (i / 3 * 4) m))
-          ∙ sym (take_all 4 (drop (i / 3 * 4) m) (omega (arith, w.0, length-drop (i / 3 * 4) m)))
+  pub byte_read : {text out : List ℕ} → text ≡ take 4 (drop (i / 3 * 4) m)
+      → out ≡ buffer_of (decoding UrlSafe text) zeros 0 → get_or out (i % 3) 0 ≡ get_or (bytes UrlSafe m) i 0
+  byte_read {text} {out} e b =
+      ap (λ (l : List ℕ). get_or l (i % 3) 0) (b ∙ ap (λ (l : List ℕ). buffer_of (decoding UrlSafe l) zeros 0) e) ∙ group_read

@@ -1,22 +1,14 @@
 -- The fields of a payload: places of its "_", and what stands between two of them, as a name.
-use Prim.Native.Nat.{ℕ, zero, suc, ◌+◌, ◌-◌, ◌≤◌, ◌<◌, min}
-use mathlib.Core.Path.{◌≡◌, refl, sym, ap, ◌∙◌}
-use mathlib.Core.Bool.{Bool, true, false, cond}
-use mathlib.Core.List.{List, [], ◌∷◌, ◌++◌}
-use mathlib.Core.Logic.{◌⊎◌, ⊎_elim}
-use native.Mathlib.Numerals.{add-one}
-use native.Mathlib.Omega.{arith}
-use lib.Dec.{eqb}
-use lib.ListN.{length, take, drop, get_or, set, replicate, length-drop, drop_of_length-le}
-use lib.Seq.{drop-drop, take-suc, append_snoc, set_at, length-take-le, get_or-take, get_or-drop}
+use Rattle.std.proofs.lemmas.List.{set_at}
+use Rattle.std.proofs.Common.{ℕ, zero, suc, ◌+◌, ◌-◌, ◌≤◌, ◌<◌, min, ◌≡◌, refl, sym, ap, ◌∙◌, Bool, true, false, cond, List, [], ◌∷◌, ◌++◌, ◌⊎◌, ⊎_elim, add-one, arith, eqb, length, take, drop, get_or, set, replicate, length-drop, drop_of_length-le, add-zero, eq-eqb, ne_eqb, drop-cons, drop-drop, take-suc, length-take-le, get_or-take, get_or-drop}
+use lib.Seq.{append_snoc}
 use Rattle.receipt.specs.Texts.{separator}
 use Rattle.receipt.specs.Form.{first_at, next_at, part}
 use Rattle.receipt.specs.Line.{count_of}
 use Rattle.receipt.specs.Separated.{after, skip}
 use Rattle.receipt.specs.Settings.{name_of}
 use Rattle.receipt.specs.declared.settings.Name.{Name}
-use Rattle.receipt.proofs.Finding.{next_found, next_more, next_end, next_from}
-use Rattle.receipt.proofs.LineCalls.{counted, passed, count_end}
+use Rattle.receipt.proofs.Finding.{next_from}
 use Rattle.receipt.proofs.Names.{take_lesser}
 use Rattle.exports.specs.Naming.{field_of}
 use Rattle.exports.specs.Running.{PayloadPlace}
@@ -68,13 +60,38 @@ module _ (p : List ℕ) (k a : ℕ) (h : PayloadPlace p k a) where
       let n : e - a ≡ first_at separator (drop a p) = omega (arith, q) in
       ap (λ (m : ℕ). take m (drop a p)) n ∙ ap (λ (s : List ℕ). take (first_at separator s) s) h.is
 
-pub place_end : {p : List ℕ} {k i a : ℕ} → (i ≤ k) × PayloadPlace p i a → k ≤ i → PayloadPlace p k a
-place_end {p} {k} {i} {a} h l =
-    let e : i ≡ k = omega (arith, h.0) in
-    record { inside = h.1.inside; is = h.1.is ∙ ap (λ (m : ℕ). skip m p) e }
+pub place_end : {p : List ℕ} {k i a : ℕ} → PayloadPlace p i a → i ≡ k → PayloadPlace p k a
+place_end {p} {k} {i} {a} h e = record { inside = h.inside; is = h.is ∙ ap (λ (m : ℕ). skip m p) e }
 
 pub place_ordered : (p : List ℕ) (a : ℕ) {e : ℕ} → e ≡ next_at separator p a → a ≤ e
 place_ordered p a e = omega (arith, e, next_from separator p a)
+
+-- ---- a byte at a place, and none from there on
+
+module _ (b : ℕ) (s : List ℕ) (i : ℕ) where
+  next_found : i < length s → get_or s i 0 ≡ b → next_at b s i ≡ i
+  unfolding next_at first_at
+  next_found h e = rw (drop-cons s i 0 h, eq-eqb (get_or s i 0) b e) (add-zero i)
+
+  next_more : i < length s → (get_or s i 0 ≡ b → ⊥) → next_at b s i ≡ next_at b s (i + 1)
+  unfolding next_at first_at
+  next_more h n = rw (drop-cons s i 0 h, ne_eqb (get_or s i 0) b n, add-one i) (omega arith)
+
+  next_end : length s ≤ i → next_at b s i ≡ i
+  unfolding next_at first_at
+  next_end h = rw (drop_of_length-le s h) (add-zero i)
+
+  count_yes : i < length s → get_or s i 0 ≡ b → count_of b (drop i s) ≡ suc (count_of b (drop (i + 1) s))
+  unfolding count_of
+  count_yes h e = rw (drop-cons s i 0 h, eq-eqb (get_or s i 0) b e, add-one i)
+
+  count_no : i < length s → (get_or s i 0 ≡ b → ⊥) → count_of b (drop i s) ≡ count_of b (drop (i + 1) s)
+  unfolding count_of
+  count_no h n = rw (drop-cons s i 0 h, ne_eqb (get_or s i 0) b n, add-one i)
+
+  count_end : length s ≤ i → count_of b (drop i s) ≡ 0
+  unfolding count_of
+  count_end h = rw (drop_of_length-le s h)
 
 -- ---- the next "_"
 
@@ -119,8 +136,8 @@ module _ {p : List ℕ} {n count i : ℕ} (s : Counting p n count i) where
   counting_more h q came =
       record {
         long = s.long;
-        is = ⊎_elim (λ w. counted separator p i count (counting_inside h) s.is (sym q ∙ w.0) w.1)
-            (λ w. passed separator p i count (counting_inside h) s.is (λ k. w.0 (q ∙ k)) w.1) came;
+        is = ⊎_elim (λ w. (omega (arith, counting_inside h), omega (arith, s.is.1, w.1), omega (arith, s.is.2, w.1, count_yes separator p i (counting_inside h) (sym q ∙ w.0))))
+            (λ w. (omega (arith, counting_inside h), omega (arith, s.is.1, w.1), omega (arith, s.is.2, w.1, count_no separator p i (counting_inside h) (λ k. w.0 (q ∙ k))))) came;
       }
 
   pub counting_end : n ≤ i → count ≡ count_of separator p
@@ -135,9 +152,8 @@ pub record Filling (p : List ℕ) (a e n : ℕ) (b : List ℕ) (i : ℕ) : Type 
   pub few : i ≤ n
   pub is : b ≡ take i (part a e p) ++ replicate (32 - i) 0
 
-pub filling_start : (p : List ℕ) (a e n : ℕ) → a ≤ e → e ≤ length p → ((32 < e - a) × (n ≡ 32)) ⊎ ((e - a ≤ 32) × (n ≡ e - a)) → Filling p a e n (replicate 32 0) 0
-filling_start p a e n h l came =
-    record { ordered = h; inside = l; most = ⊎_elim (λ w. omega (arith, w.0, w.1)) (λ w. omega (arith, w.0, w.1)) came; few = omega arith; is = refl }
+pub filling_start : (p : List ℕ) (a e n : ℕ) → a ≤ e → e ≤ length p → n ≡ min 32 (e - a) → Filling p a e n (replicate 32 0) 0
+filling_start p a e n h l m = record { ordered = h; inside = l; most = m; few = omega arith; is = refl }
 
 module _ {p : List ℕ} {a e n : ℕ} {b : List ℕ} {i : ℕ} (f : Filling p a e n b i) where
   abbrev t : List ℕ

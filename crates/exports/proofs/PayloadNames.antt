@@ -1,14 +1,11 @@
 -- What a payload names, as its tests are asked one after the other.
-use Prim.Native.Nat.{ℕ, ◌-◌, ◌≤◌, ◌<◌}
+use Rattle.std.proofs.lemmas.List.{length-replicate, take-append-le}
 use mathlib.Core.Option.{some}
-use mathlib.Core.Path.{◌≡◌, refl, sym, ap, ◌∙◌}
-use mathlib.Core.Bool.{Bool, true, false, cond, not, and-false}
-use mathlib.Core.List.{List, [], ◌∷◌}
-use native.Mathlib.Omega.{arith}
-use borrow.Author.Tests.{eq-eqb, ne_eqb, not-true, not-false}
-use lib.Dec.{eqb}
-use lib.ListN.{length, take, drop, get_or, replicate, length-append, length-take, length-replicate, drop_of_length-le, get_or-append}
-use lib.Seq.{take-take, take-append-le, get_or-take}
+use mathlib.Core.Bool.{and-false}
+use lib.Pointwise.{pointwise}
+use Rattle.std.proofs.lemmas.Bool.Decides.{nat_tests}
+use Rattle.std.proofs.Common.{nat_eq, ℕ, ◌-◌, ◌≤◌, ◌<◌, ◌≡◌, refl, sym, ap, ◌∙◌, Bool, true, false, cond, List, [], ◌∷◌, arith, eq-eqb, ne_eqb, eqb, length, take, drop, get_or, replicate, length-append, length-take, drop_of_length-le, take-take, get_or-take}
+use lib.ListN.{get_or-append}
 use Rattle.primitives.specs.Text.{ascii}
 use Rattle.primitives.specs.Bytes.{same}
 use Rattle.primitives.proofs.ByteLists.{same_length}
@@ -21,7 +18,9 @@ use Rattle.receipt.specs.Settings.{name_of, settings_good}
 use Rattle.receipt.specs.declared.settings.Name.{Name}
 use Rattle.receipt.specs.declared.settings.Settings.{Settings}
 use Rattle.exports.specs.Naming.{field_of, settings_in, payload_names, not_named, named_by}
-use Rattle.exports.specs.declared.naming.Named.{Named}
+use Rattle.exports.specs.Naming.{Named}
+use Rattle.exports.specs.Running.{as_named}
+use Rattle.std.specs.Bool.{then_some}
 
 abbrev named_as : Settings → Named
 named_as s = record { good = true; settings = s }
@@ -62,11 +61,22 @@ unfolding same beginning ascii
 unmarked [] k = refl
 unmarked (x ∷ s) k = rw (ne_eqb x separator k)
 
+eqb_turn : (a b : ℕ) → eqb a b ≡ eqb b a
+eqb_turn a b = grind (arith, nat_tests)
+
+-- the start of an array, as the code compares it
+pub starts_same : (xs : List ℕ) → 3 ≤ length xs → pointwise nat_eq (82 ∷ 49 ∷ 45 ∷ []) (take 3 xs) ≡ same (take 3 xs) (82 ∷ 49 ∷ 45 ∷ [])
+unfolding same
+starts_same [] h = absurd (omega arith)
+starts_same (x ∷ []) h = absurd (omega arith)
+starts_same (x ∷ y ∷ []) h = absurd (omega arith)
+starts_same (x ∷ y ∷ z ∷ xs) h = rw (eqb_turn 82 x, eqb_turn 49 y, eqb_turn 45 z)
+
 -- ---- the tests, one after the other
 
 module _ (p : List ℕ) where
-  pub names_not : {r : Named} → payload_names p ≡ false → r ≡ not_named → r ≡ named_by (some p)
-  names_not e q = q ∙ sym (ap (λ (t : Bool). cond t (named_as (settings_in p)) not_named) e)
+  pub names_not : payload_names p ≡ false → not_named ≡ named_by (some p)
+  names_not e = sym (ap (λ (t : Bool). cond t (named_as (settings_in p)) not_named) e)
 
   pub names_short : {n : ℕ} → n ≡ length p → n < 4 → payload_names p ≡ false
   unfolding payload_names beginning ascii
@@ -112,11 +122,11 @@ module _ (p : List ℕ) where
           ∙ ap (λ (t : List ℕ). same t start) (sym (ap (λ (n : Name). take 3 n.bytes) e ∙ name_front (field_of 1 p) sized))
 
       module _ {r : Bool} (g : r ≡ same (take 3 first.bytes) (82 ∷ 49 ∷ 45 ∷ [])) where
-        pub names_unstarted : not r ≡ true → payload_names p ≡ false
+        pub names_unstarted : r ≡ false → payload_names p ≡ false
         unfolding payload_names
-        names_unstarted t = rw (first_starts ∙ sym g ∙ not-true r t)
+        names_unstarted t = rw (first_starts ∙ sym g ∙ t)
 
-        module _ (t : not r ≡ false) {id serial : Name} (i : id ≡ name_of (field_of 2 p)) (k : serial ≡ name_of (field_of 11 p)) where
+        module _ (t' : r ≡ true) {id serial : Name} (i : id ≡ name_of (field_of 2 p)) (k : serial ≡ name_of (field_of 11 p)) where
           abbrev found : Settings
           found = record { csp = get_or first.bytes 3 0 ∷ get_or first.bytes 4 0 ∷ get_or first.bytes 5 0 ∷ []; id = id; serial = serial }
 
@@ -134,13 +144,13 @@ module _ (p : List ℕ) where
           unfolding settings_in
           found_is = λ j. record { csp = csp_is j; id = i j; serial = k j }
 
-          module _ {v : Bool} (d : v ≡ settings_good found) where
-            pub names_bad : not v ≡ true → payload_names p ≡ false
-            unfolding payload_names
-            names_bad u = rw (sym (d ∙ ap settings_good found_is) ∙ not-true v u, and-false six, and-false twelve, and-false begins)
+          pub names_last : {count : ℕ} → count ≡ count_of separator p → count ≡ 12 → {v : Bool} → v ≡ settings_good found → as_named (then_some v found) ≡ named_by (some p)
+          unfolding payload_names
+          names_last h o {v} d = go v d
+            where
+              is : (t : Bool) → t ≡ settings_good found → payload_names p ≡ t
+              is t e = rw (first_starts ∙ sym g ∙ t', eq-eqb (count_of separator p) 12 (sym h ∙ o), eq-eqb (length (field_of 1 p)) 6 sized, sym (e ∙ ap settings_good found_is))
 
-            pub names_good : {count : ℕ} → count ≡ count_of separator p → count ≡ 12 → not v ≡ false → named_as found ≡ named_by (some p)
-            unfolding payload_names
-            names_good h o u =
-                rw (first_starts ∙ sym g ∙ not-false r t, eq-eqb (count_of separator p) 12 (sym h ∙ o), eq-eqb (length (field_of 1 p)) 6 sized, sym (d ∙ ap settings_good found_is) ∙ not-false v u)
-                (ap (λ (s : Settings). named_as s) found_is)
+              go : (t : Bool) → t ≡ settings_good found → as_named (then_some t found) ≡ named_by (some p)
+              go true e = ap (λ (s : Settings). named_as s) found_is ∙ sym (ap (λ (u : Bool). cond u (named_as (settings_in p)) not_named) (is true e))
+              go false e = sym (ap (λ (u : Bool). cond u (named_as (settings_in p)) not_named) (is false e))

@@ -1,12 +1,6 @@
 -- Compact forms and BASE64 can stand in a string as they are.
-use Prim.Native.Nat.{ℕ, ◌+◌, ◌-◌, ◌≤◌, ◌<◌}
-use mathlib.Core.Path.{◌≡◌, refl}
-use mathlib.Core.Bool.{Bool, true, false, cond}
-use mathlib.Core.List.{List, [], ◌∷◌, map}
+use Rattle.std.proofs.Common.{ℕ, ◌+◌, ◌-◌, ◌≤◌, ◌<◌, ◌≡◌, refl, Bool, true, false, cond, List, [], ◌∷◌, map, arith, le-leb, ltb-true, ltb-false, ne_eqb, ltb, eqb}
 use mathlib.Core.Option.{none, some}
-use native.Mathlib.Omega.{arith}
-use borrow.Author.Tests.{le-leb, ltb-true, ltb-false, ne_eqb}
-use lib.Dec.{ltb, eqb}
 use Rattle.primitives.specs.Bytes.{AllBytes}
 use Rattle.primitives.specs.Base64.{letter, letter62, letter63, encoding, decoding, accepted}
 use Rattle.primitives.specs.declared.base64.Alphabet.{Alphabet}

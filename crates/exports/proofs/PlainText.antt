@@ -1,9 +1,5 @@
 -- The text of an export, piece by piece, is the text of its tokens.
-use Prim.Native.Nat.{ℕ}
-use mathlib.Core.Path.{◌≡◌, refl, sym, ap, ◌∙◌}
-use mathlib.Core.Bool.{Bool, true, false, cond}
-use mathlib.Core.List.{List, [], ◌∷◌, ◌++◌, map, append_assoc}
-use lib.Dec.{eqb}
+use Rattle.std.proofs.Common.{ℕ, ◌≡◌, refl, sym, ap, ◌∙◌, Bool, true, false, cond, List, [], ◌∷◌, ◌++◌, map, append_assoc, eqb}
 use Rattle.primitives.specs.Text.{ascii}
 use Rattle.exports.specs.Text.{Token, mark, word, text_of}
 use Rattle.exports.specs.Shape.{certificate_name, issuers_name, receipts_name, group_name, array, following, string, Element, member, name_of, value_of, object, written, standard, document, plain_text}

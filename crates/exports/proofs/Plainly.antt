@@ -1,10 +1,5 @@
 -- The strings that a text spells consist of letters, and so of bytes.
-use Prim.Native.Nat.{ℕ, zero, suc, ◌<◌}
-use mathlib.Core.Path.{◌≡◌, refl, subst}
-use mathlib.Core.Bool.{true}
-use mathlib.Core.List.{List, [], ◌∷◌, ◌++◌}
-use native.Mathlib.Omega.{arith}
-use lib.ListN.{get_or}
+use Rattle.std.proofs.Common.{ℕ, zero, suc, ◌<◌, ◌≡◌, refl, subst, true, List, [], ◌∷◌, ◌++◌, arith, get_or}
 use Rattle.primitives.specs.Bytes.{AllBytes}
 use Rattle.exports.specs.Text.{Token, mark, plain, every, Inside, close, letter, escape, Tokens, end, space, sign, quoted}
 use Rattle.exports.specs.Shape.{array, following, string, Member, certificate, issuers, receipts, member, value_of, certificates_of, issuers_of, receipts_of, Element, Written, object, written, document, elements, Shape}

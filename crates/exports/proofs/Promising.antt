@@ -1,19 +1,14 @@
 -- What holds of the two calls.
-use Prim.Native.Nat.{ℕ, zero, suc, ◌+◌, ◌≤◌, ◌<◌}
-use mathlib.Core.Path.{◌≡◌, refl, sym, ap, ◌∙◌, subst}
-use mathlib.Core.Bool.{Bool, true, false, cond, not, ◌&&◌}
-use mathlib.Core.List.{List, [], ◌∷◌, map}
+use Rattle.std.proofs.lemmas.List.{length-map}
+use Rattle.std.proofs.lemmas.Bool.{lt-leb}
+use Rattle.std.proofs.Common.{ℕ, zero, suc, ◌+◌, ◌≤◌, ◌<◌, ◌≡◌, refl, sym, ap, ◌∙◌, subst, Bool, true, false, cond, not, ◌&&◌, List, [], ◌∷◌, map, arith, le-leb, leb-true, leb, length, get_or}
 use mathlib.Core.Option
 use mathlib.Core.Option.{Option, none, some}
-use native.Mathlib.Omega.{arith}
-use borrow.Author.Tests.{le-leb, lt-leb, leb-true}
-use lib.Dec.{leb}
-use lib.ListN.{length, get_or, length-map}
 use Rattle.primitives.specs.Bytes.{AllBytes}
 use Rattle.primitives.specs.Place.{overwrite, room, placed}
 use Rattle.primitives.specs.Answers.{written, answer_with, bufferWith}
 use Rattle.primitives.specs.Questions.{ask, ifZero}
-use Rattle.primitives.specs.declared.answer.Answer.{Answer}
+use Rattle.primitives.specs.Answers.{Answer}
 use Rattle.primitives.proofs.Rows.{both, true-is-not-false, ask_zero, ifZero-yes, ifZero-no}
 use Rattle.primitives.proofs.Over.{placed_room, length_placed}
 use Rattle.primitives.proofs.Laws.{writing_touches_no_other}
@@ -32,8 +27,8 @@ use Rattle.exports.specs.Groups.{Group, groups_text, group_good, groups_of}
 use Rattle.exports.specs.Writing.{element_for, elements_for, export_text, export_of, answered, exported, export_buffer}
 use Rattle.exports.specs.Reading.{element_good, has_receipt, names_register, pair_of, owner_of, journal_of_elements, survey_number, elements_number, restored_by, restored, restored_buffer, journal_by, not_read}
 use Rattle.exports.specs.Promises.{WrittenExactly, ExportIsPlain, SameCertificates, nothing, also, ReadIsExportedAgain, SameTextAgain, AnswerOfShape, ReadsAs, ReadExactly, OtherTextsGet28, RefusedExportChangesNothing, NothingAfterLength, RefusedByTakeOver}
-use Rattle.exports.specs.declared.writing.Exported.{Exported}
-use Rattle.exports.specs.declared.reading.Restored.{Restored}
+use Rattle.exports.specs.Writing.{Exported}
+use Rattle.exports.specs.Reading.{Restored}
 use Rattle.exports.proofs.Unique.{exact}
 use Rattle.exports.proofs.GroupsBack.{groups_read, groups_exactly}
 use Rattle.exports.proofs.PairsBack.{pairs_those}

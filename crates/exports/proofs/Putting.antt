@@ -1,121 +1,99 @@
 -- Laws of runs that measure or write: a run after another, the empty text, and two runs that make a whole.
-use Prim.Native.Nat.{ℕ, ◌+◌, ◌≤◌, ◌<◌}
-use mathlib.Core.Path.{◌≡◌, refl, sym, ap, ◌∙◌, subst}
-use mathlib.Core.Bool.{Bool, true, false, cond, ◌&&◌}
-use mathlib.Core.List.{List, [], ◌++◌, append_assoc}
-use native.Mathlib.Nat.{add-zero, zero-add}
-use native.Mathlib.Omega.{arith}
-use borrow.Author.Tests.{leb-true, le-leb, lt-leb, leb-false}
-use lib.Dec.{leb}
-use lib.ListN.{length, take, drop, length-append}
-use lib.Seq.{drop_at, length-take-le, take-append-le, take-take}
+use Rattle.std.proofs.lemmas.List.{length-replicate, take-append-le}
+use Rattle.std.proofs.lemmas.Bool.{lt-leb}
+use Rattle.std.proofs.Common.{ℕ, ◌+◌, ◌≤◌, ◌<◌, ◌≡◌, refl, sym, ap, ◌∙◌, subst, Bool, true, false, cond, List, [], ◌++◌, append_assoc, length, take, drop, Option, Some, None, leb, add-zero, arith, length-append, replicate, leb-true, le-leb, leb-false, drop_at, length-take-le, take-take}
+use Rattle.std.specs.Option.{option_and}
+use Rattle.std.proofs.Common.{rules}
 use Rattle.primitives.specs.Place.{overwrite, placed, room}
 use Rattle.primitives.proofs.Over.{over_nil, then, placed_room, room_true, length_placed}
 use Rattle.primitives.proofs.Rows.{true-is-not-false}
-use Rattle.exports.specs.Output.{no_room, start, moved, Puts}
-use Rattle.exports.specs.declared.output.End.{End}
+use Rattle.exports.specs.Output.{start, moved, Out, Inside, Puts, Advanced, PutsAt}
 
 -- ---- places
 
-module _ (size : ℕ) (p : End) (n : ℕ) where
-  pub moved_out : p.fits ≡ false → moved size p n ≡ no_room
-  unfolding moved
-  moved_out e = rw e
+pub moved_fits : (size at n : ℕ) → at + n ≤ size → moved size (Some at) n ≡ Some (at + n)
+unfolding moved
+moved_fits size at n h = rw (le-leb (at + n) size h)
 
-  pub moved_full : size < p.at + n → moved size p n ≡ no_room
-  unfolding moved
-  moved_full h = go p.fits
-    where
-      go : (t : Bool) → cond (t && leb (p.at + n) size) (record { fits = true; at = p.at + n }) no_room ≡ no_room
-      go true = rw (lt-leb (p.at + n) size h)
-      go false = refl
+pub moved_full : (size at n : ℕ) → size < at + n → moved size (Some at) n ≡ None
+unfolding moved
+moved_full size at n h = rw (lt-leb (at + n) size h)
 
-  pub moved_fits : p.fits ≡ true → p.at + n ≤ size → moved size p n ≡ record { fits = true; at = p.at + n }
-  unfolding moved
-  moved_fits e h = rw e (rw (le-leb (p.at + n) size h))
+-- a place further on that fits
+pub record Onward (size : ℕ) (p : Option ℕ) (n b : ℕ) : Type 0 where
+  pub from : ℕ
+  pub is : p ≡ Some from
+  pub room : from + n ≤ size
+  pub at : b ≡ from + n
 
-  -- a place further on that fits
-  pub record Onward (q : End) : Type 0 where
-    pub fits : p.fits ≡ true
-    pub room : p.at + n ≤ size
-    pub at : q.at ≡ p.at + n
-
-  pub onward : (moved size p n).fits ≡ true → Onward (moved size p n)
-  unfolding moved
-  onward = go p.fits (leb (p.at + n) size) refl refl
-    where
-      go : (s t : Bool) → p.fits ≡ s → leb (p.at + n) size ≡ t → (cond (s && t) (record { fits = true; at = p.at + n }) no_room).fits ≡ true
-          → Onward (cond (s && t) (record { fits = true; at = p.at + n }) no_room)
-      go true true a b h = record { fits = a; room = leb-true (p.at + n) size b; at = refl }
-      go true false a b h = true-is-not-false h
-      go false t a b h = true-is-not-false h
+pub onward : (size : ℕ) (p : Option ℕ) (n b : ℕ) → moved size p n ≡ Some b → Onward size p n b
+unfolding moved
+onward size None n b h = absurd (cc)
+onward size (Some at) n b h = go (leb (at + n) size) refl h
+  where
+    go : (t : Bool) → leb (at + n) size ≡ t → cond t (Some (at + n)) None ≡ Some b → Onward size (Some at) n b
+    go true e k = record { from = at; is = refl; room = leb-true (at + n) size e; at = cc }
+    go false e k = absurd (cc)
 
 -- n bytes further, and then m
-pub moved_moved : (size : ℕ) (p : End) (n m : ℕ) → moved size (moved size p n) m ≡ moved size p (n + m)
-moved_moved size p n m = go p.fits (leb (p.at + n) size) refl refl
+pub moved_moved : (size : ℕ) (p : Option ℕ) (n m : ℕ) → moved size (moved size p n) m ≡ moved size p (n + m)
+unfolding moved
+moved_moved size None n m = refl
+moved_moved size (Some at) n m = go (leb (at + n) size) refl
   where
-    go : (s t : Bool) → p.fits ≡ s → leb (p.at + n) size ≡ t → moved size (moved size p n) m ≡ moved size p (n + m)
-    go false t a b =
-        ap (λ (q : End). moved size q m) (moved_out size p n a) ∙ moved_out size no_room m refl ∙ sym (moved_out size p (n + m) a)
-    go true false a b =
-        let h : size < p.at + n = leb-false (p.at + n) size b in
-        ap (λ (q : End). moved size q m) (moved_full size p n h) ∙ moved_out size no_room m refl ∙ sym (moved_full size p (n + m) (omega (arith, h)))
-    go true true a b =
-        let h : p.at + n ≤ size = leb-true (p.at + n) size b in
-        ap (λ (q : End). moved size q m) (moved_fits size p n a h) ∙ further a h (leb (p.at + n + m) size) refl
-      where
-        further : p.fits ≡ true → p.at + n ≤ size → (u : Bool) → leb (p.at + n + m) size ≡ u
-            → moved size (record { fits = true; at = p.at + n }) m ≡ moved size p (n + m)
-        further a h false e =
-            let l : size < p.at + n + m = leb-false (p.at + n + m) size e in
-            moved_full size (record { fits = true; at = p.at + n }) m l ∙ sym (moved_full size p (n + m) (omega (arith, l)))
-        further a h true e =
-            let l : p.at + n + m ≤ size = leb-true (p.at + n + m) size e in
-            let q : p.at + n + m ≡ p.at + (n + m) = omega arith in
-            moved_fits size (record { fits = true; at = p.at + n }) m refl l
-            ∙ ap (λ (x : ℕ). record { fits = true; at = x }) q
-            ∙ sym (moved_fits size p (n + m) a (omega (arith, l)))
+    go : (t : Bool) → leb (at + n) size ≡ t → moved size (cond t (Some (at + n)) None) m ≡ moved size (Some at) (n + m)
+    go true e = let q : at + n + m ≡ at + (n + m) = omega arith in ap (λ (x : ℕ). cond (leb x size) (Some x) None) q
+    go false e = sym (moved_full size at (n + m) (omega (arith, leb-false (at + n) size e)))
+
+pub inside_moved : (size : ℕ) (p : Option ℕ) (n : ℕ) → Inside size (moved size p n)
+unfolding moved
+inside_moved size None n = search rules
+inside_moved size (Some at) n = go (leb (at + n) size) refl
+  where
+    go : (t : Bool) → leb (at + n) size ≡ t → Inside size (cond t (Some (at + n)) None)
+    go true e = leb-true (at + n) size e
+    go false e = search rules
+
+-- a place inside is where it is
+pub still : (size : ℕ) (p : Option ℕ) → Inside size p → p ≡ moved size p 0
+unfolding moved
+still size None h = refl
+still size (Some at) h = let q : at + 0 ≡ at = omega arith in sym (moved_fits size at 0 (omega (arith, h)) ∙ ap (λ (x : ℕ). Some x) q)
+
+pub moved_still : (size : ℕ) (p : Option ℕ) (n : ℕ) → moved size (moved size p n) 0 ≡ moved size p n
+moved_still size p n = moved_moved size p n 0 ∙ ap (moved size p) (add-zero n)
 
 -- ---- runs
 
+pub puts_inside : {d : Bool} {o o' : Out} {y : List ℕ} → Puts d o o' y → Inside (length o.bytes) o.at → Inside (length o'.bytes) o'.at
+puts_inside {d} {o} {o'} {y} a h = rw (a.end h, a.long) (inside_moved (length o.bytes) o.at (length y))
+
 -- a run after another
-pub puts_then : {d : Bool} {out out₁ out₂ : List ℕ} {p q r : End} {y z : List ℕ} → Puts d out out₁ p q y → Puts d out₁ out₂ q r z
-    → Puts d out out₂ p r (y ++ z)
-puts_then {d} {out} {out₁} {out₂} {p} {q} {r} {y} {z} a b = record {
-  end = b.end ∙ (λ i. moved (a.long i) (a.end i) (length z)) ∙ moved_moved (length out) p (length y) (length z)
-      ∙ ap (moved (length out) p) (sym (length-append y z));
+pub puts_then : {d : Bool} {o o₁ o₂ : Out} {y z : List ℕ} → Puts d o o₁ y → Puts d o₁ o₂ z → Puts d o o₂ (y ++ z)
+puts_then {d} {o} {o₁} {o₂} {y} {z} a b = record {
+  same = b.same ∙ a.same;
   long = b.long ∙ a.long;
-  kept = λ e. b.kept e ∙ a.kept e;
+  end = λ h.
+      b.end (puts_inside a h) ∙ (λ i. moved (a.long i) (a.end h i) (length z)) ∙ moved_moved (length o.bytes) o.at (length y) (length z)
+      ∙ ap (moved (length o.bytes) o.at) (sym (length-append y z));
   done = both;
 }
   where
-    both : d ≡ false → r.fits ≡ true → out₂ ≡ overwrite out p.at (y ++ z)
-    both e f =
-        let s : (moved (length out₁) q (length z)).fits ≡ true = sym (ap (λ (x : End). x.fits) b.end) ∙ f in
-        let g : q.fits ≡ true = (onward (length out₁) q (length z) s).fits in
-        let t : (moved (length out) p (length y)).fits ≡ true = sym (ap (λ (x : End). x.fits) a.end) ∙ g in
-        let o = onward (length out) p (length y) t in
-        then out y z p.at q.at (a.done e g) (b.done e f) (ap (λ (x : End). x.at) a.end ∙ o.at) o.room
+    both : d ≡ true → (at end : ℕ) → Inside (length o.bytes) o.at → o.at ≡ Some at → o₂.at ≡ Some end → o₂.bytes ≡ overwrite o.bytes at (y ++ z)
+    both e at end h p q =
+        let k = puts_inside a h in
+        let s = onward (length o₁.bytes) o₁.at (length z) end (sym (b.end k) ∙ q) in
+        let t = onward (length o.bytes) o.at (length y) s.from (sym (a.end h) ∙ s.is) in
+        let f : t.from ≡ at = let u : Some t.from ≡ Some at = sym t.is ∙ p in cc in
+        then o.bytes y z at s.from (a.done e at s.from h p s.is) (b.done e s.from end k s.is q) (t.at ∙ ap (λ (x : ℕ). x + length y) f) (omega (arith, t.room, f))
 
 -- the text by another name
-pub puts_is : {d : Bool} {out out' : List ℕ} {p r : End} {y z : List ℕ} → y ≡ z → Puts d out out' p r y → Puts d out out' p r z
-puts_is {d} {out} {out'} {p} {r} e a = subst (Puts d out out' p r) e a
+pub puts_is : {d : Bool} {o o' : Out} {y z : List ℕ} → y ≡ z → Puts d o o' y → Puts d o o' z
+puts_is {d} {o} {o'} e a = subst (Puts d o o') e a
 
--- nothing, from a place to the same place where it fits
-pub puts_nothing : (d : Bool) (out : List ℕ) (p : End) → Puts d out out p (moved (length out) p 0) []
-puts_nothing d out p = record { end = refl; long = refl; kept = λ e. refl; done = λ e f. sym (over_nil out p.at) }
-
--- a place that is the end of a run stays where it is
-pub moved_still : (size : ℕ) (p : End) (n : ℕ) → moved size (moved size p n) 0 ≡ moved size p n
-moved_still size p n = moved_moved size p n 0 ∙ ap (moved size p) (add-zero n)
-
-pub puts_still : {d : Bool} {out out' : List ℕ} {p r : End} {y : List ℕ} → Puts d out out' p r y → Puts d out' out' r r []
-puts_still {d} {out} {out'} {p} {r} {y} a = record {
-  end = a.end ∙ sym (moved_still (length out) p (length y)) ∙ sym (λ i. moved (a.long i) (a.end i) 0);
-  long = refl;
-  kept = λ e. refl;
-  done = λ e f. sym (over_nil out' r.at);
-}
+-- nothing
+pub puts_nothing : (d : Bool) (o : Out) → Puts d o o []
+puts_nothing d o = record { same = refl; long = refl; end = λ h. still (length o.bytes) o.at h; done = λ e a b h p q. sym (over_nil o.bytes a) }
 
 -- ---- a text whose start is written last
 
@@ -145,76 +123,154 @@ over_before xs at ys zs h =
     e = omega (arith, length-append ys zs)
 
 -- n bytes are left out, what comes after them is written, and then they are
-pub puts_before : {out out₁ out₂ : List ℕ} {p b q r : End} {y z : List ℕ} (n : ℕ) → length y ≡ n → b ≡ moved (length out) p n → Puts false out out₁ b r z → Puts false out₁ out₂ p q y
-    → Puts false out out₂ p r (y ++ z)
-puts_before {out} {out₁} {out₂} {p} {b} {q} {r} {y} {z} n l m u v = record {
-  end = u.end ∙ ap (λ (x : End). moved (length out) x (length z)) m ∙ moved_moved (length out) p n (length z) ∙ ap (moved (length out) p) long;
-  long = v.long ∙ u.long;
-  kept = λ e. true-is-not-false e;
-  done = λ e f. both f;
+pub puts_before : {o o₁ o₂ o₃ : Out} {y z : List ℕ} (n : ℕ) → length y ≡ n → o₁ ≡ record { lent = o.lent; bytes = o.bytes; at = moved (length o.bytes) o.at n }
+    → Puts true o₁ o₂ z → PutsAt o.at o₂ o₃ y → Puts true o o₃ (y ++ z)
+puts_before {o} {o₁} {o₂} {o₃} {y} {z} n l m u v = record {
+  same = v.same ∙ u.same ∙ ap (λ (x : Out). x.lent) m;
+  long = v.long ∙ long;
+  end = λ h. v.at ∙ end;
+  done = λ e a b h p q. both a b p (sym v.at ∙ q);
 }
   where
-    long : n + length z ≡ length (y ++ z)
-    long = omega (arith, l, length-append y z)
+    bytes : o₁.bytes ≡ o.bytes
+    bytes = ap (λ (x : Out). x.bytes) m
 
-    both : r.fits ≡ true → out₂ ≡ overwrite out p.at (y ++ z)
-    both f =
-        let g : b.fits ≡ true = (onward (length out) b (length z) (sym (ap (λ (x : End). x.fits) u.end) ∙ f)).fits in
-        let o = onward (length out) p n (sym (ap (λ (x : End). x.fits) m) ∙ g) in
-        let room : p.at + length y ≤ length out = omega (arith, l, o.room) in
-        let at : b.at ≡ p.at + length y = omega (arith, l, ap (λ (x : End). x.at) m ∙ o.at) in
-        let fits : q.fits ≡ true = ap (λ (x : End). x.fits) (v.end ∙ moved_fits (length out₁) p (length y) o.fits (omega (arith, room, u.long))) in
-        v.done refl fits ∙ ap (λ (k : List ℕ). overwrite k p.at y) (u.done refl f ∙ ap (λ (k : ℕ). overwrite out k z) at) ∙ over_before out p.at y z room
+    size : length o₁.bytes ≡ length o.bytes
+    size = ap length bytes
+
+    long : length o₂.bytes ≡ length o.bytes
+    long = u.long ∙ size
+
+    at : o₁.at ≡ moved (length o.bytes) o.at n
+    at = ap (λ (x : Out). x.at) m
+
+    inner : Inside (length o₁.bytes) o₁.at
+    inner = rw (at, size) (inside_moved (length o.bytes) o.at n)
+
+    sum : n + length z ≡ length (y ++ z)
+    sum = omega (arith, l, length-append y z)
+
+    end : o₂.at ≡ moved (length o.bytes) o.at (length (y ++ z))
+    end = u.end inner ∙ (λ i. moved (size i) (at i) (length z)) ∙ moved_moved (length o.bytes) o.at n (length z) ∙ ap (moved (length o.bytes) o.at) sum
+
+    both : (a b : ℕ) → o.at ≡ Some a → o₂.at ≡ Some b → o₃.bytes ≡ overwrite o.bytes a (y ++ z)
+    both a b p q =
+        let s = onward (length o₁.bytes) o₁.at (length z) b (sym (u.end inner) ∙ q) in
+        let t = onward (length o.bytes) o.at n s.from (sym at ∙ s.is) in
+        let f : t.from ≡ a = let w : Some t.from ≡ Some a = sym t.is ∙ p in cc in
+        let k : s.from ≡ a + length y = omega (arith, t.at, f, l) in
+        let r : a + length y ≤ length o.bytes = omega (arith, t.room, f, l) in
+        v.done a p (omega (arith, r, long))
+        ∙ ap (λ (x : List ℕ). overwrite x a y) (u.done refl s.from b inner s.is q ∙ (λ i. overwrite (bytes i) (k i) z))
+        ∙ over_before o.bytes a y z r
 
 -- ---- two runs: the first measures, the second writes
 
-pub record Whole (out out' : List ℕ) (r : End) (y : List ℕ) : Type 0 where
+pub record Whole (out out' : List ℕ) (n : ℕ) (y : List ℕ) : Type 0 where
   pub room : room out 0 y ≡ true
-  pub at : r.at ≡ length y
+  pub at : n ≡ length y
   pub is : out' ≡ overwrite out 0 y
 
-pub two_runs : {out out₁ out₂ : List ℕ} {r s : End} {y : List ℕ} → Puts true out out₁ start r y → r.fits ≡ true → Puts false out₁ out₂ start s y
-    → Whole out out₂ r y
-two_runs {out} {out₁} {out₂} {r} {s} {y} a f b =
-    let t : (moved (length out) start (length y)).fits ≡ true = sym (ap (λ (x : End). x.fits) a.end) ∙ f in
-    let o = onward (length out) start (length y) t in
-    let same : s ≡ r = b.end ∙ (λ i. moved (a.long i) start (length y)) ∙ sym a.end in
+-- what both begin with
+pub record Begins (size : ℕ) (o : Out) : Type 0 where
+  pub long : length o.bytes ≡ size
+  pub at : o.at ≡ start
+
+pub measure_begins : {size : ℕ} {o : Out} → o ≡ record { lent = 0; bytes = replicate size 0; at = Some 0 } → Begins size o
+measure_begins {size} e = record { long = ap (λ (x : Out). length x.bytes) e ∙ length-replicate {A = ℕ} size 0; at = ap (λ (x : Out). x.at) e }
+
+begins_inside : {size : ℕ} {o : Out} → Begins size o → Inside (length o.bytes) o.at
+begins_inside b = rw b.at (omega arith)
+
+pub two_runs : {d : Bool} {o o₁ w w₁ : Out} {n : ℕ} {y : List ℕ} → Begins (length w.bytes) o → Puts d o o₁ y → o₁.at ≡ Some n → w.at ≡ start → Puts true w w₁ y → Whole w.bytes w₁.bytes n y
+two_runs {d} {o} {o₁} {w} {w₁} {n} {y} b a f g c =
+    let t : Onward (length w.bytes) start (length y) n = onward (length w.bytes) start (length y) n (sym (a.end (begins_inside b) ∙ (λ i. moved (b.long i) (b.at i) (length y))) ∙ f) in
+    let z : t.from ≡ 0 = let u : Some t.from ≡ Some 0 = sym t.is in cc in
+    let k : Inside (length w.bytes) w.at = rw g (omega arith) in
+    let r : 0 + length y ≤ length w.bytes = omega (arith, t.room, z) in
     record {
-      room = room_true out 0 y o.room;
-      at = ap (λ (x : End). x.at) a.end ∙ o.at ∙ zero-add (length y);
-      is = b.done refl (ap (λ (x : End). x.fits) same ∙ f) ∙ ap (λ (l : List ℕ). overwrite l 0 y) (a.kept refl);
+      room = room_true w.bytes 0 y r;
+      at = omega (arith, t.at, z);
+      is = c.done refl 0 (0 + length y) k g (c.end k ∙ ap (λ (p : Option ℕ). moved (length w.bytes) p (length y)) g ∙ moved_fits (length w.bytes) 0 (length y) r);
     }
 
 -- a run that does not fit
-pub no_run : {d : Bool} {out out₁ : List ℕ} {r : End} {y : List ℕ} → Puts d out out₁ start r y → r.fits ≡ false → room out 0 y ≡ false
+pub no_run : {d : Bool} {o o₁ : Out} (out : List ℕ) {y : List ℕ} → Begins (length out) o → Puts d o o₁ y → o₁.at ≡ None → room out 0 y ≡ false
 unfolding room
-no_run {d} {out} {out₁} {r} {y} a f = go (leb (0 + length y) (length out)) refl
+no_run {d} {o} {o₁} out {y} b a f = go (leb (0 + length y) (length out)) refl
   where
     go : (t : Bool) → leb (0 + length y) (length out) ≡ t → t ≡ false
     go false e = refl
-    go true e = sym (ap (λ (x : End). x.fits) (a.end ∙ moved_fits (length out) start (length y) refl (leb-true (0 + length y) (length out) e))) ∙ f
+    go true e =
+        let h : Some (0 + length y) ≡ None =
+        sym (a.end (begins_inside b) ∙ (λ i. moved (b.long i) (b.at i) (length y)) ∙ moved_fits (length out) 0 (length y) (leb-true (0 + length y) (length out) e)) ∙ f in
+        absurd (cc)
 
--- ---- what one writer writes
+-- ---- what one writer writes, or one measure measures
 
-module _ (out : List ℕ) (p r : End) (y : List ℕ) (n : ℕ) (l : length y ≡ n) (e : r ≡ moved (length out) p n) where
-  end_is : r ≡ moved (length out) p (length y)
-  end_is = e ∙ ap (moved (length out) p) (sym l)
+pub advanced_room : {n : ℕ} {o o' : Out} {at : ℕ} → Advanced n o o' (Some at) → at + n ≤ length o'.bytes
+advanced_room {n} {o} {o'} {at} k = go o'.at refl
+  where
+    go : (q : Option ℕ) → o'.at ≡ q → at + n ≤ length o'.bytes
+    go None e = let z : Some at ≡ None = k.there ∙ ap (λ (x : Option ℕ). option_and x o.at) e in absurd (cc)
+    go (Some b) e =
+        let f = onward (length o.bytes) o.at n b (sym (ap (λ (x : Out). x.at) k.moves) ∙ e) in
+        let z : Some at ≡ Some f.from = k.there ∙ (λ i. option_and (e i) (f.is i)) in
+        let u : at ≡ f.from = cc in
+        omega (arith, f.room, u, ap (λ (x : Out). length x.bytes) k.moves)
 
-  -- only measured
-  pub put_dry : (d : Bool) → d ≡ true → Puts d out out p r y
-  put_dry d h = record { end = end_is; long = refl; kept = λ k. refl; done = λ k f. true-is-not-false (sym k ∙ h) }
+module _ (o : Out) (y : List ℕ) {n : ℕ} (l : length y ≡ n) where
+  moves : {o' : Out} → o' ≡ record { lent = o.lent; bytes = o.bytes; at = moved (length o.bytes) o.at n } → o'.at ≡ moved (length o.bytes) o.at (length y)
+  moves e = ap (λ (x : Out). x.at) e ∙ ap (moved (length o.bytes) o.at) (sym l)
+
+  pub only_measured : {o' : Out} → o' ≡ record { lent = o.lent; bytes = o.bytes; at = moved (length o.bytes) o.at n } → Puts false o o' y
+  only_measured e = record {
+    same = ap (λ (x : Out). x.lent) e;
+    long = ap (λ (x : Out). length x.bytes) e;
+    end = λ h. moves e;
+    done = λ t a b h p q. true-is-not-false t;
+  }
 
   -- no room
-  pub put_none : (d : Bool) → r.fits ≡ false → Puts d out out p r y
-  put_none d h = record { end = end_is; long = refl; kept = λ k. refl; done = λ k f. true-is-not-false (sym h ∙ f) }
+  pub left_out : {o' : Out} → Advanced n o o' None → Puts true o o' y
+  left_out {o'} k = record {
+    same = ap (λ (x : Out). x.lent) k.moves;
+    long = ap (λ (x : Out). length x.bytes) k.moves;
+    end = λ h. moves k.moves;
+    done = λ t a b h p q. let z : None ≡ Some a = k.there ∙ (λ i. option_and (q i) (p i)) in absurd (cc);
+  }
 
   -- written
-  pub put_done : (d : Bool) {out' : List ℕ} → d ≡ false → r.fits ≡ true → out' ≡ placed out p.at y → Puts d out out' p r y
-  put_done d {out'} h f w =
-      let t : (moved (length out) p (length y)).fits ≡ true = sym (ap (λ (x : End). x.fits) end_is) ∙ f in
-      record {
-        end = end_is;
-        long = ap length w ∙ length_placed out p.at y;
-        kept = λ k. true-is-not-false (sym h ∙ k);
-        done = λ k g. w ∙ placed_room out p.at y (onward (length out) p (length y) t).room;
-      }
+  pub put_done : {o₁ : Out} {at : ℕ} {out : List ℕ} → Advanced n o o₁ (Some at) → out ≡ placed o₁.bytes at y → Puts true o (record { lent = o₁.lent; bytes = out; at = o₁.at }) y
+  put_done {o₁} {at} {out} k e = record {
+    same = ap (λ (x : Out). x.lent) k.moves;
+    long = ap length is ∙ length_placed o.bytes at y;
+    end = λ h. moves k.moves;
+    done = λ t a b h p q.
+        let f = onward (length o.bytes) o.at n b (sym (ap (λ (x : Out). x.at) k.moves) ∙ q) in
+        let z : Some at ≡ Some a = k.there ∙ (λ i. option_and (q i) (p i)) in
+        let u : at ≡ a = cc in
+        let w : Some f.from ≡ Some a = sym f.is ∙ p in
+        let v : f.from ≡ a = cc in
+        is ∙ placed_room o.bytes at y (omega (arith, f.room, u, v, l)) ∙ ap (λ (x : ℕ). overwrite o.bytes x y) u;
+  }
+    where
+      is : out ≡ placed o.bytes at y
+      is = e ∙ ap (λ (x : Out). placed x.bytes at y) k.moves
+
+pub put_at : {p : Option ℕ} {o : Out} {y out : List ℕ} {at : ℕ} → p ≡ Some at → out ≡ placed o.bytes at y → PutsAt p o (record { lent = o.lent; bytes = out; at = o.at }) y
+put_at {p} {o} {y} {out} {at} g e = record {
+  same = refl;
+  at = refl;
+  long = ap length e ∙ length_placed o.bytes at y;
+  done = λ a k h.
+      let w : Some at ≡ Some a = sym g ∙ k in
+      let u : at ≡ a = cc in
+      e ∙ placed_room o.bytes at y (omega (arith, h, u)) ∙ ap (λ (x : ℕ). overwrite o.bytes x y) u;
+}
+
+pub measured_is : (room : ℕ) (p : Option ℕ) {q : Option ℕ} (n : ℕ) → q ≡ moved room p n
+    → ◌≡◌ {A = Out} (record { lent = 0; bytes = replicate room 0; at = q }) (record { lent = 0; bytes = replicate room 0; at = moved (length {A = ℕ} (replicate room 0)) p n })
+measured_is room p {q} n e =
+    let l : room ≡ length {A = ℕ} (replicate room 0) = omega (arith, length-replicate {A = ℕ} room 0) in
+    ap (λ (x : Option ℕ). record { lent = 0; bytes = replicate room 0; at = x }) (e ∙ ap (λ (k : ℕ). moved k p n) l)

@@ -1,30 +1,23 @@
 -- The letters of a string, four by four.
-use mathlib.Core.Path.{◌≡◌, refl, sym, ap, ◌∙◌}
-use mathlib.Core.Bool.{Bool, true, false, cond, ◌&&◌}
-use mathlib.Core.List.{List, [], ◌∷◌, ◌++◌, append_assoc, append-nil}
-use Prim.Native.Nat.{ℕ, zero, suc, ◌+◌, ◌-◌, ◌<◌, ◌≤◌}
-use native.Mathlib.Omega.{arith}
-use native.Mathlib.Numerals.{add-one}
-use borrow.Author.Tests.{eq-eqb, ne_eqb}
-use lib.Dec.{eqb, eqb-suc-zero}
-use lib.ListN.{length, take, drop, get_or, set, replicate, length-set}
-use lib.Seq.{take_all, take-suc-set, length-take-le}
+use Rattle.std.proofs.Common.{◌≡◌, refl, sym, ap, ◌∙◌, Bool, true, false, cond, ◌&&◌, List, [], ◌∷◌, ◌++◌, append-nil, ℕ, zero, suc, ◌+◌, ◌-◌, ◌<◌, ◌≤◌, arith, eq-eqb, ne_eqb, eqb, length, take, drop, get_or, replicate, take_all, length-take-le}
+use lib.Dec.{eqb-suc-zero}
 use Rattle.primitives.specs.Base64.{accepted}
 use Rattle.primitives.specs.declared.base64.Alphabet.TheVariants.{Standard}
 use Rattle.exports.specs.Text.{Token, every}
 use Rattle.exports.specs.Lexer.{content}
 use Rattle.exports.specs.Shape.{string, strings}
-use Rattle.exports.specs.Places.{from, LettersAt, LetterRead, PartRead, Followed}
+use Rattle.exports.specs.Places.{from, LettersAt, Absent, Quotes, Followed}
 use Rattle.exports.specs.Spelled.{is_empty}
 use Rattle.exports.specs.Reading.{canonical}
 use Rattle.exports.specs.Passing.{QuadRead}
 use Rattle.exports.specs.declared.walk.Cursor.{Cursor}
-use Rattle.exports.specs.declared.strings.Letter.{Letter}
-use Rattle.exports.specs.declared.strings.Part.{Part}
+use Rattle.exports.specs.declared.walk.Cursor.TheVariants.{Item}
+use Rattle.exports.specs.declared.lexer.Part.{Part}
 use Rattle.exports.specs.declared.certificates.Quad.{Quad}
 use Rattle.exports.proofs.Lexing.{letters_inside}
+use Rattle.exports.proofs.Tokening.{read_word, word_there}
 use Rattle.exports.proofs.Canonical.{by_fours, none_canonical, few_not}
-use Rattle.exports.proofs.Passing.{Passing, pass_out, pass_more, pass_end, every_no, every_yes, every_all}
+use Rattle.exports.proofs.Passing.{Passing, NoItem, pass_out, pass_more, pass_end, every_no, every_yes, every_all}
 
 -- ---- the first i of four letters
 
@@ -37,45 +30,6 @@ pub record Filling (text : List ℕ) (at : ℕ) (bytes : List ℕ) (next i : ℕ
 
 pub fill_start : (text : List ℕ) (at : ℕ) → LettersAt text at → Filling text at (replicate 4 0) at 0
 fill_start text at l = record { few = omega arith; four = refl; is = refl; onward = omega arith; letters = l }
-
-module _ {text : List ℕ} {at : ℕ} {bytes : List ℕ} {next i : ℕ} (f : Filling text at bytes next i) where
-  pub fill_more : {l : Letter} → LetterRead text next l → l.some ≡ true → i < 4 → Filling text at (set bytes i l.byte) l.next (i + 1)
-  fill_more {l} r e h =
-      let m = r.more e in
-      let k : i < length bytes = omega (arith, f.four) in
-      record {
-        few = omega arith;
-        four = length-set bytes i l.byte ∙ f.four;
-        is = f.is
-            ∙ ap (λ (x : List ℕ). take i bytes ++ x) m.2
-            ∙ sym (append_assoc (take i bytes) (l.byte ∷ []) (content (drop l.next text) 0))
-            ∙ ap (λ (x : List ℕ). x ++ content (drop l.next text) 0) (sym (ap (λ (n : ℕ). take n (set bytes i l.byte)) (add-one i) ∙ take-suc-set bytes i l.byte k));
-        onward = omega (arith, f.onward, m.0);
-        letters = m.1;
-      }
-
-  pub fill_few : {l : Letter} → LetterRead text next l → l.some ≡ false → QuadRead text at (record { count = i; bytes = bytes; next = next })
-  fill_few r e =
-      record {
-        few = f.few;
-        four = f.four;
-        is = f.is;
-        ended = λ h. r.ended e;
-        onward = λ h. omega (arith, f.onward);
-        letters = f.letters;
-      }
-
-  pub fill_all : 4 ≤ i → QuadRead text at (record { count = 4; bytes = bytes; next = next })
-  fill_all h =
-      let e : i ≡ 4 = omega (arith, f.few) in
-      record {
-        few = omega arith;
-        four = f.four;
-        is = f.is ∙ ap (λ (n : ℕ). take n bytes ++ content (drop next text) 0) e;
-        ended = λ k. absurd (omega arith);
-        onward = λ k. omega (arith, f.onward);
-        letters = f.letters;
-      }
 
 -- ---- what four letters decide
 
@@ -148,29 +102,26 @@ module _ {text : List ℕ} {start at : ℕ} {q : Quad} (k : Quads text start at 
 
 -- ---- certificates
 
-module _ {text : List ℕ} {at : ℕ} {p : Part} (i : PartRead text at p) where
-  pub no_certificate : p.next ≡ 0 → (w : List ℕ) (r : List Token) → from text at ≡ string w ++ r → false ≡ canonical w
-  no_certificate z w r q = absurd (omega (arith, (i.reads.complete w r q).0))
+pub no_certificate : {text : List ℕ} {at : ℕ} → Absent string text at → (w : List ℕ) (r : List Token) → from text at ≡ string w ++ r → false ≡ canonical w
+no_certificate a w r q = absurd (a.none w r q)
 
-  pub above : (p.next ≡ 0 → ⊥) → LettersAt text p.start
-  above z = i.good (omega (arith, z))
+module _ {text : List ℕ} {at : ℕ} {p : Part} (i : Quotes text at p) where
+  pub letters_there : LettersAt text p.start
+  letters_there = record { good = i.lying.good }
 
   pub certificate_is : {b : Bool} → b ≡ canonical (content (drop p.start text) 0) → (w : List ℕ) (r : List Token) → from text at ≡ string w ++ r → b ≡ canonical w
-  certificate_is e w r q = e ∙ ap canonical (sym (i.is w r q))
+  certificate_is e w r q = e ∙ ap canonical (word_there i q).0
 
 abbrev pub Issuers : List ℕ → ℕ → Cursor → Type 0
 Issuers text at c = Passing string (every canonical) (every canonical) text at c
 
-module _ {text : List ℕ} {at : ℕ} {c : Cursor} {p : Part} (k : Issuers text at c) (e : c.more ≡ true) (i : PartRead text c.at p) where
-  pub issuers_none : p.next ≡ 0 → (ws : List (List ℕ)) (r : List Token) → from text at ≡ strings ws ++ r → false ≡ every canonical ws
-  issuers_none z = pass_out string k e false (λ x xs r q. absurd (omega (arith, (i.reads.complete x r q).0)))
-
-  module _ {b : Bool} (h : b ≡ canonical (content (drop p.start text) 0)) where
+module _ {text : List ℕ} {at p : ℕ} {c : Cursor} (k : Issuers text at c) (e : c ≡ Item p) where
+  module _ {s : Part} (i : Quotes text p s) {b : Bool} (h : b ≡ canonical (content (drop s.start text) 0)) where
     pub issuers_bad : b ≡ false → (ws : List (List ℕ)) (r : List Token) → from text at ≡ strings ws ++ r → false ≡ every canonical ws
     issuers_bad f = pass_out string k e false (λ x xs r q. every_no canonical x xs (sym (certificate_is i h x r q) ∙ f))
 
-    pub issuers_more : {d : Cursor} → b ≡ true → Followed text p.next d → Issuers text at d
-    issuers_more t f = pass_more string k e (every canonical) (λ x xs r q. every_yes canonical x xs (sym (certificate_is i h x r q) ∙ t)) i.reads f
+    pub issuers_more : (d : Cursor) → b ≡ true → Followed text s.next d → Issuers text at d
+    issuers_more d t f = pass_more string k e (read_word i) d f (every canonical) (λ x xs r q. every_yes canonical x xs (sym (certificate_is i h x r q) ∙ t))
 
-pub issuers_end : {text : List ℕ} {at : ℕ} {c : Cursor} → Issuers text at c → c.more ≡ false → (ws : List (List ℕ)) (r : List Token) → from text at ≡ strings ws ++ r → true ≡ every canonical ws
-issuers_end k e ws r q = sym (every_all canonical) ∙ pass_end string k e ws r q
+pub issuers_end : {text : List ℕ} {at : ℕ} {c : Cursor} → Issuers text at c → NoItem c → (ws : List (List ℕ)) (r : List Token) → from text at ≡ strings ws ++ r → true ≡ every canonical ws
+issuers_end k n ws r q = sym (every_all canonical) ∙ (pass_end string k n ws r q).0

@@ -1,22 +1,15 @@
 -- An export is read back into the journal that it was written from.
-use Prim.Native.Nat.{ℕ, zero, suc, ◌+◌, ◌≤◌, ◌<◌}
-use mathlib.Core.Path.{◌≡◌, refl, sym, ap, ◌∙◌, subst}
-use mathlib.Core.Bool.{Bool, true, false, cond}
-use mathlib.Core.List.{List, [], ◌∷◌, ◌++◌, map}
+use Rattle.std.proofs.lemmas.List.{length-map}
+use Rattle.std.proofs.Common.{ℕ, zero, suc, ◌+◌, ◌≤◌, ◌<◌, ◌≡◌, refl, sym, ap, ◌∙◌, subst, Bool, true, false, cond, List, [], ◌∷◌, ◌++◌, map, arith, le-leb, leb-true, leb, length, take, drop, take_at, drop_at}
 use mathlib.Core.Option
 use mathlib.Core.Option.{Option, none, some}
-use native.Mathlib.Omega.{arith}
-use borrow.Author.Tests.{le-leb, leb-true}
-use lib.Dec.{leb}
-use lib.ListN.{length, take, drop, length-map}
-use lib.Seq.{take_at, drop_at}
 use Rattle.primitives.specs.Bytes.{AllBytes}
 use Rattle.primitives.specs.Number.{bytes_of}
 use Rattle.primitives.specs.Place.{overwrite, room, placed}
 use Rattle.primitives.specs.Answers.{written, answer_with, bufferWith}
 use Rattle.primitives.specs.Questions.{ask}
 use Rattle.primitives.specs.declared.base64.Alphabet.TheVariants.{Standard}
-use Rattle.primitives.specs.declared.answer.Answer.{Answer}
+use Rattle.primitives.specs.Answers.{Answer}
 use Rattle.primitives.proofs.Rows.{true-is-not-false, ifZero-yes, ifZero-no}
 use Rattle.primitives.proofs.ByteLists.{bytes_take, bytes_drop}
 use Rattle.receipt.specs.Settings.{TypedSettings, settings_good}
@@ -42,9 +35,9 @@ use Rattle.exports.specs.Naming.{named}
 use Rattle.exports.specs.Writing.{in_base64, element_for, elements_for, export_text, export_of, answered, not_written, exported, export_buffer}
 use Rattle.exports.specs.Reading.{canonical, element_good, has_receipt, settings_of, names_register, owner_of, pair_of, journal_of_elements, survey_number, elements_number, restored_by, restored, restored_buffer, journal_by}
 use Rattle.exports.specs.Promises.{has_text, ExportReadsBack}
-use Rattle.exports.specs.declared.naming.Named.{Named}
-use Rattle.exports.specs.declared.writing.Exported.{Exported}
-use Rattle.exports.specs.declared.reading.Restored.{Restored}
+use Rattle.exports.specs.Naming.{Named}
+use Rattle.exports.specs.Writing.{Exported}
+use Rattle.exports.specs.Reading.{Restored}
 use Rattle.exports.proofs.Sized.{every_nil, every_one, every_head, every_tail}
 use Rattle.exports.proofs.NamedBack.{named_back}
 use Rattle.exports.proofs.PlainLetters.{plain_encoding, plain_compact, plain_each, canonical_encoding}

@@ -1,13 +1,6 @@
 -- Which numbers reading an export can give.
-use Prim.Native.Nat.{ℕ, zero, suc, ◌<◌}
-use mathlib.Core.Path.{◌≡◌, refl, sym, ap, ◌∙◌}
-use mathlib.Core.Bool.{Bool, true, false, cond}
-use mathlib.Core.List.{List, [], ◌∷◌, map}
+use Rattle.std.proofs.Common.{ℕ, zero, suc, ◌<◌, ◌≡◌, refl, sym, ap, ◌∙◌, Bool, true, false, cond, List, [], ◌∷◌, map, arith, ne_eqb, leb, length}
 use mathlib.Core.Option.{Option, none, some}
-use native.Mathlib.Omega.{arith}
-use borrow.Author.Tests.{ne_eqb}
-use lib.Dec.{leb}
-use lib.ListN.{length}
 use Rattle.primitives.specs.Counter.{width_good}
 use Rattle.primitives.specs.Aes.{key_schedule}
 use Rattle.primitives.specs.Questions.{ask, ifZero}
@@ -30,7 +23,7 @@ use Rattle.exports.specs.TakenOver.{GoodParts, parts_taken}
 use Rattle.exports.specs.Reading.{pair_of, owner_of, journal_of_elements, survey_number, elements_number, restored_by, restored, not_read}
 use Rattle.exports.specs.Promises.{among, NumbersOfReading}
 use Rattle.journal.specs.declared.checking.Step.{Step}
-use Rattle.exports.specs.declared.reading.Restored.{Restored}
+use Rattle.exports.specs.Reading.{Restored}
 use Rattle.exports.proofs.TakenAsSpelled.{read_is_taken_over}
 use Rattle.exports.proofs.ElementsTaken.{Surveyed, owner_parts}
 use Rattle.exports.proofs.Promising.{asked_survey}

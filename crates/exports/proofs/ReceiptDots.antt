@@ -1,22 +1,15 @@
--- What a receipt names, as the code looks for its dots.
-use Prim.Native.Nat.{ℕ, suc, ◌+◌, ◌≤◌, ◌<◌}
-use mathlib.Core.Path.{◌≡◌, refl, sym, ap, ◌∙◌}
-use mathlib.Core.Bool.{Bool, true, false, cond, not}
-use mathlib.Core.List.{List, [], ◌∷◌}
+-- What a receipt names, as the code splits it at its dots.
+use Rattle.std.proofs.Common.{ℕ, suc, ◌+◌, ◌-◌, ◌≤◌, ◌<◌, ◌≡◌, refl, sym, ap, ◌∙◌, Bool, true, false, cond, not, ◌||◌, List, [], ◌∷◌, length, take, drop, nat_eq, nat_lt, Some, None, eq-eqb, add-one, arith, length-drop, ne_eqb, ltb-true, ltb-false, take_all, eqb}
+use Rattle.std.specs.List.{position, position_or_len, list_any}
 use mathlib.Core.Option.{none, some}
-use native.Mathlib.Omega.{arith}
-use borrow.Author.Tests.{eq-eqb, ne_eqb, not-true, not-false}
-use lib.Dec.{eqb}
-use lib.ListN.{length, drop, length-drop}
-use lib.Seq.{drop-drop}
 use Rattle.primitives.specs.Base64.{bytes, accepted, decoding}
 use Rattle.primitives.specs.declared.base64.Alphabet.TheVariants.{UrlSafe}
+use Rattle.primitives.proofs.Rows.{true-is-not-false}
 use Rattle.receipt.specs.Texts.{dot}
-use Rattle.receipt.specs.Form.{first_at, next_at, part}
+use Rattle.receipt.specs.Form.{first_at, next_at}
 use Rattle.receipt.specs.Line.{count_of}
-use Rattle.receipt.proofs.Finding.{next_from}
-use Rattle.exports.specs.Naming.{middle, not_named, named_by, named}
-use Rattle.exports.specs.declared.naming.Named.{Named}
+use Rattle.exports.specs.Naming.{Named, middle, not_named, named_by, named}
+use Rattle.exports.specs.Running.{SplitAtDot}
 use Rattle.exports.proofs.PayloadLetters.{decoding_is}
 
 -- ---- counting from one to the next
@@ -41,71 +34,111 @@ module _ (b : ℕ) where
       go f true k = absurd (omega arith)
       go f false k = f (omega arith)
 
--- what the search for a dot says
-abbrev Next : List ℕ → ℕ → ℕ → Type 0
-Next w from a = (a ≡ next_at dot w from) × (a ≤ length w)
+-- ---- the search for a dot
 
-module _ (w : List ℕ) (from a : ℕ) (l : from ≤ length w) (e : Next w from a) where
-  dots_none : a ≡ length w → count_of dot (drop from w) ≡ 0
-  unfolding next_at
-  dots_none n = count_last dot (drop from w) (omega (arith, e.0, n, length-drop from w))
+abbrev is_dot : ℕ → Bool
+is_dot b = nat_eq b 46
 
-  dots_more : (a ≡ length w → ⊥) → count_of dot (drop from w) ≡ suc (count_of dot (drop (a + 1) w))
-  unfolding next_at
-  dots_more n =
-      let k : a < length w = inside n in
-      let s : List ℕ = drop from w in
-      let p : from + suc (first_at dot s) ≡ a + 1 = omega (arith, e.0) in
-      count_first dot s (omega (arith, e.0, k, length-drop from w))
-      ∙ ap (λ (t : List ℕ). suc (count_of dot t)) (drop-drop (suc (first_at dot s)) from w ∙ ap (λ (m : ℕ). drop m w) p)
-    where
-      inside : (a ≡ length w → ⊥) → a < length w
-      inside n = omega (arith, e.1, n)
+pub first_is : (s : List ℕ) → position_or_len is_dot s ≡ first_at dot s
+unfolding first_at
+first_is [] = refl
+first_is (x ∷ s) = go (first_is s) (eqb x 46)
+  where
+    go : position_or_len is_dot s ≡ first_at dot s → (t : Bool) → cond (not t) (1 + position_or_len is_dot s) 0 ≡ cond t 0 (suc (first_at dot s))
+    go e true = refl
+    go e false = omega (arith, e)
+
+-- none is found
+pub dot_none : (s : List ℕ) → None ≡ position is_dot s → count_of dot s ≡ 0
+dot_none s e = count_last dot s (go (nat_lt (position_or_len is_dot s) (length s)) refl e)
+  where
+    go : (t : Bool) → nat_lt (position_or_len is_dot s) (length s) ≡ t → None ≡ cond t (Some (position_or_len is_dot s)) None → length s ≤ first_at dot s
+    go true h k = absurd (cc)
+    go false h k = omega (arith, first_is s, ltb-false (position_or_len is_dot s) (length s) h)
+
+-- one is found
+pub dot_some : (s : List ℕ) (a : ℕ) → Some a ≡ position is_dot s → (n : ℕ) → n ≡ length s - (a + 1) → SplitAtDot s (take a s) (take n (drop (a + 1) s))
+dot_some s a e n q =
+    let h = go (nat_lt (position_or_len is_dot s) (length s)) refl e in
+    record {
+      some = omega (arith, h.0, h.1);
+      before = ap (λ (k : ℕ). take k s) h.0;
+      after = rw (q, h.0) (take_all (length s - (first_at dot s + 1)) (drop (first_at dot s + 1) s) (omega (arith, length-drop (first_at dot s + 1) s)));
+    }
+  where
+    go : (t : Bool) → nat_lt (position_or_len is_dot s) (length s) ≡ t → Some a ≡ cond t (Some (position_or_len is_dot s)) None → (a ≡ first_at dot s) × (a < length s)
+    go true h k = let m : a ≡ position_or_len is_dot s = cc in (m ∙ first_is s, omega (arith, m, ltb-true (position_or_len is_dot s) (length s) h))
+    go false h k = absurd (cc)
+
+-- none is found where there is none
+pub none_there : (s : List ℕ) → count_of dot s ≡ 0 → list_any is_dot s ≡ false
+unfolding count_of
+none_there [] e = refl
+none_there (x ∷ s) e = go (none_there s) (eqb x 46) e
+  where
+    go : (count_of dot s ≡ 0 → list_any is_dot s ≡ false) → (t : Bool) → cond t (suc (count_of dot s)) (count_of dot s) ≡ 0 → (t || list_any is_dot s) ≡ false
+    go f true k = absurd (omega arith)
+    go f false k = f k
+
+pub none_found : (s : List ℕ) → list_any is_dot s ≡ false → count_of dot s ≡ 0
+unfolding count_of
+none_found [] e = refl
+none_found (x ∷ s) e = go (none_found s) (eqb x 46) e
+  where
+    go : (list_any is_dot s ≡ false → count_of dot s ≡ 0) → (t : Bool) → (t || list_any is_dot s) ≡ false → cond t (suc (count_of dot s)) (count_of dot s) ≡ 0
+    go f true k = true-is-not-false (sym k)
+    go f false k = f k
+
+-- ---- a receipt
 
 module _ (w : List ℕ) where
-  unlike : {r : Named} → (count_of dot w ≡ 2 → ⊥) → r ≡ not_named → r ≡ named w
+  unlike : (count_of dot w ≡ 2 → ⊥) → not_named ≡ named w
   unfolding named
-  unlike n q = q ∙ sym (ap (λ (t : Bool). cond t (named_by (decoding UrlSafe (middle w))) not_named) (ne_eqb (count_of dot w) 2 n))
+  unlike n = sym (ap (λ (t : Bool). cond t (named_by (decoding UrlSafe (middle w))) not_named) (ne_eqb (count_of dot w) 2 n))
 
-  module _ {a : ℕ} (first : Next w 0 a) where
-    pub dots_0 : {r : Named} → a ≡ length w → r ≡ not_named → r ≡ named w
-    dots_0 n q = unlike (λ k. omega (arith, k, dots_none w 0 a (omega arith) first n)) q
+  -- no dot
+  pub dots_0 : count_of dot w ≡ 0 → not_named ≡ named w
+  dots_0 n = unlike (λ k. omega arith)
 
-    module _ (n₁ : a ≡ length w → ⊥) {e : ℕ} (second : Next w (a + 1) e) where
-      one : count_of dot w ≡ suc (count_of dot (drop (a + 1) w))
-      one = dots_more w 0 a (omega arith) first n₁
+  module _ {head rest : List ℕ} (first : SplitAtDot w head rest) where
+    after_first : drop (suc (first_at dot w)) w ≡ rest
+    after_first = ap (λ (n : ℕ). drop n w) (sym (add-one (first_at dot w))) ∙ sym first.after
 
-      pub dots_1 : {r : Named} → e ≡ length w → r ≡ not_named → r ≡ named w
-      dots_1 n q = unlike (λ k. omega (arith, k, one, dots_none w (a + 1) e (omega (arith, first.1, n₁)) second n)) q
+    one : count_of dot w ≡ suc (count_of dot rest)
+    one = count_first dot w first.some ∙ ap (λ (t : List ℕ). suc (count_of dot t)) after_first
 
-      -- the middle part
-      pub middle_ordered : a + 1 ≤ e
-      middle_ordered = omega (arith, second.0, next_from dot w (a + 1))
+    -- one
+    pub dots_1 : count_of dot rest ≡ 0 → not_named ≡ named w
+    dots_1 n = unlike (λ k. omega (arith, one, k))
 
-      middle_part : middle w ≡ part (a + 1) e w
+    module _ {letters last : List ℕ} (second : SplitAtDot rest letters last) where
+      two : count_of dot w ≡ suc (suc (count_of dot last))
+      two =
+          one
+          ∙ ap suc (count_first dot rest second.some ∙ ap (λ (t : List ℕ). suc (count_of dot t)) (ap (λ (n : ℕ). drop n rest) (sym (add-one (first_at dot rest))) ∙ sym second.after))
+
+      middle_part : middle w ≡ letters
       unfolding middle next_at
       middle_part =
-          let p : first_at dot w ≡ a = omega (arith, first.0) in
-          ap (λ (k : ℕ). part (k + 1) (next_at dot w (k + 1)) w) p ∙ ap (λ (k : ℕ). part (a + 1) k w) (sym second.0)
+          let k : ℕ = first_at dot w + 1 in
+          let e : k + first_at dot (drop k w) - k ≡ first_at dot (drop k w) = omega arith in
+          ap (λ (n : ℕ). take n (drop k w)) e ∙ ap (λ (l : List ℕ). take (first_at dot l) l) (sym first.after) ∙ sym second.before
 
-      module _ (n₂ : e ≡ length w → ⊥) {d : ℕ} (third : Next w (e + 1) d) where
-        two : count_of dot w ≡ suc (suc (count_of dot (drop (e + 1) w)))
-        two = one ∙ ap suc (dots_more w (a + 1) e (omega (arith, first.1, n₁)) second n₂)
+      -- three or more
+      pub dots_3 : list_any is_dot last ≡ true → not_named ≡ named w
+      dots_3 n = unlike (λ k. true-is-not-false (sym (none_there last (omega (arith, two, k))) ∙ n))
 
-        pub dots_3 : {r : Named} → (d ≡ length w → ⊥) → r ≡ not_named → r ≡ named w
-        dots_3 n q = unlike (λ k. omega (arith, k, two, dots_more w (e + 1) d (omega (arith, second.1, n₂)) third n)) q
+      module _ (n : list_any is_dot last ≡ false) where
+        named_here : (t : Bool) → accepted UrlSafe letters ≡ t → named w ≡ named_by (cond t (some (bytes UrlSafe letters)) none)
+        unfolding named
+        named_here t e =
+            let k : count_of dot w ≡ 2 = omega (arith, two, none_found last n) in
+            ap (λ (v : Bool). cond v (named_by (decoding UrlSafe (middle w))) not_named) (eq-eqb (count_of dot w) 2 k)
+            ∙ ap (λ (m : List ℕ). named_by (decoding UrlSafe m)) middle_part
+            ∙ ap named_by (decoding_is letters ∙ ap (λ (v : Bool). cond v (some (bytes UrlSafe letters)) none) e)
 
-        module _ (n₃ : d ≡ length w) {t : Bool} (c : t ≡ accepted UrlSafe (part (a + 1) e w)) where
-          named_here : named w ≡ named_by (cond t (some (bytes UrlSafe (part (a + 1) e w))) none)
-          unfolding named
-          named_here =
-              let k : count_of dot w ≡ 2 = omega (arith, two, dots_none w (e + 1) d (omega (arith, second.1, n₂)) third n₃) in
-              ap (λ (v : Bool). cond v (named_by (decoding UrlSafe (middle w))) not_named) (eq-eqb (count_of dot w) 2 k)
-              ∙ ap (λ (m : List ℕ). named_by (decoding UrlSafe m)) middle_part
-              ∙ ap named_by (decoding_is (part (a + 1) e w) ∙ ap (λ (v : Bool). cond v (some (bytes UrlSafe (part (a + 1) e w))) none) (sym c))
+        pub dots_foreign : accepted UrlSafe letters ≡ false → not_named ≡ named w
+        dots_foreign e = sym (named_here false e)
 
-          pub dots_foreign : {r : Named} → not t ≡ true → r ≡ not_named → r ≡ named w
-          dots_foreign n q = q ∙ sym (named_here ∙ ap (λ (v : Bool). named_by (cond v (some (bytes UrlSafe (part (a + 1) e w))) none)) (not-true t n))
-
-          pub dots_good : {r : Named} → not t ≡ false → r ≡ named_by (some (bytes UrlSafe (part (a + 1) e w))) → r ≡ named w
-          dots_good n q = q ∙ sym (named_here ∙ ap (λ (v : Bool). named_by (cond v (some (bytes UrlSafe (part (a + 1) e w))) none)) (not-false t n))
+        pub dots_good : accepted UrlSafe letters ≡ true → {r : Named} → r ≡ named_by (some (bytes UrlSafe letters)) → r ≡ named w
+        dots_good e q = q ∙ sym (named_here true e)

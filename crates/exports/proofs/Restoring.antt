@@ -1,40 +1,34 @@
 -- What each return of the call that reads an export shows: the answer and the output.
-use Prim.Native.Nat.{ℕ, ◌≤◌, ◌<◌}
-use mathlib.Core.Path.{◌≡◌, refl, sym, ap, ◌∙◌}
-use mathlib.Core.Bool.{Bool, true, false, not, ◌&&◌}
-use mathlib.Core.List.{List}
-use mathlib.Core.Logic.{◌↔◌}
+use Rattle.std.proofs.Common.{Err, ℕ, ◌≤◌, ◌<◌, ◌≡◌, refl, sym, ap, ◌∙◌, Bool, true, false, not, ◌&&◌, List, ◌↔◌, arith, leb-true, leb, length}
+use Rattle.primitives.specs.Refusals.{number_of}
+use Rattle.primitives.specs.declared.refusal.Refusal.{Refusal}
+use Rattle.journal.specs.declared.state.RefusedAt.{RefusedAt}
 use mathlib.Core.Option.{Option, some}
-use native.Mathlib.Omega.{arith}
-use borrow.Author.Tests.{leb-true}
-use lib.Dec.{leb}
-use lib.ListN.{length}
 use Rattle.primitives.specs.Place.{overwrite}
+use Rattle.primitives.specs.Answers.{Answer}
 use Rattle.primitives.specs.Questions.{ask}
 use Rattle.primitives.proofs.Rows.{ask_zero, ifZero-yes, ifZero-no}
-use Rattle.journal.specs.State.{unopened}
 use Rattle.journal.specs.Checking.{take_over}
-use Rattle.journal.specs.declared.state.State.{State}
 use Rattle.journal.specs.declared.state.TakenOver.{TakenOver}
 use Rattle.exports.specs.Text.{every}
 use Rattle.exports.specs.Shape.{Element, Shape, Shaped}
 use Rattle.exports.specs.Parsed.{elements_of}
-use Rattle.exports.specs.Output.{start, Puts}
 use Rattle.exports.specs.Spelled.{is_empty}
-use Rattle.exports.specs.Reading.{element_good, has_receipt, names_register, journal_of_elements, survey_number, elements_number, not_read, restored_from, restored_by, restored, journal_by, restored_buffer}
+use Rattle.exports.specs.Reading.{as_restored, element_good, has_receipt, names_register, journal_of_elements, survey_number, elements_number, not_read, restored_from, restored_by, restored, journal_by, restored_buffer}
 use Rattle.exports.specs.Passing.{SurveyedAs}
-use Rattle.exports.specs.Running.{owner_named, run_journal}
-use Rattle.exports.specs.declared.naming.Named.{Named}
-use Rattle.exports.specs.declared.output.End.{End}
-use Rattle.exports.specs.declared.survey.Surveyed.{Surveyed}
-use Rattle.exports.specs.declared.reading.Restored.{Restored}
+use Rattle.exports.specs.Running.{owner_settings, run_journal}
+use Rattle.receipt.specs.declared.settings.Settings.{Settings}
+use Rattle.exports.specs.Reading.{Restored}
 use Rattle.exports.proofs.Unique.{decided, exact}
-use Rattle.exports.proofs.Putting.{moved_fits}
 use Rattle.exports.proofs.ElementsTaken.{run_is_take_over}
 
-pub not_read_lem : {st : State} (number index : ℕ) → st ≡ unopened → record { number = number; index = index; length = 0; state = st } ≡ not_read number index
+-- a refusal as the answer
+pub refusal_is : (r : RefusedAt) → as_restored (Err r) ≡ not_read (number_of r.question) r.index
 unfolding not_read
-not_read_lem number index e = rw e
+refusal_is r = refl
+
+pub refused_with : {r : RefusedAt} {question : Refusal} → r ≡ record { question = question; index = 0 } → as_restored (Err r) ≡ not_read (number_of question) 0
+refused_with {r} e = refusal_is r ∙ ap (λ (x : RefusedAt). not_read (number_of x.question) x.index) e
 
 -- ---- questions before 23, and those after
 
@@ -93,8 +87,8 @@ module _ (text key : List ℕ) (n : ℕ) (out : List ℕ) where
       found : (es : List Element) × (elements_of text ≡ some es) × (Shape text es)
       found = let d = (decided text s h).0 shaped in (d.0, d.1, (exact text d.0).0 d.1)
 
-      module _ {n₀ : Named} {a : Surveyed} (owner : (es : List Element) → Shape text es → n₀ ≡ owner_named es)
-          (v : (es : List Element) → Shape text es → n₀ ≡ owner_named es → SurveyedAs (length out) es a) where
+      module _ {n₀ : Settings} {a : Answer} (owner : (es : List Element) → Shape text es → n₀ ≡ owner_settings es)
+          (v : (es : List Element) → Shape text es → n₀ ≡ owner_settings es → SurveyedAs (length out) es a) where
         surveyed : (es : List Element) → Shape text es → SurveyedAs (length out) es a
         surveyed es x = v es x (owner es x)
 
@@ -104,7 +98,7 @@ module _ (text key : List ℕ) (n : ℕ) (out : List ℕ) where
             refused a.number 0 e (numbered f.0 a.number f.1 (sym (surveyed f.0 f.2).number) other) other refl
 
         module _ (passed : a.number ≡ 0) (small : length out < 18446744073709551616) {t : TakenOver}
-            (k : (es : List Element) → Shape text es → n₀ ≡ owner_named es → t ≡ run_journal es key n) where
+            (k : (es : List Element) → Shape text es → n₀ ≡ owner_settings es → t ≡ run_journal es key n) where
           over : (es : List Element) → Shape text es → (elements_number es (length out) ≡ 0) × (length (journal_of_elements es) ≤ length out) × (t ≡ take_over (journal_of_elements es) key n)
           over es x =
               let z = sym (surveyed es x).number ∙ passed in
@@ -117,18 +111,16 @@ module _ (text key : List ℕ) (n : ℕ) (out : List ℕ) where
               let o = over f.0 f.2 in
               refused t.number t.index e (sym (ifZero-no t.number _ _ other) ∙ taken f.0 f.1 o.0 o.2) other refl
 
-          pub read_all : {out₁ : List ℕ} {p : End} → t.number ≡ 0 → ((es : List Element) → Shape text es → n₀ ≡ owner_named es → Puts false out out₁ start p (journal_of_elements es))
-              → (record { number = 0; index = 0; length = a.length; state = t.state } ≡ restored text key n (length out)) × (out₁ ≡ restored_buffer text key n out)
+          pub read_all : {out₁ : List ℕ} {l : ℕ} → a.length ≡ l → t.number ≡ 0
+              → ((es : List Element) → Shape text es → n₀ ≡ owner_settings es → length (journal_of_elements es) ≤ length out → out₁ ≡ overwrite out 0 (journal_of_elements es))
+              → (record { number = 0; index = 0; length = l; state = t.state } ≡ restored text key n (length out)) × (out₁ ≡ restored_buffer text key n out)
           unfolding restored_buffer
-          read_all {out₁} {p} z w =
+          read_all {out₁} {l} i z w =
               let f = found in
               let o = over f.0 f.2 in
-              let b = w f.0 f.2 (owner f.0 f.2) in
-              let y = journal_of_elements f.0 in
-              let fits : p.fits ≡ true = ap (λ (x : End). x.fits) (b.end ∙ moved_fits (length out) start (length y) refl (omega (arith, o.1))) in
-              let e : record { number = 0; index = 0; length = a.length; state = t.state } ≡ restored text key n (length out)
-              = ap (λ (l : ℕ). record { number = 0; index = 0; length = l; state = t.state }) ((surveyed f.0 f.2).length passed) ∙ sym (ifZero-yes _ _ z) ∙ taken f.0 f.1 o.0 o.2 in (
+              let e : record { number = 0; index = 0; length = l; state = t.state } ≡ restored text key n (length out)
+              = ap (λ (m : ℕ). record { number = 0; index = 0; length = m; state = t.state }) (sym i ∙ (surveyed f.0 f.2).length passed) ∙ sym (ifZero-yes _ _ z) ∙ taken f.0 f.1 o.0 o.2 in (
                 e,
-                b.done refl fits ∙ ap (λ (x : Option (List Element)). overwrite out 0 (journal_by x)) (sym f.1)
+                w f.0 f.2 (owner f.0 f.2) o.1 ∙ ap (λ (x : Option (List Element)). overwrite out 0 (journal_by x)) (sym f.1)
                     ∙ sym (ifZero-yes _ _ (sym (ap (λ (x : Restored). x.number) e))),
               )

@@ -1,13 +1,6 @@
 -- The journal that a text spells is not longer than the text.
-use Prim.Native.Nat.{ℕ, suc, ◌+◌, ◌*◌, ◌≤◌}
-use mathlib.Core.Path.{◌≡◌, refl, sym, ap, subst}
-use mathlib.Core.Bool.{Bool, true, false, cond, not, ◌&&◌}
-use mathlib.Core.List.{List, [], ◌∷◌, ◌++◌, map}
+use Rattle.std.proofs.Common.{ℕ, suc, ◌+◌, ◌*◌, ◌≤◌, ◌≡◌, refl, sym, ap, subst, Bool, true, false, cond, not, ◌&&◌, List, [], ◌∷◌, ◌++◌, map, arith, le-leb, eqb, leb, length, length-append}
 use mathlib.Core.Option.{Option, none, some}
-use native.Mathlib.Omega.{arith}
-use borrow.Author.Tests.{le-leb}
-use lib.Dec.{eqb, leb}
-use lib.ListN.{length, length-append}
 use Rattle.primitives.specs.Number.{bytes_of}
 use Rattle.primitives.specs.Questions.{ask, ifZero}
 use Rattle.primitives.proofs.Numbers.{length_bytes_of}
@@ -23,7 +16,7 @@ use Rattle.exports.specs.Text.{Token, mark, word, every, Inside, close, letter, 
 use Rattle.exports.specs.Shape.{group_name, certificate_name, issuers_name, receipts_name, array, following, string, Member, certificate, issuers, receipts, member, name_of, value_of, certificates_of, issuers_of, receipts_of, Element, Written, object, written, document, elements, Shape}
 use Rattle.exports.specs.Spelled.{is_empty, sized_texts, pair_spelled, pairs_spelled, journal_spelled}
 use Rattle.exports.specs.Naming.{named, not_named}
-use Rattle.exports.specs.declared.naming.Named.{Named}
+use Rattle.exports.specs.Naming.{Named}
 use Rattle.receipt.specs.declared.settings.Settings.{Settings}
 use Rattle.exports.specs.Reading.{element_good, has_receipt, first_of, names_register, settings_of, pair_of, owner_of, journal_of_elements, survey_number, elements_number, restored_from, restored_by, restored, not_read}
 use Rattle.exports.specs.Parsed.{elements_of}

@@ -1,10 +1,6 @@
 -- How long the text of an export is, from the state and the groups.
-use Prim.Native.Nat.{ℕ, ◌+◌, ◌*◌, ◌/◌, ◌≤◌}
-use mathlib.Core.Path.{◌≡◌, refl, sym, ap, ◌∙◌, subst}
-use mathlib.Core.Bool.{Bool, true, false}
-use mathlib.Core.List.{List, [], ◌∷◌, ◌++◌, map}
-use native.Mathlib.Omega.{arith}
-use lib.ListN.{length, length-append, length-map}
+use Rattle.std.proofs.lemmas.List.{length-map}
+use Rattle.std.proofs.Common.{ℕ, ◌+◌, ◌*◌, ◌/◌, ◌≤◌, ◌≡◌, refl, sym, ap, ◌∙◌, subst, Bool, true, false, List, [], ◌∷◌, ◌++◌, map, arith, length, length-append}
 use Rattle.primitives.specs.Bytes.{AllBytes}
 use Rattle.primitives.specs.Text.{ascii}
 use Rattle.primitives.specs.Number.{bytes_of}
@@ -32,7 +28,7 @@ use Rattle.exports.specs.Groups.{Group, groups_text, group_good}
 use Rattle.exports.specs.GroupLaws.{text_pair}
 use Rattle.exports.specs.Writing.{quoted, listed, opening, before_certificate, before_issuers, before_receipts, ending, certificates_part, receipts_part, element_text, export_text, in_base64, element_for, elements_for, exported}
 use Rattle.exports.specs.Room.{certificates_room, groups_room, export_room, ExportRoomIsEnough}
-use Rattle.exports.specs.declared.writing.Exported.{Exported}
+use Rattle.exports.specs.Writing.{Exported}
 use Rattle.exports.proofs.Sized.{sized_nil, sized_cons}
 use Rattle.exports.proofs.PairsBack.{valid_spelled, valid_good, valid_pairs}
 use Rattle.exports.proofs.ExportAnswers.{used_pairs}

@@ -1,18 +1,8 @@
 -- Texts after their lengths in two bytes, read at a place of a buffer; and groups of them.
-use Prim.Native.Nat.{ℕ, suc, ◌+◌, ◌-◌, ◌≤◌, ◌<◌}
-use mathlib.Core.Path.{◌≡◌, refl, sym, ap, ◌∙◌, subst}
-use mathlib.Core.Bool.{Bool, true, false, ◌&&◌}
-use mathlib.Core.List.{List, [], ◌∷◌, ◌++◌, append_assoc, append-nil}
-use mathlib.Core.Logic.{◌↔◌}
-use native.Mathlib.Numerals.{add-one}
-use native.Mathlib.Omega.{arith}
-use borrow.Author.Tests.{leb-true, le-leb, eq-eqb, eqb-true}
-use lib.Dec.{leb, eqb}
-use lib.ListN.{length, take, drop, get_or, length-append, length-drop, drop_of_length-le}
-use lib.Seq.{drop_at, drop-drop, drop-cons}
+use Rattle.std.proofs.Common.{Option, Some, None, ℕ, suc, ◌+◌, ◌-◌, ◌≤◌, ◌<◌, ◌≡◌, refl, sym, ap, ◌∙◌, subst, Bool, true, false, cond, ◌&&◌, List, [], ◌∷◌, ◌++◌, append_assoc, append-nil, ◌↔◌, add-one, arith, leb-true, leb-false, le-leb, eq-eqb, eqb-true, leb, eqb, length, take, drop, get_or, length-append, length-drop, drop_of_length-le, drop_at, drop-drop, drop-cons}
+use Rattle.exports.specs.Output.{moved}
 use Rattle.primitives.specs.Bytes.{AllBytes}
 use Rattle.primitives.specs.Number.{count_at, number_at}
-use Rattle.primitives.specs.declared.buffer.Number.TheVariants.{Is, Missing}
 use Rattle.primitives.proofs.Rows.{both, true-is-not-false}
 use Rattle.primitives.proofs.Numbers.{number_found}
 use Rattle.primitives.proofs.Counts.{count_found, count-missing}
@@ -21,7 +11,7 @@ use Rattle.journal.proofs.Places.{length_entry, length_at_lem, length_text, text
 use Rattle.exports.specs.Text.{every}
 use Rattle.exports.specs.Spelled.{sized_texts, short}
 use Rattle.exports.specs.Groups.{Group, group_text, groups_text, group_good}
-use Rattle.exports.specs.Passing.{SizedRead, GroupRead, GroupsThere}
+use Rattle.exports.specs.Passing.{NoText, SizedAt, SizedRead, NoGroup, GroupAt, GroupsThere}
 
 -- ---- short texts
 
@@ -86,15 +76,10 @@ module _ (s : List ℕ) (at : ℕ) where
       ap (λ (n : ℕ). drop n s) k ∙ sym (drop-drop (2 + length t) at s) ∙ ap (drop (2 + length t)) e ∙ drop_at (entry_text t) rest (2 + length t) (length_entry t)
 
   -- none: the length is not there
-  pub sized_none : number_at s at 2 ≡ Missing → SizedRead s at 0
-  sized_none e = record {
-    inside = omega arith;
-    onward = λ h. absurd (omega arith);
-    sound = λ h. absurd (omega arith);
-    complete = λ t rest h q. count-missing s at 2 (omega arith) (omega (arith, room_there t rest q)) e;
-  }
+  pub sized_none : number_at s at 2 ≡ None → NoText s at
+  sized_none e t rest h q = count-missing s at 2 (omega arith) (omega (arith, room_there t rest q)) e
 
-  module _ (b : AllBytes s) {v : ℕ} (e : number_at s at 2 ≡ Is v) where
+  module _ (b : AllBytes s) {v : ℕ} (e : number_at s at 2 ≡ Some v) where
     length_is : v ≡ length_at s at
     unfolding length_at
     length_is = (count_found s at 2 (omega arith) b e).0
@@ -103,13 +88,8 @@ module _ (s : List ℕ) (at : ℕ) where
     sized_room = (number_found s at 2 e).room
 
     -- none: the text is not all there
-    pub sized_cut : length s < at + 2 + v → SizedRead s at 0
-    sized_cut h = record {
-      inside = omega arith;
-      onward = λ k. absurd (omega arith);
-      sound = λ k. absurd (omega arith);
-      complete = λ t rest g q. absurd (omega (arith, room_there t rest q, length_there t rest g q, length_is));
-    }
+    pub sized_cut : length s < at + 2 + v → NoText s at
+    sized_cut h t rest g q = absurd (omega (arith, room_there t rest q, length_there t rest g q, length_is))
 
     module _ (h : at + 2 + v ≤ length s) where
       here : there s at ≡ true
@@ -123,12 +103,12 @@ module _ (s : List ℕ) (at : ℕ) where
       unfolding text_at
       part = ap (λ (n : ℕ). take n (drop (at + 2) s)) (sym long)
 
-      pub sized_whole : {r : ℕ} → r ≡ at + 2 + v → SizedRead s at r
+      pub sized_whole : {r : ℕ} → r ≡ at + 2 + v → SizedAt s at r
       sized_whole {r} p = record {
         inside = omega (arith, p);
-        onward = λ k. omega (arith, p);
-        sound = λ k. (text_at s at, lt_short _ (text_short s b at here), is, part, ends);
-        complete = λ t rest g q. (omega (arith, p), ap (λ (n : ℕ). drop n s) (at_end_lem t rest g q) ∙ after_there t rest q, at_end_lem t rest g q);
+        onward = omega (arith, p);
+        sound = (text_at s at, lt_short _ (text_short s b at here), is, part, ends);
+        complete = λ t rest g q. (ap (λ (n : ℕ). drop n s) (at_end_lem t rest g q) ∙ after_there t rest q, at_end_lem t rest g q);
       }
         where
           ends : r ≡ at + 2 + length (text_at s at)
@@ -141,6 +121,15 @@ module _ (s : List ℕ) (at : ℕ) where
 
           at_end_lem : (t rest : List ℕ) → short t ≡ true → drop at s ≡ entry_text t ++ rest → r ≡ at + 2 + length t
           at_end_lem t rest g q = omega (arith, p, length_there t rest g q, length_is)
+
+    -- where the text ends, in so long a buffer
+    pub sized_moved : (r : Option ℕ) → r ≡ moved (length s) (Some (at + 2)) v → SizedRead s at r
+    unfolding moved
+    sized_moved r p = rw p (go (leb (at + 2 + v) (length s)) refl)
+      where
+        go : (t : Bool) → leb (at + 2 + v) (length s) ≡ t → SizedRead s at (cond t (Some (at + 2 + v)) None)
+        go true k = sized_whole (leb-true (at + 2 + v) (length s) k) refl
+        go false k = sized_cut (leb-false (at + 2 + v) (length s) k)
 
 -- ---- texts one after the other: `i` of `count` texts from a place on are passed
 
@@ -173,7 +162,7 @@ module _ (s : List ℕ) (from count : ℕ) where
     left = λ ts rest e g q. record { texts = ts; many = omega (arith, e); brief = g; is = q };
   }
 
-  module _ {p i : ℕ} (t : Texts s from count p i) (more : i < count) {q : ℕ} (r : SizedRead s p q) where
+  module _ {p i : ℕ} (t : Texts s from count p i) (more : i < count) where
     -- the next text is there
     first_left : (rest : List ℕ) (l : Left count i (drop p s) rest) → (us : List (List ℕ)) → l.texts ≡ us → (w : List ℕ) × (ws : List (List ℕ)) × (us ≡ w ∷ ws)
     first_left rest l [] e = absurd (omega (arith, l.many, ap length e))
@@ -196,18 +185,17 @@ module _ (s : List ℕ) (from count : ℕ) where
         )
 
     -- no text: there are not so many
-    pub texts_none : q ≡ 0 → (ts : List (List ℕ)) (rest : List ℕ) → length ts ≡ count → every short ts ≡ true → drop from s ≡ sized_texts ts ++ rest → ⊥
-    texts_none z ts rest e g h =
+    pub texts_none : NoText s p → (ts : List (List ℕ)) (rest : List ℕ) → length ts ≡ count → every short ts ≡ true → drop from s ≡ sized_texts ts ++ rest → ⊥
+    texts_none r ts rest e g h =
         let x = split_left rest (t.left ts rest e g h) in
-        let y = r.complete x.0 (sized_texts x.1 ++ rest) x.3 x.5 in
-        omega (arith, y.0, z)
+        r x.0 (sized_texts x.1 ++ rest) x.3 x.5
 
-    pub texts_more : 0 < q → Texts s from count q (i + 1)
-    texts_more z =
-        let o = r.sound z in
+    pub texts_more : {q : ℕ} → SizedAt s p q → Texts s from count q (i + 1)
+    texts_more {q} r =
+        let o = r.sound in
         record {
           inside = r.inside;
-          onward = omega (arith, t.onward, r.onward z);
+          onward = omega (arith, t.onward, r.onward);
           few = omega arith;
           done = t.done ++ (o.0 ∷ []);
           many = length-append t.done (o.0 ∷ []) ∙ omega (arith, t.many);
@@ -219,7 +207,7 @@ module _ (s : List ℕ) (from count : ℕ) where
           left = λ ts rest e g h.
               let x = split_left rest (t.left ts rest e g h) in
               let y = r.complete x.0 (sized_texts x.1 ++ rest) x.3 x.5 in
-              record { texts = x.1; many = omega (arith, x.2); brief = x.4; is = y.1 };
+              record { texts = x.1; many = omega (arith, x.2); brief = x.4; is = y.0 };
         }
 
   -- all of them
@@ -267,13 +255,8 @@ module _ (s : List ℕ) (at : ℕ) where
       let l : length s - at ≡ length (group_text g ++ rest) = sym (length-drop at s) ∙ ap length q in
       omega (arith, l, length-append (group_text g) rest, ap length (group_is g))
 
-  pub group_none : length s ≤ at → GroupRead s at 0
-  group_none h = record {
-    inside = omega arith;
-    onward = λ k. absurd (omega arith);
-    sound = λ k. absurd (omega arith);
-    complete = λ g rest e q. absurd (omega (arith, group_room g rest q));
-  }
+  pub group_none : length s ≤ at → NoGroup s at
+  group_none h g rest e q = absurd (omega (arith, group_room g rest q))
 
   module _ (h : at < length s) where
     opened : drop at s ≡ get_or s at 0 ∷ drop (at + 1) s
@@ -285,30 +268,19 @@ module _ (s : List ℕ) (at : ℕ) where
     pub group_tail : (g : Group) (rest : List ℕ) → drop at s ≡ group_text g ++ rest → drop (at + 1) s ≡ sized_texts (all g) ++ rest
     group_tail g rest q = ap (drop 1) (sym opened ∙ q ∙ ap (λ (l : List ℕ). l ++ rest) (group_is g))
 
-    pub group_zero : get_or s at 0 ≡ 0 → GroupRead s at 0
-    group_zero z = record {
-      inside = omega arith;
-      onward = λ k. absurd (omega arith);
-      sound = λ k. absurd (omega arith);
-      complete = λ g rest e q. absurd (omega (arith, z, group_many g rest q));
-    }
+    pub group_zero : get_or s at 0 ≡ 0 → NoGroup s at
+    group_zero z g rest e q = absurd (omega (arith, z, group_many g rest q))
 
     module _ {count p i : ℕ} (c : count ≡ get_or s at 0) (t : Texts s (at + 1) count p i) where
-      pub group_cut : i < count → {q : ℕ} → SizedRead s p q → q ≡ 0 → GroupRead s at 0
-      group_cut m r z = record {
-        inside = omega arith;
-        onward = λ k. absurd (omega arith);
-        sound = λ k. absurd (omega arith);
-        complete = λ g rest e q.
-            absurd (texts_none s (at + 1) count t m r z (all g) rest (sym (group_many g rest q) ∙ sym c) (good_texts g e) (group_tail g rest q));
-      }
+      pub group_cut : i < count → NoText s p → NoGroup s at
+      group_cut m r g rest e q = absurd (texts_none s (at + 1) count t m r (all g) rest (sym (group_many g rest q) ∙ sym c) (good_texts g e) (group_tail g rest q))
 
-      pub group_whole : 0 < count → count < 256 → count ≤ i → GroupRead s at p
+      pub group_whole : 0 < count → count < 256 → count ≤ i → GroupAt s at p
       group_whole some few m = record {
         inside = t.inside;
-        onward = λ k. omega (arith, t.onward);
-        sound = λ k. found t.done (omega (arith, t.many, t.few)) t.brief t.sound;
-        complete = λ g rest e q. (omega (arith, t.onward), texts_end s (at + 1) count t m (all g) rest (sym (group_many g rest q) ∙ sym c) (good_texts g e) (group_tail g rest q));
+        onward = omega (arith, t.onward);
+        sound = found t.done (omega (arith, t.many, t.few)) t.brief t.sound;
+        complete = λ g rest e q. texts_end s (at + 1) count t m (all g) rest (sym (group_many g rest q) ∙ sym c) (good_texts g e) (group_tail g rest q);
       }
         where
           found : (ds : List (List ℕ)) → length ds ≡ count → every short ds ≡ true → drop (at + 1) s ≡ sized_texts ds ++ drop p s
@@ -362,22 +334,21 @@ module _ (s : List ℕ) (k : ℕ) where
     left = λ g. record { groups = g.groups; many = omega (arith, g.count); good = g.good; is = g.bytes };
   }
 
-  module _ {p i : ℕ} (t : Passed s k p i) (more : i < k) {q : ℕ} (r : GroupRead s p q) where
+  module _ {p i : ℕ} (t : Passed s k p i) (more : i < k) where
     first_group : (hs : List Group) → i + length hs ≡ k → every group_good hs ≡ true → drop p s ≡ groups_text hs
         → (g : Group) × (gs : List Group) × (suc i + length gs ≡ k) × (group_good g ≡ true) × (every group_good gs ≡ true) × (drop p s ≡ group_text g ++ groups_text gs)
     first_group [] m e h = absurd (omega (arith, m))
     first_group (g ∷ gs) m e h = (g, gs, omega (arith, m), every_head group_good g gs e, every_tail group_good g gs e, h ∙ groups_cons g gs)
 
-    pub passed_none : q ≡ 0 → GroupsThere k s → ⊥
-    passed_none z g =
+    pub passed_none : NoGroup s p → GroupsThere k s → ⊥
+    passed_none r g =
         let l = t.left g in
         let x = first_group l.groups l.many l.good l.is in
-        let y = r.complete x.0 (groups_text x.1) x.3 x.5 in
-        omega (arith, y.0, z)
+        r x.0 (groups_text x.1) x.3 x.5
 
-    pub passed_more : 0 < q → Passed s k q (i + 1)
-    passed_more z =
-        let o = r.sound z in
+    pub passed_more : {q : ℕ} → GroupAt s p q → Passed s k q (i + 1)
+    passed_more {q} r =
+        let o = r.sound in
         record {
           inside = r.inside;
           few = omega arith;
@@ -392,10 +363,10 @@ module _ (s : List ℕ) (k : ℕ) where
               let l = t.left g in
               let x = first_group l.groups l.many l.good l.is in
               let y = r.complete x.0 (groups_text x.1) x.3 x.5 in
-              record { groups = x.1; many = omega (arith, x.2); good = x.4; is = y.1 };
+              record { groups = x.1; many = omega (arith, x.2); good = x.4; is = y };
         }
 
-    pub groups_cut : q ≡ 0 → (false ≡ true) ↔ GroupsThere k s
+    pub groups_cut : NoGroup s p → (false ≡ true) ↔ GroupsThere k s
     groups_cut z = (λ e. true-is-not-false e, λ g. absurd (passed_none z g))
 
   pub groups_whole : {p i : ℕ} → Passed s k p i → k ≤ i → (eqb p (length s) ≡ true) ↔ GroupsThere k s

@@ -1,13 +1,6 @@
 -- Texts that are split at a byte, and put together again.
-use Prim.Native.Nat.{ℕ, zero, suc, ◌+◌, ◌-◌, ◌<◌}
-use mathlib.Core.Path.{◌≡◌, refl, sym, ap, ◌∙◌, subst}
-use mathlib.Core.Bool.{Bool, true, false, cond}
-use mathlib.Core.List.{List, [], ◌∷◌, ◌++◌, append_assoc}
-use native.Mathlib.Omega.{arith}
-use borrow.Author.Tests.{eqb-true, eq-eqb, ltb-true, ltb-false}
-use lib.Dec.{eqb, ltb}
-use lib.ListN.{length, take, drop}
-use lib.Seq.{take_at, drop-append-add}
+use Rattle.std.proofs.Common.{ℕ, zero, suc, ◌+◌, ◌-◌, ◌<◌, ◌≡◌, refl, sym, ap, ◌∙◌, subst, Bool, true, false, cond, List, [], ◌∷◌, ◌++◌, append_assoc, arith, eqb-true, eq-eqb, ltb-true, ltb-false, eqb, ltb, length, take, drop, take_at}
+use lib.Seq.{drop-append-add}
 use Rattle.receipt.specs.Texts.{separator}
 use Rattle.receipt.specs.Form.{first_at, next_at, Without}
 use Rattle.receipt.specs.Line.{count_of}

@@ -1,12 +1,5 @@
 -- A journal taken over where its parts lie: the answer is that of Take over on the journal that the parts spell.
-use Prim.Native.Nat.{ℕ, zero, suc, ◌+◌, ◌≤◌, ◌<◌}
-use mathlib.Core.Path.{◌≡◌, refl, sym, ap, ◌∙◌, subst}
-use mathlib.Core.Bool.{Bool, true, false, cond}
-use mathlib.Core.List.{List, [], ◌∷◌, ◌++◌, append_assoc}
-use native.Mathlib.Omega.{arith}
-use borrow.Author.Tests.{le-leb, leb-true}
-use lib.Dec.{leb}
-use lib.ListN.{length, length-append}
+use Rattle.std.proofs.Common.{ℕ, zero, suc, ◌+◌, ◌≤◌, ◌<◌, ◌≡◌, refl, sym, ap, ◌∙◌, subst, Bool, true, false, cond, List, [], ◌∷◌, ◌++◌, append_assoc, arith, le-leb, leb-true, leb, length, length-append}
 use Rattle.primitives.specs.Bytes.{AllBytes}
 use Rattle.primitives.specs.Number.{count_at}
 use Rattle.primitives.specs.Counter.{width_good}
@@ -27,7 +20,7 @@ use Rattle.journal.specs.Step.{fresh, next, renewed, renew_number}
 use Rattle.journal.specs.Checking.{found, text_number, after, entry_number, stopped, checked, text_checked, place_checked, start_number, start_checked, one_step, steps, entry_ready, entry_checked, serial_ready, serial_number, serial_checked, refused, accepted, last_answer, head_number, take_over}
 use Rattle.journal.specs.Valid.{Owner, settings_for, owner_text}
 use Rattle.journal.specs.declared.state.State.{State}
-use Rattle.journal.specs.declared.checking.Checked.{Checked}
+use Rattle.journal.specs.Checking.{Checked}
 use Rattle.journal.proofs.Answers.{sound-yes, settings-three}
 use Rattle.journal.proofs.Heads.{length_head, read_count_at, read_settings, head_good_lem}
 use Rattle.journal.proofs.Accepting.{fresh_length, fresh_place, fresh_section, head_pair}

@@ -1,11 +1,6 @@
 -- Letters as they lie against what they spell.
-use mathlib.Core.Path.{◌≡◌, refl, ap}
-use mathlib.Core.Bool.{true, or-true}
-use mathlib.Core.List.{List, ◌∷◌}
-use Prim.Native.Nat.{ℕ, ◌<◌, ◌≤◌}
-use native.Mathlib.Omega.{arith}
-use lib.Dec.{eqb}
-use lib.ListN.{length, take}
+use Rattle.std.proofs.Common.{◌≡◌, refl, ap, true, List, ◌∷◌, ℕ, ◌<◌, ◌≤◌, arith, eqb, length, take}
+use mathlib.Core.Bool.{or-true}
 use Rattle.exports.specs.Places.{holds, Unescaped, nothing, letter, escape}
 
 -- they are the same, or there is an escape: a backslash lies among the first bytes, as many as are spelled, and "=" is spelled

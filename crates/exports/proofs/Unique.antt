@@ -1,14 +1,6 @@
 -- What the grammar derives is found again: so a text has one reading, and the elements are a function of the text.
-use mathlib.Core.Path.{◌≡◌, refl, sym, ap, ap₂, ◌∙◌}
-use mathlib.Core.Bool.{Bool, true, false, cond, ◌&&◌}
-use mathlib.Core.List.{List, [], ◌∷◌, ◌++◌, append_assoc, map}
+use Rattle.std.proofs.Common.{◌≡◌, refl, sym, ap, ap₂, ◌∙◌, Bool, true, false, cond, ◌&&◌, List, [], ◌∷◌, ◌++◌, append_assoc, map, ◌↔◌, ℕ, zero, suc, ◌<◌, arith, eqb-true, eq-eqb, ne_eqb, eqb, length, length-append}
 use mathlib.Core.Option.{Option, none, some}
-use mathlib.Core.Logic.{◌↔◌}
-use Prim.Native.Nat.{ℕ, zero, suc, ◌<◌}
-use native.Mathlib.Omega.{arith}
-use borrow.Author.Tests.{eqb-true, eq-eqb, ne_eqb}
-use lib.Dec.{eqb}
-use lib.ListN.{length, length-append}
 use Rattle.primitives.specs.Bytes.{same}
 use Rattle.primitives.proofs.ByteLists.{same_refl, same_true}
 use Rattle.exports.specs.Text.{Token, mark, word}

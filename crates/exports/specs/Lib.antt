@@ -2,7 +2,6 @@ pub mod Text
 pub mod Lexer
 pub mod Shape
 pub mod Places
-pub mod Strings
 pub mod Parsed
 pub mod Exact
 pub mod Output
@@ -22,3 +21,4 @@ pub mod Orders
 pub mod Letters
 pub mod InOrder
 pub mod Room
+pub mod OneToOne

@@ -12,7 +12,11 @@ use Rattle.receipt.specs.Separated.{skip}
 use Rattle.receipt.specs.Settings.{name_of, settings_good}
 use Rattle.receipt.specs.declared.settings.Settings.{Settings}
 use Rattle.journal.specs.State.{no_name}
-use Rattle.exports.specs.declared.naming.Named.{Named}
+
+-- what a receipt names: settings, or none
+pub record Named : Type 0 where
+  pub good : Bool
+  pub settings : Settings
 
 -- the second of the parts with "." between them
 unfoldable pub middle : List ℕ → List ℕ

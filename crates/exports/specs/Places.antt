@@ -1,15 +1,22 @@
--- What the code finds at a place of a text. A function that reads answers the place after what it read, and 0 where that doesn't stand there; `ReceiptsFound` and `ElementEnded` speak only of places where an element stands.
-use Rattle.std.specs.Prelude.{ℕ, ◌<◌, ◌≤◌, ◌+◌, ◌-◌, ◌≡◌, Bool, true, false, cond, ◌&&◌, ◌||◌, not, List, [], ◌∷◌, ◌++◌, eqb, length, take, drop, get_or}
+-- What the code finds at a place of a text. A function that reads answers the place after what it read, if that stands there; `ReceiptsFound` and `ElementEnded` speak only of places where an element stands.
+use Rattle.std.specs.Prelude.{ℕ, ◌<◌, ◌≤◌, ◌+◌, ◌-◌, ◌≡◌, Bool, true, false, cond, ◌&&◌, ◌||◌, not, List, [], ◌∷◌, ◌++◌, eqb, length, take, drop, get_or, Option, None, Some, MatchOption}
+use Rattle.std.specs.Option.{option_map}
+use Rattle.std.specs.List.{find}
+use denote.Enum.Bare.{sameb}
+use Rattle.exports.specs.contracts.walk.Name.{the_type}
 use Rattle.primitives.specs.Bytes.{same}
-use Rattle.exports.specs.Text.{Token, mark, word, blank, plain}
+use Rattle.exports.specs.Text.{Token, mark, word, blank, is_mark, plain}
 use Rattle.exports.specs.Lexer.{wrong, before, content, lex, lex_in}
-use Rattle.exports.specs.Shape.{certificate_name, issuers_name, receipts_name, group_name, string, strings, Member, certificate, issuers, receipts, member, value_of, Element, Written, written}
+use Rattle.exports.specs.Shape.{certificate_name, issuers_name, receipts_name, group_name, array, string, strings, Member, certificate, issuers, receipts, member, value_of, Element, Written, written, document}
+use Rattle.exports.specs.declared.lexer.Part.{Part}
 use Rattle.exports.specs.declared.lexer.Found.{Found}
-use Rattle.exports.specs.declared.lexer.Close.{Close}
+use Rattle.exports.specs.declared.lexer.Found.TheVariants.{End, Wrong, Quoted, Mark}
+use Rattle.exports.specs.declared.walk.Name.{Name}
+use Rattle.exports.specs.declared.walk.Name.TheVariants.{Certificate, Issuers, Receipts, Group}
 use Rattle.exports.specs.declared.walk.Key.{Key}
 use Rattle.exports.specs.declared.walk.Cursor.{Cursor}
+use Rattle.exports.specs.declared.walk.Cursor.TheVariants.{Item, Past, Broken}
 use Rattle.exports.specs.declared.strings.Letter.{Letter}
-use Rattle.exports.specs.declared.strings.Part.{Part}
 use Rattle.exports.specs.declared.shape.Value.{Value}
 use Rattle.exports.specs.declared.shape.Places.{Places}
 
@@ -40,16 +47,17 @@ pub record EscapeAt (text : List ℕ) (at : ℕ) (r : Bool) : Type 0 where
   pub is : r ≡ true → drop at text ≡ 92 ∷ 117 ∷ 48 ∷ 48 ∷ 51 ∷ 100 ∷ drop (at + 6) text
   pub none : r ≡ false → (rest : List ℕ) → drop at text ≡ 92 ∷ 117 ∷ 48 ∷ 48 ∷ 51 ∷ 100 ∷ rest → ⊥
 
-abbrev pub not_closed : Close
-not_closed = record { length = 0; next = 0 }
+-- the string whose letters begin at `start`
+pub record Ends (text : List ℕ) (start : ℕ) (p : Part) : Type 0 where
+  pub begins : p.start ≡ start
+  pub inside : p.next ≤ length text
+  pub is : (c : List ℕ) → lex_in (drop start text) 0 c ≡ word c ∷ from text p.next
+  pub quote : p.next ≡ start + before (drop start text) + 1
+  pub long : p.length ≡ length (content (drop start text) 0)
 
--- the end of a string whose letters begin at `start`; its place is 0 where there is none
-pub record Closed (text : List ℕ) (start : ℕ) (r : Close) : Type 0 where
-  pub inside : r.next ≤ length text
-  pub none : r.next ≡ 0 → (c : List ℕ) → lex_in (drop start text) 0 c ≡ wrong
-  pub is : 0 < r.next → (start < r.next) × ((c : List ℕ) → lex_in (drop start text) 0 c ≡ word c ∷ from text r.next)
-  pub quote : 0 < r.next → r.next ≡ start + before (drop start text) + 1
-  pub long : 0 < r.next → r.length ≡ length (content (drop start text) 0)
+-- that string, or none if it is wrong or not closed
+abbrev pub Closed : List ℕ → ℕ → Option Part → Type 0
+Closed text start r = MatchOption r ((c : List ℕ) → lex_in (drop start text) 0 c ≡ wrong) (Ends text start)
 
 -- a list contains a byte
 unfoldable pub holds : ℕ → List ℕ → Bool
@@ -67,36 +75,47 @@ pub record Lying (text : List ℕ) : Type 0 where
   pub good : (ts : List Token) × (lex_in text 0 [] ≡ word [] ∷ ts)
   pub spells : Unescaped (take (before text) text) (content text 0)
 
--- the token that was found
-abbrev pub token_at : List ℕ → Found → Token
-token_at text t = record { kind = t.kind; content = cond (eqb t.kind 34) (content (drop t.start text) 0) [] }
+-- the string at a place
+pub record Quotes (text : List ℕ) (at : ℕ) (p : Part) : Type 0 where
+  pub inside : p.next ≤ length text
+  pub onward : at < p.next
+  pub is : from text at ≡ word (content (drop p.start text) 0) ∷ from text p.next
+  pub quote : p.next ≡ p.start + before (drop p.start text) + 1
+  pub lying : Lying (drop p.start text)
+  pub long : p.length ≡ length (content (drop p.start text) 0)
 
--- the end of the tokens, or a wrong one: the place is the text's end
-abbrev pub at_end : ℕ → ℕ → Found
-at_end kind n = record { kind = kind; start = n; length = 0; next = n }
+-- the mark at a place, and r is the place after it
+pub record Marked (b : ℕ) (text : List ℕ) (at r : ℕ) : Type 0 where
+  pub inside : r ≤ length text
+  pub onward : at < r
+  pub is : from text at ≡ mark b ∷ from text r
 
--- the next token, of kind 0 where there is none
-pub record Next (text : List ℕ) (at : ℕ) (t : Found) : Type 0 where
-  pub inside : t.next ≤ length text
-  pub start : t.start ≤ length text
-  pub ended : t.kind ≡ 0 → from text at ≡ []
-  pub is : 0 < t.kind → (at < t.next) × (from text at ≡ token_at text t ∷ from text t.next)
-  pub quote : t.kind ≡ 34 → t.next ≡ t.start + before (drop t.start text) + 1
-  pub lying : t.kind ≡ 34 → Lying (drop t.start text)
-  pub long : t.kind ≡ 34 → t.length ≡ length (content (drop t.start text) 0)
+-- the next token
+abbrev pub Next : List ℕ → ℕ → Found → Type 0
+Next text at End = from text at ≡ []
+Next text at Wrong = from text at ≡ wrong
+Next text at (Quoted p) = Quotes text at p
+Next text at (Mark b r) = (is_mark b ≡ true) × Marked b text at r
+
+-- the place after a mark, if the mark stands there
+abbrev pub Expected : ℕ → List ℕ → ℕ → Option ℕ → Type 0
+Expected b text at r = MatchOption r ((rest : List Token) → from text at ≡ mark b ∷ rest → ⊥) (Marked b text at)
 
 -- ---- one of the things x : A, which are spelled by tokens
 
--- one of these things stands at a place, and r is the place after it; 0 if none does
-pub record Reads {A : Type 0} (item : A → List Token) (text : List ℕ) (at r : ℕ) : Type 0 where
+-- one of these things stands at a place, and r is the place after it
+pub record ReadTo {A : Type 0} (item : A → List Token) (text : List ℕ) (at r : ℕ) : Type 0 where
   pub inside : r ≤ length text
-  pub onward : 0 < r → at < r
-  pub sound : 0 < r → (x : A) × (from text at ≡ item x ++ from text r)
-  pub complete : (x : A) (rest : List Token) → from text at ≡ item x ++ rest → (0 < r) × (from text r ≡ rest)
+  pub onward : at < r
+  pub sound : (x : A) × (from text at ≡ item x ++ from text r)
+  pub complete : (x : A) (rest : List Token) → from text at ≡ item x ++ rest → from text r ≡ rest
 
--- one mark
-abbrev pub one : ℕ → Unit {0} → List Token
-one b u = mark b ∷ []
+-- none of them stands there
+pub record Absent {A : Type 0} (item : A → List Token) (text : List ℕ) (at : ℕ) : Type 0 where
+  pub none : (x : A) (rest : List Token) → from text at ≡ item x ++ rest → ⊥
+
+abbrev pub Reads : {A : Type 0} → (A → List Token) → List ℕ → ℕ → Option ℕ → Type 0
+Reads item text at r = MatchOption r (Absent item text at) (ReadTo item text at)
 
 -- ---- names
 
@@ -109,30 +128,54 @@ unfoldable pub name_number : List ℕ → ℕ
 name_number w =
     cond (same w certificate_name) 1 (cond (same w issuers_name) 2 (cond (same w receipts_name) 3 (cond (same w group_name) 4 0)))
 
--- a name and ":"; the name's number, and 0 where there is none of the four
-pub record Keyed (text : List ℕ) (at : ℕ) (k : Key) : Type 0 where
-  pub inside : k.next ≤ length text
-  pub onward : 0 < k.number → at < k.next
-  pub sound : 0 < k.number → (w : List ℕ) × (name_number w ≡ k.number) × (from text at ≡ word w ∷ mark 58 ∷ from text k.next)
-  pub complete : (w : List ℕ) (rest : List Token) → from text at ≡ word w ∷ mark 58 ∷ rest → (k.number ≡ name_number w) × (0 < k.number → from text k.next ≡ rest)
+abbrev pub spelling : Name → List ℕ
+spelling Certificate = certificate_name
+spelling Issuers = issuers_name
+spelling Receipts = receipts_name
+spelling Group = group_name
 
--- ---- arrays: where the next item stands, or the place after the array; 0 where neither stands there
+-- which name a string spells
+abbrev pub NameRead : List ℕ → Option Name → Type 0
+NameRead w r = MatchOption r ((n : Name) → w ≡ spelling n → ⊥) (λ n. w ≡ spelling n)
+
+-- a name and ":"
+pub record KeyedBy (text : List ℕ) (at : ℕ) (k : Key) : Type 0 where
+  pub inside : k.next ≤ length text
+  pub onward : at < k.next
+  pub is : from text at ≡ word (spelling k.name) ∷ mark 58 ∷ from text k.next
+
+abbrev pub Keyed : List ℕ → ℕ → Option Key → Type 0
+Keyed text at r = MatchOption r ((n : Name) (rest : List Token) → from text at ≡ word (spelling n) ∷ mark 58 ∷ rest → ⊥) (KeyedBy text at)
+
+-- ---- arrays: where the next item stands, or the place after the array
+
+-- an array begins at a place: an item of it stands at p
+pub record Opened (text : List ℕ) (at p : ℕ) : Type 0 where
+  pub bracket : Marked 91 text at p
+  pub more : (r : List Token) → from text p ≡ mark 93 ∷ r → ⊥
+
+-- or it is empty, and p is the place after it
+pub record Empty (text : List ℕ) (at p : ℕ) : Type 0 where
+  pub inside : p ≤ length text
+  pub onward : at < p
+  pub is : from text at ≡ mark 91 ∷ mark 93 ∷ from text p
 
 -- from the array's place on
-pub record Begun (text : List ℕ) (at : ℕ) (c : Cursor) : Type 0 where
-  pub inside : c.at ≤ length text
-  pub onward : 0 < c.at → at < c.at
-  pub more : c.more ≡ true → (0 < c.at) × (from text at ≡ mark 91 ∷ from text c.at) × ((r : List Token) → from text c.at ≡ mark 93 ∷ r → ⊥)
-  pub ended : c.more ≡ false → 0 < c.at → from text at ≡ mark 91 ∷ mark 93 ∷ from text c.at
-  pub none : c.more ≡ false → c.at ≡ 0 → (r : List Token) → from text at ≡ mark 91 ∷ r → ⊥
+abbrev pub Begun : List ℕ → ℕ → Cursor → Type 0
+Begun text at (Item p) = Opened text at p
+Begun text at (Past p) = Empty text at p
+Begun text at Broken = (r : List Token) → from text at ≡ mark 91 ∷ r → ⊥
 
 -- after an item
-pub record Followed (text : List ℕ) (at : ℕ) (c : Cursor) : Type 0 where
-  pub inside : c.at ≤ length text
-  pub onward : 0 < c.at → at < c.at
-  pub more : c.more ≡ true → (0 < c.at) × (from text at ≡ mark 44 ∷ from text c.at)
-  pub ended : c.more ≡ false → 0 < c.at → from text at ≡ mark 93 ∷ from text c.at
-  pub none : c.more ≡ false → c.at ≡ 0 → (r : List Token) → (from text at ≡ mark 44 ∷ r → ⊥) × (from text at ≡ mark 93 ∷ r → ⊥)
+abbrev pub Followed : List ℕ → ℕ → Cursor → Type 0
+Followed text at (Item p) = Marked 44 text at p
+Followed text at (Past p) = Marked 93 text at p
+Followed text at Broken = (r : List Token) → (from text at ≡ mark 44 ∷ r → ⊥) × (from text at ≡ mark 93 ∷ r → ⊥)
+
+abbrev pub end_of : Cursor → Option ℕ
+end_of (Item p) = None
+end_of (Past p) = Some p
+end_of Broken = None
 
 -- ---- members and elements
 
@@ -141,49 +184,54 @@ number_of (certificate w) = 1
 number_of (issuers ws) = 2
 number_of (receipts ws) = 3
 
--- the value of a member with a number: a string for 1, an array of strings for another
-pub record ValueRead (number : ℕ) (text : List ℕ) (at r : ℕ) : Type 0 where
-  pub inside : r ≤ length text
-  pub onward : 0 < r → at < r
-  pub one : number ≡ 1 → Reads string text at r
-  pub more : (number ≡ 1 → ⊥) → Reads strings text at r
+abbrev pub title : Member → Name
+title (certificate w) = Certificate
+title (issuers ws) = Issuers
+title (receipts ws) = Receipts
+
+-- the value that belongs to a name: a string, or an array of strings
+abbrev pub ValueRead : Name → List ℕ → ℕ → Option ℕ → Type 0
+ValueRead Certificate text at r = Reads string text at r
+ValueRead Issuers text at r = Reads strings text at r
+ValueRead Receipts text at r = Reads strings text at r
+ValueRead Group text at r = Reads strings text at r
 
 -- a mark and a member
 unfoldable pub led : ℕ → Member → List Token
 led b m = mark b ∷ member m
 
--- a mark and a member's name; the name's number, and 0 where there is none of the three
-pub record MemberKeyed (text : List ℕ) (at lead : ℕ) (k : Key) : Type 0 where
+-- a mark and a member's name
+pub record MemberKeyedBy (text : List ℕ) (at lead : ℕ) (k : Key) : Type 0 where
   pub inside : k.next ≤ length text
-  pub onward : 0 < k.number → at < k.next
-  pub small : k.number ≤ 3
-  pub sound : 0 < k.number → (w : List ℕ) × (name_number w ≡ k.number) × (from text at ≡ mark lead ∷ word w ∷ mark 58 ∷ from text k.next)
-  pub complete : (m : Member) (rest : List Token) → from text at ≡ led lead m ++ rest → (k.number ≡ number_of m) × (from text k.next ≡ value_of m ++ rest)
+  pub onward : at < k.next
+  pub good : k.name ≡ Group → ⊥
+  pub is : from text at ≡ mark lead ∷ word (spelling k.name) ∷ mark 58 ∷ from text k.next
 
-pub record MemberRead (text : List ℕ) (at lead : ℕ) (v : Value) : Type 0 where
-  pub reads : Reads (led lead) text at v.next
-  pub found : (m : Member) (rest : List Token) → from text at ≡ led lead m ++ rest → (v.number ≡ number_of m) × (0 < v.place) × (from text v.place ≡ value_of m ++ rest)
+abbrev pub MemberKeyed : List ℕ → ℕ → ℕ → Option Key → Type 0
+MemberKeyed text at lead r = MatchOption r (Absent (led lead) text at) (MemberKeyedBy text at lead)
+
+pub record MemberAt (text : List ℕ) (at lead : ℕ) (v : Value) : Type 0 where
+  pub reads : ReadTo (led lead) text at v.next
+  pub found : (m : Member) (rest : List Token) → from text at ≡ led lead m ++ rest → (v.name ≡ title m) × (from text v.place ≡ value_of m ++ rest)
   pub place : v.place ≤ length text
 
--- the place of the value with a number, or 0
-unfoldable pub place_in : ℕ → List Value → ℕ
-place_in n [] = 0
-place_in n (v ∷ vs) = cond (eqb v.number n) v.place (place_in n vs)
+abbrev pub MemberRead : List ℕ → ℕ → ℕ → Option Value → Type 0
+MemberRead text at lead r = MatchOption r (Absent (led lead) text at) (MemberAt text at lead)
 
-abbrev pub place_of : ℕ → Value → Value → Value → ℕ
-place_of n a b c = place_in n (a ∷ b ∷ c ∷ [])
+-- the place of the first value with a name
+abbrev pub is_name : Name → Name → Bool
+is_name m n = sameb the_type m n
 
-abbrev pub no_value : Value
-no_value = record { number = 0; place = 0; next = 0 }
-
-abbrev pub no_places : Places
-no_places = record { certificate = 0; issuers = 0; receipts = 0; next = 0 }
+abbrev pub place_of : Name → Value → Value → Value → Option ℕ
+place_of n a b c = option_map (λ v. v.place) (find (λ v. is_name v.name n) (a ∷ b ∷ c ∷ []))
 
 -- all three, or none
-unfoldable pub places_of : Value → Value → Value → ℕ → Places
-places_of a b c next =
-    cond (eqb (place_of 1 a b c) 0) no_places (cond (eqb (place_of 2 a b c) 0) no_places (cond (eqb (place_of 3 a b c) 0) no_places
-    (record { certificate = place_of 1 a b c; issuers = place_of 2 a b c; receipts = place_of 3 a b c; next = next })))
+abbrev pub three_places : Option ℕ → Option ℕ → Option ℕ → ℕ → Option Places
+three_places (Some c) (Some i) (Some r) next = Some (record { certificate = c; issuers = i; receipts = r; next = next })
+three_places c i r next = None
+
+unfoldable pub places_of : Value → Value → Value → ℕ → Option Places
+places_of a b c next = three_places (place_of Certificate a b c) (place_of Issuers a b c) (place_of Receipts a b c) next
 
 -- where the three values of an element stand
 pub record Placed (text : List ℕ) (p : Places) (e : Element) : Type 0 where
@@ -191,12 +239,15 @@ pub record Placed (text : List ℕ) (p : Places) (e : Element) : Type 0 where
   pub issuers : (r : List Token) × (from text p.issuers ≡ strings e.issuers ++ r)
   pub receipts : (r : List Token) × (from text p.receipts ≡ strings e.receipts ++ r)
 
-pub record ElementRead (text : List ℕ) (at : ℕ) (p : Places) : Type 0 where
-  pub reads : Reads written text at p.next
+pub record ElementAt (text : List ℕ) (at : ℕ) (p : Places) : Type 0 where
+  pub reads : ReadTo written text at p.next
   pub found : (w : Written) (rest : List Token) → from text at ≡ written w ++ rest → Placed text p w.element
   pub certificate_inside : p.certificate ≤ length text
   pub issuers_inside : p.issuers ≤ length text
   pub receipts_inside : p.receipts ≤ length text
+
+abbrev pub ElementRead : List ℕ → ℕ → Option Places → Type 0
+ElementRead text at r = MatchOption r (Absent written text at) (ElementAt text at)
 
 -- after the receipts of an element: its other members and "}", and then `rest`
 pub data Closing : List Token → List Token → Type 0 where
@@ -204,15 +255,37 @@ pub data Closing : List Token → List Token → Type 0 where
   more : (m : Member) {ts rest : List Token} → Closing ts rest → Closing (led 44 m ++ ts) rest
 
 -- r is the place of the receipts of the element at a place
-pub record ReceiptsFound (text : List ℕ) (at r : ℕ) : Type 0 where
+pub record ReceiptsAt (text : List ℕ) (at r : ℕ) : Type 0 where
   pub inside : r ≤ length text
+  pub onward : at < r
   pub is : (w : Written) (rest : List Token) → from text at ≡ written w ++ rest
-      → (at < r) × (ts : List Token) × (from text r ≡ strings w.element.receipts ++ ts) × (Closing ts rest)
+      → (ts : List Token) × (from text r ≡ strings w.element.receipts ++ ts) × (Closing ts rest)
+
+abbrev pub ReceiptsFound : List ℕ → ℕ → Option ℕ → Type 0
+ReceiptsFound text at r = MatchOption r (Absent written text at) (ReceiptsAt text at)
 
 -- r is the place after the element whose receipts end at a place
-pub record ElementEnded (text : List ℕ) (at r : ℕ) : Type 0 where
+pub record EndedAt (text : List ℕ) (at r : ℕ) : Type 0 where
   pub inside : r ≤ length text
-  pub is : (ts rest : List Token) → Closing ts rest → from text at ≡ ts → (at < r) × (from text r ≡ rest)
+  pub onward : at < r
+  pub is : (ts rest : List Token) → Closing ts rest → from text at ≡ ts → from text r ≡ rest
+
+abbrev pub ElementEnded : List ℕ → ℕ → Option ℕ → Type 0
+ElementEnded text at r = MatchOption r ((ts rest : List Token) → Closing ts rest → from text at ≡ ts → ⊥) (EndedAt text at)
+
+-- where the array of elements stands
+pub record GroupAt (text : List ℕ) (p : ℕ) : Type 0 where
+  pub inside : p ≤ length text
+  pub is : from text 0 ≡ mark 123 ∷ word group_name ∷ mark 58 ∷ from text p
+
+abbrev pub GroupPlace : List ℕ → Option ℕ → Type 0
+GroupPlace text r = MatchOption r ((rest : List Token) → from text 0 ≡ mark 123 ∷ word group_name ∷ mark 58 ∷ rest → ⊥) (GroupAt text)
+
+-- where some elements are spelled, their array stands at this place, and the cursor is at its first element
+pub record GroupBegun (text : List ℕ) (c : Cursor) : Type 0 where
+  pub place : ℕ
+  pub group : (ws : List Written) → from text 0 ≡ document ws → from text place ≡ array written ws ++ (mark 125 ∷ [])
+  pub begun : Begun text place c
 
 -- ---- a string where it lies
 
@@ -220,24 +293,19 @@ pub record ElementEnded (text : List ℕ) (at r : ℕ) : Type 0 where
 pub record LettersAt (text : List ℕ) (at : ℕ) : Type 0 where
   pub good : (ts : List Token) × (lex_in (drop at text) 0 [] ≡ word [] ∷ ts)
 
-abbrev pub no_part : Part
-no_part = record { start = 0; length = 0; next = 0 }
-
 -- its letters as they lie, up to the quote
 abbrev pub raw_of : List ℕ → Part → List ℕ
 raw_of text p = take (p.next - 1 - p.start) (drop p.start text)
 
-pub record PartRead (text : List ℕ) (at : ℕ) (p : Part) : Type 0 where
-  pub reads : Reads string text at p.next
-  pub inside : p.start + p.length ≤ length text
-  pub quote : 0 < p.next → p.start + p.length < p.next
-  pub good : 0 < p.next → LettersAt text p.start
-  pub is : (w : List ℕ) (r : List Token) → from text at ≡ string w ++ r → w ≡ content (drop p.start text) 0
-  pub long : (w : List ℕ) (r : List Token) → from text at ≡ string w ++ r → p.length ≡ length w
-  pub spells : (w : List ℕ) (r : List Token) → from text at ≡ string w ++ r → Unescaped (raw_of text p) w
+abbrev pub PartRead : List ℕ → ℕ → Option Part → Type 0
+PartRead text at r = MatchOption r (Absent string text at) (Quotes text at)
 
 -- ---- the letters of a string, one by one
 
-pub record LetterRead (text : List ℕ) (at : ℕ) (l : Letter) : Type 0 where
-  pub ended : l.some ≡ false → content (drop at text) 0 ≡ []
-  pub more : l.some ≡ true → (at < l.next) × (LettersAt text l.next) × (content (drop at text) 0 ≡ l.byte ∷ content (drop l.next text) 0)
+pub record LetterAt (text : List ℕ) (at : ℕ) (l : Letter) : Type 0 where
+  pub onward : at < l.next
+  pub good : LettersAt text l.next
+  pub is : content (drop at text) 0 ≡ l.byte ∷ content (drop l.next text) 0
+
+abbrev pub LetterRead : List ℕ → ℕ → Option Letter → Type 0
+LetterRead text at r = MatchOption r (content (drop at text) 0 ≡ []) (LetterAt text at)

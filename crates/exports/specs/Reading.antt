@@ -1,12 +1,16 @@
 -- Reading an export: "It rebuilds the journal, with the head from the first receipt, and takes it over."
-use Rattle.std.specs.Prelude.{ℕ, Bool, ◌&&◌, List, [], ◌∷◌, map, leb, length}
+use Rattle.std.specs.Prelude.{ℕ, Bool, ◌&&◌, List, [], ◌∷◌, map, leb, length, Result, Ok, Err}
 use Rattle.std.proofs.Math.Option.{Option, none, some}
 use Rattle.primitives.specs.Place.{overwrite}
 use Rattle.primitives.specs.Questions.{ask, ifZero}
 use Rattle.primitives.specs.Base64.{accepted}
 use Rattle.primitives.specs.declared.base64.Alphabet.TheVariants.{Standard}
 use Rattle.receipt.specs.declared.settings.Settings.{Settings}
+use Rattle.primitives.specs.Refusals.{number_of}
+use Rattle.journal.specs.declared.state.State.{State}
+use Rattle.journal.specs.declared.state.RefusedAt.{RefusedAt}
 use Rattle.journal.specs.State.{unopened}
+use Rattle.exports.specs.declared.reading.Restored.{Restored as Read}
 use Rattle.journal.specs.Valid.{Owner}
 use Rattle.journal.specs.Checking.{take_over}
 use Rattle.journal.specs.declared.state.TakenOver.{TakenOver}
@@ -15,7 +19,6 @@ use Rattle.exports.specs.Shape.{Element}
 use Rattle.exports.specs.Parsed.{elements_of}
 use Rattle.exports.specs.Spelled.{short, some_of, TextPair, journal_spelled}
 use Rattle.exports.specs.Naming.{named}
-use Rattle.exports.specs.declared.reading.Restored.{Restored}
 
 -- ---- what is asked of an element
 
@@ -69,6 +72,17 @@ unfoldable pub elements_number : List Element → ℕ → ℕ
 elements_number es room = survey_number es (ask (leb (length (journal_of_elements es)) room) 23 0)
 
 -- ---- the call
+
+-- its answer: the number of the first question answered no, and Take over's index, or 0 for 28, 29 and 23; or 0, the length of the journal and the state after it
+pub record Restored : Type 0 where
+  pub number : ℕ
+  pub index : ℕ
+  pub length : ℕ
+  pub state : State
+
+abbrev pub as_restored : Result Read RefusedAt → Restored
+as_restored (Ok r) = record { number = 0; index = 0; length = r.length; state = r.state }
+as_restored (Err r) = record { number = number_of r.question; index = r.index; length = 0; state = unopened }
 
 unfoldable pub not_read : ℕ → ℕ → Restored
 not_read number index = record { number = number; index = index; length = 0; state = unopened }

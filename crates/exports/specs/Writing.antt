@@ -1,6 +1,6 @@
 -- Writing an export: "Write a journal as {"Belege-Gruppe":[{"Signaturzertifikat":"","Zertifizierungsstellen":[],"Belege-kompakt":[]}]}, without blanks,
 -- with the certificate, its issuers and the compact forms filled in as strings."
-use Rattle.std.specs.Prelude.{ℕ, Bool, true, false, cond, List, [], ◌∷◌, ◌++◌, map, length}
+use Rattle.std.specs.Prelude.{ℕ, Bool, true, false, cond, List, [], ◌∷◌, ◌++◌, map, length, Result, Ok, Err}
 use Rattle.std.proofs.Math.Option
 use Rattle.std.proofs.Math.Option.{Option}
 use Rattle.primitives.specs.Text.{ascii}
@@ -8,13 +8,14 @@ use Rattle.primitives.specs.Answers.{answer_with, bufferWith}
 use Rattle.primitives.specs.Questions.{ifZero}
 use Rattle.primitives.specs.Base64.{encoding}
 use Rattle.primitives.specs.declared.base64.Alphabet.TheVariants.{Standard}
-use Rattle.primitives.specs.declared.answer.Answer.{Answer}
+use Rattle.primitives.specs.Answers.{Answer}
 use Rattle.journal.specs.Checking.{take_over}
+use Rattle.primitives.specs.Refusals.{number_of}
+use Rattle.journal.specs.declared.state.RefusedAt.{RefusedAt}
 use Rattle.journal.specs.declared.state.TakenOver.{TakenOver}
 use Rattle.exports.specs.Shape.{Element}
 use Rattle.exports.specs.Spelled.{TextPair, pairs_of}
 use Rattle.exports.specs.Groups.{Group, groups_of}
-use Rattle.exports.specs.declared.writing.Exported.{Exported}
 
 -- ---- the text of elements
 
@@ -71,10 +72,6 @@ export_text es = opening ++ (listed element_text false es ++ ending)
 abbrev pub in_base64 : List ℕ → List ℕ
 in_base64 xs = encoding Standard xs
 
--- what is written of a string: BASE64 of it, if it is coded
-unfoldable pub spelling : Bool → List ℕ → List ℕ
-spelling coded w = cond coded (in_base64 w) w
-
 -- "Certificates .. leave in BASE64."
 unfoldable pub element_for : TextPair → Group → Element
 element_for p g = record { certificate = in_base64 g.certificate; issuers = map in_base64 g.issuers; receipts = p.texts }
@@ -90,6 +87,16 @@ unfoldable pub export_of : List ℕ → List ℕ → Option (List ℕ)
 export_of j certificates = Option.map (λ (gs : List Group). export_text (elements_for (pairs_of j) gs)) (groups_of (length (pairs_of j)) certificates)
 
 -- ---- the call: "The writer first takes the journal over and .. passes on number and index; then comes 28 for any other buffer, then 23."
+
+-- the answer: the number of the first question answered no, and Take over's index, or 0 for 28 and 23; or 0 and the length of the text
+pub record Exported : Type 0 where
+  pub number : ℕ
+  pub index : ℕ
+  pub length : ℕ
+
+abbrev pub as_exported : Result ℕ RefusedAt → Exported
+as_exported (Ok n) = record { number = 0; index = 0; length = n }
+as_exported (Err r) = record { number = number_of r.question; index = r.index; length = 0 }
 
 abbrev pub answered : Answer → Exported
 answered a = record { number = a.number; index = 0; length = a.length }

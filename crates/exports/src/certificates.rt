@@ -7,14 +7,14 @@ ghost use Rattle.exports.specs.Places.{from, LettersAt};
 ghost use Rattle.exports.specs.Reading.{canonical};
 ghost use Rattle.exports.specs.Passing.{QuadRead, SizedRead, GroupRead, GroupsThere};
 
+use super::output::moved;
 use super::strings::{letter_at, part_at};
-use super::walk::{begin, follow};
-use primitives::{Alphabet, Decoded};
-use receipt::Number;
+use super::walk::{Cursor, begin, follow};
+use primitives::{Alphabet, DecodeError};
 
 // ---- in strings
 
-// Four letters of a string, the escape read, and the place after them; fewer where the string ends.
+// Four letters of a string, the escape read, and the place after them; fewer where the string ends. An array and a count, since the library allocates nothing.
 #[derive(Clone, Copy)]
 pub(crate) struct Quad {
     pub(crate) count: usize,
@@ -28,24 +28,21 @@ pub(crate) fn quad_at(text: &[u8], at: usize) -> Quad
 {
     let mut bytes = [0u8; 4];
     let mut next = at;
-    let mut i: usize = 0;
-    while i < 4 {
-        let l = letter_at(text, next);
-        if !l.some {
+    for i in 0..4 {
+        let Some(l) = letter_at(text, next) else {
             return Quad {
                 count: i,
-                bytes: bytes,
-                next: next,
+                bytes,
+                next,
             };
-        }
+        };
         bytes[i] = l.byte;
         next = l.next;
-        i += 1;
     }
     Quad {
         count: 4,
-        bytes: bytes,
-        next: next,
+        bytes,
+        next,
     }
 }
 
@@ -54,14 +51,12 @@ pub(crate) fn quad_good(bytes: [u8; 4]) -> bool
     ensures { result ≡ canonical bytes }
 {
     let mut three = [0u8; 3];
-    match primitives::base64_decode(Alphabet::Standard, &bytes, &mut three, 0) {
-        Decoded::Upto(n) => true,
-        Decoded::Refused => false,
-        Decoded::NoRoom => true,
-    }
+    primitives::base64_decode(Alphabet::Standard, &bytes, &mut three, 0)
+        != Err(DecodeError::Refused)
 }
 
 // The string whose letters begin at a place is canonical BASE64. Padding stands in its last four letters.
+// A `while`: each turn holds four letters and reads the next four, which may be fewer; an iterator over them needs the same states, and an impl.
 pub(crate) fn canonical_at(text: &[u8], start: usize) -> bool
     requires { LettersAt text.now start }
     ensures { result ≡ canonical (content (drop start text.now) 0) }
@@ -88,11 +83,10 @@ pub(crate) fn certificate_good(text: &[u8], at: usize) -> bool
     requires { at ≤ length text.now }
     ensures { (w : List ℕ) (rest : List Token) → from text.now at ≡ string w ++ rest → result ≡ canonical w }
 {
-    let p = part_at(text, at);
-    if p.next == 0 {
-        return false;
+    match part_at(text, at) {
+        Some(s) => canonical_at(text, s.start),
+        None => false,
     }
-    canonical_at(text, p.start)
 }
 
 // Every string of an array is canonical BASE64.
@@ -101,60 +95,41 @@ pub(crate) fn issuers_good(text: &[u8], at: usize) -> bool
     ensures { (ws : List (List ℕ)) (rest : List Token) → from text.now at ≡ strings ws ++ rest → result ≡ every canonical ws }
 {
     let mut c = begin(text, at);
-    while c.more {
-        let p = part_at(text, c.at);
-        let next = p.next;
-        if next == 0 {
+    while let Cursor::Item(p) = c {
+        let Some(s) = part_at(text, p) else {
+            return false;
+        };
+        if !canonical_at(text, s.start) {
             return false;
         }
-        if !canonical_at(text, p.start) {
-            return false;
-        }
-        c = follow(text, next);
+        c = follow(text, s.next);
     }
     true
 }
 
 // ---- in a buffer of groups
 
-// The place after the text at a place, which stands after its length in two bytes; 0 if it is not all there.
-pub(crate) fn sized_end(s: &[u8], at: usize) -> usize
+// The place after the text at a place, which stands after its length in two bytes, if it is all there.
+pub(crate) fn sized_end(s: &[u8], at: usize) -> Option<usize>
     ensures { SizedRead s.now at result }
 {
-    match receipt::number_at(s, at, 2) {
-        Number::Is(v) => {
-            let n = v as usize;
-            let a = at + 2;
-            if !receipt::has_room(s.len(), a, n) {
-                return 0;
-            }
-            a + n
-        }
-        Number::Missing => 0,
-    }
+    let n = receipt::number_at(s, at, 2)?;
+    moved(s.len(), Some(at + 2), n as usize)
 }
 
-// The place after the group at a place; 0 if there is none.
-pub(crate) fn group_end(s: &[u8], at: usize) -> usize
+// The place after the group at a place, if there is one.
+pub(crate) fn group_end(s: &[u8], at: usize) -> Option<usize>
     ensures { GroupRead s.now at result }
 {
-    if s.len() <= at {
-        return 0;
-    }
-    let count = s[at];
+    let count = *s.get(at)?;
     if count == 0 {
-        return 0;
+        return None;
     }
     let mut p = at + 1;
-    let mut i: u8 = 0;
-    while i < count {
-        p = sized_end(s, p);
-        if p == 0 {
-            return 0;
-        }
-        i += 1;
+    for _ in 0..count {
+        p = sized_end(s, p)?;
     }
-    p
+    Some(p)
 }
 
 // The buffer is exactly k groups.
@@ -162,13 +137,11 @@ pub(crate) fn groups_there(s: &[u8], k: usize) -> bool
     ensures { (result ≡ true) ↔ GroupsThere k s.now }
 {
     let mut p: usize = 0;
-    let mut i: usize = 0;
-    while i < k {
-        p = group_end(s, p);
-        if p == 0 {
+    for _ in 0..k {
+        let Some(e) = group_end(s, p) else {
             return false;
-        }
-        i += 1;
+        };
+        p = e;
     }
     p == s.len()
 }

@@ -1,90 +1,69 @@
 // Tokens of a text, from a place on.
+// The text and the place are two arguments and not one value: as a value each contract would say besides that what is answered lies in the same text.
 ghost use Rattle.std.specs.Prelude.{◌≡◌, true, ◌≤◌, length, drop};
+ghost use Rattle.std.specs.List.{prefix_len};
 ghost use Rattle.primitives.specs.Bytes.{same};
 ghost use Rattle.exports.specs.Text.{blank, is_mark, plain};
 ghost use Rattle.exports.specs.Lexer.{content};
-ghost use Rattle.exports.specs.Places.{Skipped, Stopped, EscapeAt, not_closed, Closed, at_end, Next, bare};
+ghost use Rattle.exports.specs.Places.{Skipped, Stopped, EscapeAt, Closed, Next, bare};
 
-// A token: its kind is 0 at the end, 1 for a wrong byte, 34 for a string, or the mark itself.
-// The letters of a string begin at `start`, and `length` is how many bytes it spells; `next` is the place after the token.
+// A string where it lies: its letters begin at `start`, and `length` is how many bytes it spells; `next` is the place after its quote.
 #[derive(Clone, Copy)]
-pub struct Found {
-    pub kind: u8,
+pub struct Part {
     pub start: usize,
     pub length: usize,
     pub next: usize,
 }
 
-// How many bytes a string spells, and the place after the quote that closes it; that place is 0 where the string is wrong or not closed.
+// What stands at a place: the end of the text, a wrong byte, a string, or a mark and the place after it.
 #[derive(Clone, Copy)]
-pub struct Close {
-    pub length: usize,
-    pub next: usize,
+pub enum Found {
+    End,
+    Wrong,
+    Quoted(Part),
+    Mark(u8, usize),
 }
 
+#[tactic(auto, unfolding(crate::specs::Text::blank))]
 pub(crate) fn is_blank(b: u8) -> bool
     ensures { result ≡ blank b }
 {
-    if b == 32 {
-        return true;
-    }
-    if b == 9 {
-        return true;
-    }
-    if b == 10 {
-        return true;
-    }
-    b == 13
+    matches!(b, b' ' | b'\t' | b'\n' | b'\r')
 }
 
+#[tactic(auto, unfolding(crate::specs::Text::is_mark))]
 pub(crate) fn is_mark(b: u8) -> bool
     ensures { result ≡ is_mark b }
 {
-    if b == 123 {
-        return true;
-    }
-    if b == 125 {
-        return true;
-    }
-    if b == 91 {
-        return true;
-    }
-    if b == 93 {
-        return true;
-    }
-    if b == 58 {
-        return true;
-    }
-    b == 44
+    matches!(b, b'{' | b'}' | b'[' | b']' | b':' | b',')
 }
 
+#[tactic(auto, unfolding(crate::specs::Text::plain))]
 pub(crate) fn is_plain(b: u8) -> bool
     ensures { result ≡ plain b }
 {
-    if b < 32 {
-        return false;
-    }
-    if 126 < b {
-        return false;
-    }
-    if b == 34 {
-        return false;
-    }
-    b != 92
+    matches!(b, b' '..=b'~') && b != b'"' && b != b'\\'
+}
+
+// How many blanks a text begins with.
+fn blanks(text: &[u8]) -> usize
+    ensures { result ≡ prefix_len blank text.now }
+{
+    text.iter().take_while(|b| is_blank(**b)).count()
 }
 
 pub(crate) fn skip_blanks(text: &[u8], at: usize) -> usize
     requires { at ≤ length text.now }
     ensures { Skipped text.now at result }
 {
-    let mut i = at;
-    while i < text.len() {
-        if !is_blank(text[i]) {
-            return i;
-        }
-        i += 1;
-    }
-    i
+    at + blanks(&text[at..])
+}
+
+// How many plain bytes a text begins with.
+fn plain_bytes(text: &[u8]) -> usize
+    ensures { result ≡ prefix_len plain text.now }
+{
+    text.iter().take_while(|b| is_plain(**b)).count()
 }
 
 // The first place from `start` on that holds no plain byte; the text's length if there is none.
@@ -92,137 +71,64 @@ pub(crate) fn plain_end(text: &[u8], start: usize) -> usize
     requires { start ≤ length text.now }
     ensures { Stopped text.now start result }
 {
-    let mut i = start;
-    while i < text.len() {
-        if !is_plain(text[i]) {
-            return i;
-        }
-        i += 1;
-    }
-    i
+    start + plain_bytes(&text[start..])
 }
 
-// The escape \u003d stands at a place.
+// The escape stands at a place.
 pub(crate) fn escape_at(text: &[u8], at: usize) -> bool
     requires { at ≤ length text.now }
     ensures { EscapeAt text.now at result }
 {
-    if text.len() - at < 6 {
-        return false;
-    }
-    if text[at] != 92 {
-        return false;
-    }
-    if text[at + 1] != 117 {
-        return false;
-    }
-    if text[at + 2] != 48 {
-        return false;
-    }
-    if text[at + 3] != 48 {
-        return false;
-    }
-    if text[at + 4] != 51 {
-        return false;
-    }
-    text[at + 5] == 100
+    text[at..].starts_with(b"\\u003d")
 }
 
-// Where a string is wrong or not closed.
-fn not_closed() -> Close
-    ensures { result ≡ not_closed }
-{
-    Close { length: 0, next: 0 }
-}
-
-// The end of a string whose letters begin at `start`.
-pub(crate) fn string_end(text: &[u8], start: usize) -> Close
+// The string whose letters begin at `start`; none if it is wrong or not closed. A `while`: it goes from escape to escape, of which nobody knows how many there are.
+pub(crate) fn string_at(text: &[u8], start: usize) -> Option<Part>
     requires { start ≤ length text.now }
     ensures { Closed text.now start result }
 {
-    let mut i = plain_end(text, start);
-    let mut n = i - start;
-    while i < text.len() {
-        if text[i] == 34 {
-            return Close {
-                length: n,
-                next: i + 1,
-            };
-        }
-        if !escape_at(text, i) {
-            return not_closed();
-        }
-        let e = i + 6;
-        i = plain_end(text, e);
-        n = n + 1 + (i - e);
+    let mut end = plain_end(text, start);
+    let mut length = end - start;
+    while escape_at(text, end) {
+        let after = end + 6;
+        end = plain_end(text, after);
+        length += 1 + (end - after);
     }
-    not_closed()
-}
-
-// At the end of the tokens, or at a wrong byte: the place is the end of the text.
-fn at_end(kind: u8, n: usize) -> Found
-    ensures { result ≡ at_end kind n }
-{
-    Found {
-        kind,
-        start: n,
-        length: 0,
-        next: n,
+    if end < text.len() && text[end] == b'"' {
+        return Some(Part {
+            start,
+            length,
+            next: end + 1,
+        });
     }
+    None
 }
 
 pub(crate) fn next(text: &[u8], at: usize) -> Found
     requires { at ≤ length text.now }
     ensures { Next text.now at result }
 {
-    let n = text.len();
     let p = skip_blanks(text, at);
-    if p == n {
-        return at_end(0, n);
+    if p == text.len() {
+        return Found::End;
     }
     let b = text[p];
-    if b == 34 {
-        let e = string_end(text, p + 1);
-        if e.next == 0 {
-            return at_end(1, n);
+    if b == b'"' {
+        match string_at(text, p + 1) {
+            Some(part) => Found::Quoted(part),
+            None => Found::Wrong,
         }
-        return Found {
-            kind: 34,
-            start: p + 1,
-            length: e.length,
-            next: e.next,
-        };
+    } else if is_mark(b) {
+        Found::Mark(b, p + 1)
+    } else {
+        Found::Wrong
     }
-    if is_mark(b) {
-        return Found {
-            kind: b,
-            start: p,
-            length: 0,
-            next: p + 1,
-        };
-    }
-    at_end(1, n)
 }
 
-// A string, whose letters begin at a place, spells a name.
-pub(crate) fn spells(text: &[u8], start: usize, name: &[u8]) -> bool
-    requires { (start ≤ length text.now) × (bare name.now ≡ true) }
-    ensures { result ≡ same (content (drop start text.now) 0) name.now }
+// Letters, up to the quote, spell a name.
+pub(crate) fn spells(letters: &[u8], name: &[u8]) -> bool
+    requires { bare name.now ≡ true }
+    ensures { result ≡ same (content letters.now 0) name.now }
 {
-    let mut at = start;
-    let mut i: usize = 0;
-    while i < name.len() {
-        if at >= text.len() {
-            return false;
-        }
-        if text[at] != name[i] {
-            return false;
-        }
-        at += 1;
-        i += 1;
-    }
-    if at < text.len() {
-        return text[at] == 34;
-    }
-    true
+    letters.starts_with(name) && (letters.len() == name.len() || letters[name.len()] == b'"')
 }

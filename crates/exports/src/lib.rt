@@ -5,6 +5,7 @@ mod certificates;
 mod lexer;
 mod naming;
 mod output;
+mod payload;
 mod reading;
 mod rebuilding;
 mod retaking;
@@ -15,4 +16,4 @@ mod walk;
 mod writing;
 
 pub use reading::{Restored, read_export};
-pub use writing::{Exported, export};
+pub use writing::export;

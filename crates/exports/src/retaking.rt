@@ -1,126 +1,101 @@
 // The journal that an export spells, taken over where its receipts lie: it is not written for that.
 ghost use Rattle.std.specs.Prelude.{◌≡◌, List, ◌≤◌, length};
+ghost use Rattle.journal.specs.State.{as_taken_over};
+ghost use Rattle.journal.specs.Checking.{as_unread, as_step};
 ghost use Rattle.exports.specs.Shape.{Element, Shape};
-ghost use Rattle.exports.specs.Running.{TextsRan, PairStarted, elements_run, owner_named, run_journal};
+ghost use Rattle.exports.specs.Running.{TextsRan, PairStarted, elements_run, owner_settings, run_journal};
 
-use super::naming::Named;
-use super::shape::{element_end, receipts_place};
-use super::strings::{group_place, part_at};
+use super::naming::settings_or_empty;
+use super::shape::{begin_group, element_end, receipts_place};
+use super::strings::part_at;
 use super::survey::first_named;
-use super::walk::{begin, follow};
-use journal::{Checked, State, Step, TakenOver};
+use super::walk::{Cursor, begin, follow};
+use journal::{RefusedAt, State, Stop};
+use primitives::Refusal;
+use receipt::Settings;
 
-// The number of a refused step and the state before it; or 0, the state after the last step, and the place after the array. The place is 0 where not all of it was read.
+// The state after the receipts of an array, and the place after the array, if all of it was read.
 #[derive(Clone, Copy)]
 pub(crate) struct Ran {
-    pub(crate) number: u32,
-    pub(crate) state: State,
-    pub(crate) next: usize,
+    state: State,
+    next: Option<usize>,
 }
 
 // The strings of an array, each as an entry, up to the first that is refused.
-pub(crate) fn run_texts(schedule: &[[u8; 4]; 60], start: State, text: &[u8], at: usize) -> Ran
+fn run_texts(schedule: &[[u8; 4]; 60], start: State, text: &[u8], at: usize) -> Result<Ran, Stop>
     requires { at ≤ length text.now }
     ensures { TextsRan schedule.now start text.now at result }
 {
-    let mut st = start;
+    let mut state = start;
     let mut c = begin(text, at);
-    while c.more {
-        let p = part_at(text, c.at);
-        let next = p.next;
-        // no string stands here, which the shape rules out
-        if next == 0 {
-            return Ran {
-                number: 0,
-                state: st,
-                next: 0,
-            };
+    while let Cursor::Item(p) = c {
+        // a string stands here by the shape
+        let Some(part) = part_at(text, p) else {
+            return Ok(Ran { state, next: None });
+        };
+        let end = part.start + part.length;
+        match journal::check_entry(schedule, state, &text[part.start..end]) {
+            Ok(checked) => state = checked.state,
+            Err(question) => return Err(Stop { question, state }),
         }
-        let a = p.start;
-        let e = a + p.length;
-        let s = journal::check_entry(schedule, st, &text[a..e]);
-        if s.number != 0 {
-            return Ran {
-                number: s.number,
-                state: st,
-                next: 0,
-            };
-        }
-        st = s.state;
-        c = follow(text, next);
+        c = follow(text, part.next);
     }
-    Ran {
-        number: 0,
-        state: st,
-        next: c.at,
-    }
+    Ok(Ran {
+        state,
+        next: c.end(),
+    })
 }
 
 // The serial that the first of the receipts at a place names, as the start of a pair.
-pub(crate) fn start_pair(st: State, text: &[u8], at: usize) -> Checked
+fn start_pair(state: State, text: &[u8], at: usize) -> Result<State, Refusal>
     requires { at ≤ length text.now }
-    ensures { PairStarted st text.now at result }
+    ensures { PairStarted state text.now at (as_unread state result) }
 {
-    let n = first_named(text, at);
-    let settings = n.settings;
-    let serial = settings.serial;
-    journal::check_serial(st, serial)
+    journal::check_serial(state, settings_or_empty(first_named(text, at)).serial)
 }
 
 // All elements, up to the first step that is refused: the serial, except in the first element, whose serial is in the head; then the receipts.
-pub(crate) fn run_pairs(schedule: &[[u8; 4]; 60], start: State, text: &[u8]) -> Step
-    ensures { (es : List Element) → Shape text.now es → result ≡ elements_run schedule.now start es }
+fn run_pairs(schedule: &[[u8; 4]; 60], start: State, text: &[u8]) -> Result<State, Stop>
+    ensures { (es : List Element) → Shape text.now es → as_step result ≡ elements_run schedule.now start es }
 {
-    let mut st = start;
+    let mut state = start;
     let mut later = false;
-    let mut c = begin(text, group_place(text));
-    while c.more {
-        let at = receipts_place(text, c.at);
+    let mut c = begin_group(text);
+    while let Cursor::Item(p) = c {
+        // an element stands here by the shape
+        let Some(at) = receipts_place(text, p) else {
+            return Ok(state);
+        };
         if later {
-            let s = start_pair(st, text, at);
-            if s.number != 0 {
-                return Step {
-                    number: s.number,
-                    state: st,
-                };
+            match start_pair(state, text, at) {
+                Ok(started) => state = started,
+                Err(question) => return Err(Stop { question, state }),
             }
-            st = s.state;
         }
-        let r = run_texts(schedule, st, text, at);
-        st = r.state;
-        if r.number != 0 {
-            return Step {
-                number: r.number,
-                state: st,
-            };
-        }
+        let ran = run_texts(schedule, state, text, at)?;
+        state = ran.state;
         later = true;
-        let e = element_end(text, r.next);
-        // no element stood here, which the shape rules out
-        if e <= c.at {
-            return Step {
-                number: 0,
-                state: st,
-            };
-        }
-        c = follow(text, e);
+        let Some(next) = ran.next else {
+            return Ok(state);
+        };
+        let Some(end) = element_end(text, next) else {
+            return Ok(state);
+        };
+        c = follow(text, end);
     }
-    Step {
-        number: 0,
-        state: st,
-    }
+    Ok(state)
 }
 
-// The state after the journal that a text spells, where `owner` is what its first receipt names; or the number of the first question answered no, the receipts before it
-// and the unopened state.
-pub(crate) fn retake(text: &[u8], owner: Named, key: [u8; 32], n: usize) -> TakenOver
-    ensures { (es : List Element) → Shape text.now es → owner ≡ owner_named es → result ≡ run_journal es key n }
+// The state after the journal that a text spells, where `owner` is what its first receipt names; or the first question answered no, and the number of receipts before it.
+pub(crate) fn retake(
+    text: &[u8],
+    owner: Settings,
+    key: [u8; 32],
+    n: usize,
+) -> Result<State, RefusedAt>
+    ensures { (es : List Element) → Shape text.now es → owner ≡ owner_settings es → as_taken_over result ≡ run_journal es key n }
 {
-    let settings = owner.settings;
-    let first = journal::check_settings(settings, key, n);
-    if first.number != 0 {
-        return first;
-    }
+    let first = journal::check_settings(owner, key, n)?;
     let schedule = receipt::counter_key(key);
-    journal::last_answer(run_pairs(&schedule, first.state, text))
+    journal::answer_after(run_pairs(&schedule, first, text))
 }

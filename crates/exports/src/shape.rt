@@ -1,21 +1,23 @@
 // Members, elements and the whole text.
+#![tactic(auto, unfolding(crate::specs::Text::is_mark))]
+
 ghost use Rattle.std.specs.Prelude.{◌≡◌, true, ◌↔◌, ◌≤◌, length};
 ghost use Rattle.exports.specs.Text.{is_mark};
-ghost use Rattle.exports.specs.Shape.{array, written, Shaped};
-ghost use Rattle.exports.specs.Places.{Reads, ValueRead, MemberKeyed, MemberRead, no_value, place_of, no_places, places_of, ElementRead, ReceiptsFound, ElementEnded};
+ghost use Rattle.exports.specs.Shape.{array, written, document, Shaped};
+ghost use Rattle.exports.specs.Places.{Reads, ValueRead, MemberKeyed, MemberRead, place_of, places_of, ElementRead, ReceiptsFound, ElementEnded, GroupPlace, GroupBegun};
 
-use super::lexer::next;
-use super::walk::{Key, begin, expect, follow, key_at, string, strings};
+use super::lexer::{Found, next};
+use super::walk::{Cursor, Key, Name, begin, expect, follow, key_at, string, strings};
 
-// A member: its name's number, the place of its value and the place after it, or 0.
+// A member: its name, the place of its value and the place after it.
 #[derive(Clone, Copy)]
 pub struct Value {
-    pub number: u8,
+    pub name: Name,
     pub place: usize,
     pub next: usize,
 }
 
-// The places of an element's three values, and the place after it, or 0.
+// The places of an element's three values, and the place after it.
 #[derive(Clone, Copy)]
 pub struct Places {
     pub certificate: usize,
@@ -24,206 +26,146 @@ pub struct Places {
     pub next: usize,
 }
 
-// The place after the value that belongs to a name's number, or 0.
-pub(crate) fn value_end(text: &[u8], number: u8, at: usize) -> usize
+// The place after the value that belongs to a name.
+pub(crate) fn value_end(text: &[u8], name: Name, at: usize) -> Option<usize>
     requires { at ≤ length text.now }
-    ensures { ValueRead number text.now at result }
+    ensures { ValueRead name text.now at result }
 {
-    if number == 1 {
-        return string(text, at);
-    }
-    strings(text, at)
-}
-
-// Where there is no member.
-fn no_value() -> Value
-    ensures { result ≡ no_value }
-{
-    Value {
-        number: 0,
-        place: 0,
-        next: 0,
+    match name {
+        Name::Certificate => string(text, at),
+        _ => strings(text, at),
     }
 }
 
-// A mark and the name of a member: its number, and the place of its value. The number is 0 where there is none.
-pub(crate) fn member_key(text: &[u8], at: usize, lead: u8) -> Key
+// A mark and the name of a member: its name, and the place of its value.
+pub(crate) fn member_key(text: &[u8], at: usize, lead: u8) -> Option<Key>
     requires { (at ≤ length text.now) × (is_mark lead ≡ true) }
     ensures { MemberKeyed text.now at lead result }
 {
-    let p = expect(text, at, lead);
-    if p == 0 {
-        return Key { number: 0, next: 0 };
+    let key = key_at(text, expect(text, at, lead)?)?;
+    if key.name == Name::Group {
+        return None;
     }
-    let k = key_at(text, p);
-    if 3 < k.number {
-        return Key { number: 0, next: 0 };
-    }
-    k
+    Some(key)
 }
 
 // A mark and a member.
-pub(crate) fn member(text: &[u8], at: usize, lead: u8) -> Value
+pub(crate) fn member(text: &[u8], at: usize, lead: u8) -> Option<Value>
     requires { (at ≤ length text.now) × (is_mark lead ≡ true) }
     ensures { MemberRead text.now at lead result }
 {
-    let k = member_key(text, at, lead);
-    if k.number == 0 {
-        return no_value();
-    }
-    let e = value_end(text, k.number, k.next);
-    Value {
-        number: k.number,
-        place: k.next,
-        next: e,
-    }
+    let key = member_key(text, at, lead)?;
+    let next = value_end(text, key.name, key.next)?;
+    Some(Value {
+        name: key.name,
+        place: key.next,
+        next,
+    })
 }
 
-// The place of the value of the member with a number, or 0.
-pub(crate) fn place_of(n: u8, a: Value, b: Value, c: Value) -> usize
-    ensures { result ≡ place_of n a b c }
+// The place of the value of the member with a name.
+pub(crate) fn place_of(name: Name, a: Value, b: Value, c: Value) -> Option<usize>
+    ensures { result ≡ place_of name a b c }
 {
-    if a.number == n {
-        return a.place;
-    }
-    if b.number == n {
-        return b.place;
-    }
-    if c.number == n {
-        return c.place;
-    }
-    0
-}
-
-// Where there is no element.
-fn no_places() -> Places
-    ensures { result ≡ no_places }
-{
-    Places {
-        certificate: 0,
-        issuers: 0,
-        receipts: 0,
-        next: 0,
-    }
+    [a, b, c].iter().find(|v| v.name == name).map(|v| v.place)
 }
 
 // The three places, if all were found; they stand before `next`.
-pub(crate) fn all_places(a: Value, b: Value, c: Value, next: usize) -> Places
+pub(crate) fn all_places(a: Value, b: Value, c: Value, next: usize) -> Option<Places>
     ensures { result ≡ places_of a b c next }
 {
-    let certificate = place_of(1, a, b, c);
-    let issuers = place_of(2, a, b, c);
-    let receipts = place_of(3, a, b, c);
-    if certificate == 0 {
-        return no_places();
-    }
-    if issuers == 0 {
-        return no_places();
-    }
-    if receipts == 0 {
-        return no_places();
-    }
-    Places {
-        certificate: certificate,
-        issuers: issuers,
-        receipts: receipts,
-        next: next,
-    }
+    Some(Places {
+        certificate: place_of(Name::Certificate, a, b, c)?,
+        issuers: place_of(Name::Issuers, a, b, c)?,
+        receipts: place_of(Name::Receipts, a, b, c)?,
+        next,
+    })
 }
 
-pub(crate) fn element(text: &[u8], at: usize) -> Places
+pub(crate) fn element(text: &[u8], at: usize) -> Option<Places>
     requires { at ≤ length text.now }
     ensures { ElementRead text.now at result }
 {
-    let a = member(text, at, 123);
-    if a.next == 0 {
-        return no_places();
-    }
-    let b = member(text, a.next, 44);
-    if b.next == 0 {
-        return no_places();
-    }
-    let c = member(text, b.next, 44);
-    if c.next == 0 {
-        return no_places();
-    }
-    let e = expect(text, c.next, 125);
-    if e == 0 {
-        return no_places();
-    }
-    all_places(a, b, c, e)
+    let a = member(text, at, b'{')?;
+    let b = member(text, a.next, b',')?;
+    let c = member(text, b.next, b',')?;
+    let next = expect(text, c.next, b'}')?;
+    all_places(a, b, c, next)
 }
 
 // The place of the receipts of the element at a place. Only the members before them are read. The callers know that an element stands there.
-pub(crate) fn receipts_place(text: &[u8], at: usize) -> usize
+// A `while`, here and below: it goes from member to member, as they are read.
+pub(crate) fn receipts_place(text: &[u8], at: usize) -> Option<usize>
     requires { at ≤ length text.now }
     ensures { ReceiptsFound text.now at result }
 {
-    let mut k = member_key(text, at, 123);
-    while k.number != 3 {
-        if k.number == 0 {
-            return 0;
-        }
-        let e = value_end(text, k.number, k.next);
-        if e == 0 {
-            return 0;
-        }
-        k = member_key(text, e, 44);
+    let mut key = member_key(text, at, b'{')?;
+    while key.name != Name::Receipts {
+        let end = value_end(text, key.name, key.next)?;
+        key = member_key(text, end, b',')?;
     }
-    k.next
+    Some(key.next)
 }
 
 // The place after the element whose receipts end at a place. Only the members after them are read. The callers know that receipts end there.
-pub(crate) fn element_end(text: &[u8], at: usize) -> usize
+pub(crate) fn element_end(text: &[u8], at: usize) -> Option<usize>
     requires { at ≤ length text.now }
     ensures { ElementEnded text.now at result }
 {
     let mut p = at;
-    let mut m = member(text, p, 44);
-    while m.next != 0 {
+    while let Some(m) = member(text, p, b',') {
         p = m.next;
-        m = member(text, p, 44);
     }
-    expect(text, p, 125)
+    expect(text, p, b'}')
 }
 
-// The place after an array of elements, or 0.
-pub(crate) fn elements(text: &[u8], at: usize) -> usize
+// The place after an array of elements.
+pub(crate) fn elements(text: &[u8], at: usize) -> Option<usize>
     requires { at ≤ length text.now }
     ensures { Reads (array written) text.now at result }
 {
     let mut c = begin(text, at);
-    while c.more {
-        let e = element(text, c.at);
-        let p = e.next;
-        if p == 0 {
-            return 0;
-        }
-        c = follow(text, p);
+    while let Cursor::Item(p) = c {
+        c = follow(text, element(text, p)?.next);
     }
-    c.at
+    c.end()
+}
+
+// The place of the array of elements.
+pub(crate) fn group_place(text: &[u8]) -> Option<usize>
+    ensures { GroupPlace text.now result }
+{
+    let key = key_at(text, expect(text, 0, b'{')?)?;
+    if key.name == Name::Group {
+        return Some(key.next);
+    }
+    None
+}
+
+// The array of elements.
+pub(crate) fn begin_group(text: &[u8]) -> Cursor
+    ensures { GroupBegun text.now result }
+{
+    match group_place(text) {
+        Some(p) => begin(text, p),
+        None => Cursor::Broken,
+    }
+}
+
+// The place after the tokens of some elements.
+pub(crate) fn document_end(text: &[u8]) -> Option<usize>
+    ensures { Reads document text.now 0 result }
+{
+    let end = elements(text, group_place(text)?)?;
+    expect(text, end, b'}')
 }
 
 // The text spells some elements.
 pub(crate) fn has_shape(text: &[u8]) -> bool
     ensures { (result ≡ true) ↔ Shaped text.now }
 {
-    let p = expect(text, 0, 123);
-    if p == 0 {
-        return false;
+    match document_end(text) {
+        Some(end) => matches!(next(text, end), Found::End),
+        None => false,
     }
-    let k = key_at(text, p);
-    if k.number != 4 {
-        return false;
-    }
-    let e = elements(text, k.next);
-    if e == 0 {
-        return false;
-    }
-    let q = expect(text, e, 125);
-    if q == 0 {
-        return false;
-    }
-    let t = next(text, q);
-    t.kind == 0
 }

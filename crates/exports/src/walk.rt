@@ -1,138 +1,142 @@
 // Marks, names and arrays.
-ghost use Rattle.std.specs.Prelude.{◌≡◌, true, ◌≤◌, length, drop};
+#![tactic(auto, unfolding(crate::specs::Text::is_mark))]
+
+ghost use Rattle.std.specs.Prelude.{◌≡◌, true, ◌≤◌, length};
 ghost use Rattle.exports.specs.Text.{is_mark};
 ghost use Rattle.exports.specs.Lexer.{content};
 ghost use Rattle.exports.specs.Shape.{string, strings};
-ghost use Rattle.exports.specs.Places.{Reads, one, name_number, Keyed, Begun, Followed};
+ghost use Rattle.exports.specs.Places.{Reads, Expected, NameRead, Keyed, end_of, Begun, Followed};
 
-use super::lexer::{next, skip_blanks, spells};
+use super::lexer::{Found, next, skip_blanks, spells};
 
-// A name's number, 0 for another, and the place after its ":".
+// The names of the structure.
+#[derive(Clone, Copy, PartialEq, Eq)]
+pub enum Name {
+    Certificate,
+    Issuers,
+    Receipts,
+    Group,
+}
+
+// A name, and the place after its ":".
 #[derive(Clone, Copy)]
 pub struct Key {
-    pub number: u8,
+    pub name: Name,
     pub next: usize,
 }
 
-// In an array: where the next item stands, if there is one more; else the place after the array, or 0.
+// In an array: the place of the next item, or the place after the array; broken where neither stands. Loops go from item to item by `while let`: an iterator
+// would hide the place after the array, which its caller goes on from, and whether the array was broken.
 #[derive(Clone, Copy)]
-pub struct Cursor {
-    pub more: bool,
-    pub at: usize,
+pub enum Cursor {
+    Item(usize),
+    Past(usize),
+    Broken,
 }
 
-// The place after a mark, or 0.
-pub(crate) fn expect(text: &[u8], at: usize, b: u8) -> usize
+impl Cursor {
+    // The place after the array.
+    pub(crate) fn end(self) -> Option<usize>
+        ensures { result ≡ end_of self }
+    {
+        match self {
+            Cursor::Past(end) => Some(end),
+            _ => None,
+        }
+    }
+}
+
+// The place after a mark.
+pub(crate) fn expect(text: &[u8], at: usize, b: u8) -> Option<usize>
     requires { (at ≤ length text.now) × (is_mark b ≡ true) }
-    ensures { Reads (one b) text.now at result }
+    ensures { Expected b text.now at result }
 {
     let p = skip_blanks(text, at);
-    if p == text.len() {
-        return 0;
+    if p < text.len() && text[p] == b {
+        return Some(p + 1);
     }
-    if text[p] == b {
-        return p + 1;
-    }
-    0
+    None
 }
 
-// The place after a string, or 0.
-pub(crate) fn string(text: &[u8], at: usize) -> usize
+// The place after a string.
+pub(crate) fn string(text: &[u8], at: usize) -> Option<usize>
     requires { at ≤ length text.now }
     ensures { Reads string text.now at result }
 {
-    let t = next(text, at);
-    if t.kind == 34 {
-        return t.next;
+    match next(text, at) {
+        Found::Quoted(part) => Some(part.next),
+        _ => None,
     }
-    0
 }
 
-// Which of the names a string spells.
-pub(crate) fn name_number(text: &[u8], start: usize) -> u8
-    requires { start ≤ length text.now }
-    ensures { result ≡ name_number (content (drop start text.now) 0) }
+// Which of the names the letters of a string spell.
+#[tactic(auto, unfolding(crate::specs::Places::bare))]
+pub(crate) fn name_of(letters: &[u8]) -> Option<Name>
+    ensures { NameRead (content letters.now 0) result }
 {
-    if spells(text, start, b"Signaturzertifikat") {
-        return 1;
+    if spells(letters, b"Signaturzertifikat") {
+        return Some(Name::Certificate);
     }
-    if spells(text, start, b"Zertifizierungsstellen") {
-        return 2;
+    if spells(letters, b"Zertifizierungsstellen") {
+        return Some(Name::Issuers);
     }
-    if spells(text, start, b"Belege-kompakt") {
-        return 3;
+    if spells(letters, b"Belege-kompakt") {
+        return Some(Name::Receipts);
     }
-    if spells(text, start, b"Belege-Gruppe") {
-        return 4;
+    if spells(letters, b"Belege-Gruppe") {
+        return Some(Name::Group);
     }
-    0
+    None
 }
 
-pub(crate) fn key_at(text: &[u8], at: usize) -> Key
+pub(crate) fn key_at(text: &[u8], at: usize) -> Option<Key>
     requires { at ≤ length text.now }
     ensures { Keyed text.now at result }
 {
-    let t = next(text, at);
-    if t.kind != 34 {
-        return Key { number: 0, next: 0 };
-    }
-    let p = expect(text, t.next, 58);
-    if p == 0 {
-        return Key { number: 0, next: 0 };
-    }
-    Key {
-        number: name_number(text, t.start),
-        next: p,
-    }
+    let Found::Quoted(part) = next(text, at) else {
+        return None;
+    };
+    let next = expect(text, part.next, b':')?;
+    let name = name_of(&text[part.start..])?;
+    Some(Key { name, next })
 }
 
+// The array at a place.
 pub(crate) fn begin(text: &[u8], at: usize) -> Cursor
     requires { at ≤ length text.now }
     ensures { Begun text.now at result }
 {
-    let p = expect(text, at, 91);
-    if p == 0 {
-        return Cursor { more: false, at: 0 };
+    let Some(p) = expect(text, at, b'[') else {
+        return Cursor::Broken;
+    };
+    match expect(text, p, b']') {
+        Some(end) => Cursor::Past(end),
+        None => Cursor::Item(p),
     }
-    let e = expect(text, p, 93);
-    if e == 0 {
-        return Cursor { more: true, at: p };
-    }
-    Cursor { more: false, at: e }
 }
 
+// What follows an item.
 pub(crate) fn follow(text: &[u8], at: usize) -> Cursor
     requires { at ≤ length text.now }
     ensures { Followed text.now at result }
 {
-    let t = next(text, at);
-    if t.kind == 44 {
-        return Cursor {
-            more: true,
-            at: t.next,
-        };
+    if let Some(p) = expect(text, at, b',') {
+        return Cursor::Item(p);
     }
-    if t.kind == 93 {
-        return Cursor {
-            more: false,
-            at: t.next,
-        };
+    match expect(text, at, b']') {
+        Some(end) => Cursor::Past(end),
+        None => Cursor::Broken,
     }
-    Cursor { more: false, at: 0 }
 }
 
-// The place after an array of strings, or 0.
-pub(crate) fn strings(text: &[u8], at: usize) -> usize
+// The place after an array of strings. `elements` walks in the same way over its own items; a trait for both, with the items and their grammar as ghost members, is longer than the two loops.
+pub(crate) fn strings(text: &[u8], at: usize) -> Option<usize>
     requires { at ≤ length text.now }
     ensures { Reads strings text.now at result }
 {
     let mut c = begin(text, at);
-    while c.more {
-        let p = string(text, c.at);
-        if p == 0 {
-            return 0;
-        }
-        c = follow(text, p);
+    while let Cursor::Item(p) = c {
+        c = follow(text, string(text, p)?);
     }
-    c.at
+    c.end()
 }

@@ -1,252 +1,185 @@
 // Writing an export: the journal taken over, then its receipts and the certificates copied from where they lie.
-ghost use Rattle.std.specs.Prelude.{◌≡◌, ◌++◌};
+ghost use Rattle.std.specs.Prelude.{◌≡◌, ℕ, List, ◌++◌};
 ghost use Rattle.exports.specs.Output.{Puts};
-ghost use Rattle.exports.specs.Writing.{comma, quoted, spelling, exported, export_buffer};
+ghost use Rattle.exports.specs.Writing.{comma, quoted, in_base64, as_exported, exported, export_buffer};
 ghost use Rattle.exports.specs.Running.{FourRead, SectionRead, StringsPut, SigningPut, GroupPut, PairPut, ElementsPut, ExportPut};
 
 use super::certificates::{groups_there, sized_end};
-use super::output::{End, moved, put_base64, put_bytes};
-use receipt::Number;
+use super::output::{Measure, Sink, Writer, moved};
+use journal::RefusedAt;
+use primitives::Refusal;
 
-// The length of the text; or the number of the first question answered no, with Take over's index, or 0 for 28 and 23.
-#[derive(Clone, Copy)]
-pub struct Exported {
-    pub number: u32,
-    pub index: u32,
-    pub length: usize,
+// How the strings of a list are written: as they are, or in BASE64.
+pub(crate) trait Spelling {
+    ghost spelled: { List ℕ → List ℕ };
+
+    fn put<S: Sink>(sink: &mut S, text: &[u8])
+        ensures { Puts S.writes (S.view sink.old) (S.view sink.new) (spelled text.now) };
 }
 
-// Where a writer is: its place in the output, and in what it copies from.
-#[derive(Clone, Copy)]
-pub(crate) struct Copied {
-    pub(crate) end: End,
-    pub(crate) at: usize,
+pub(crate) enum AsIs {}
+
+impl Spelling for AsIs {
+    ghost spelled = { λ w. w };
+
+    fn put<S: Sink>(sink: &mut S, text: &[u8]) {
+        sink.put(text);
+    }
 }
 
-// A ',' where other items went before.
-pub(crate) fn put_comma(dry: bool, more: bool, out: &mut [u8], p: End) -> End
-    ensures { Puts dry out.old out.new p result (comma more) }
+pub(crate) enum InBase64 {}
+
+impl Spelling for InBase64 {
+    ghost spelled = { in_base64 };
+
+    fn put<S: Sink>(sink: &mut S, text: &[u8]) {
+        sink.put_base64(text);
+    }
+}
+
+// A ',' where other items went before. `more` is what the text depends on, and chooses no step.
+fn put_comma<S: Sink>(sink: &mut S, more: bool)
+    ensures { Puts S.writes (S.view sink.old) (S.view sink.new) (comma more) }
 {
     if more {
-        return put_bytes(dry, b",", out, p);
+        sink.put(b",");
     }
-    put_bytes(dry, b"", out, p)
-}
-
-// The text of a string, in BASE64 if it is coded.
-pub(crate) fn put_text(dry: bool, coded: bool, s: &[u8], out: &mut [u8], p: End) -> End
-    ensures { Puts dry out.old out.new p result (spelling coded s.now) }
-{
-    if coded {
-        return put_base64(dry, s, out, p);
-    }
-    put_bytes(dry, s, out, p)
 }
 
 // A string, after a ',' where others went before.
-pub(crate) fn put_string(
-    dry: bool,
-    more: bool,
-    coded: bool,
-    s: &[u8],
-    out: &mut [u8],
-    p: End,
-) -> End
-    ensures { Puts dry out.old out.new p result (comma more ++ quoted (spelling coded s.now)) }
+fn put_string<T: Spelling, S: Sink>(sink: &mut S, more: bool, text: &[u8])
+    ensures { Puts S.writes (S.view sink.old) (S.view sink.new) (comma more ++ quoted (T.spelled text.now)) }
 {
-    let a = put_comma(dry, more, out, p);
-    let b = put_bytes(dry, b"\"", out, a);
-    let c = put_text(dry, coded, s, out, b);
-    put_bytes(dry, b"\"", out, c)
+    put_comma(sink, more);
+    sink.put(b"\"");
+    T::put(sink, text);
+    sink.put(b"\"");
 }
 
-// So many strings from a place on: the entries of a journal as they are, or certificates in BASE64.
-pub(crate) fn put_strings(
-    dry: bool,
-    coded: bool,
+// So many strings from a place on, and the place after them.
+fn put_strings<T: Spelling, S: Sink>(
+    sink: &mut S,
     from: &[u8],
     at: usize,
     count: usize,
-    out: &mut [u8],
-    p: End,
-) -> Copied
-    ensures { StringsPut dry coded from.now at count out.old out.new p result }
+) -> Option<usize>
+    ensures { StringsPut S.writes T.spelled from.now at count (S.view sink.old) (S.view sink.new) result }
 {
-    let mut end = moved(out.len(), p, 0);
-    let mut a = at;
-    let mut i: usize = 0;
-    while i < count {
-        let e = sized_end(from, a);
-        if e == 0 {
-            return Copied { end: end, at: a };
-        }
-        let s = a + 2;
-        end = put_string(dry, 0 < i, coded, &from[s..e], out, end);
-        a = e;
-        i += 1;
+    let mut place = at;
+    for i in 0..count {
+        let end = sized_end(from, place)?;
+        put_string::<T, S>(sink, 0 < i, &from[place + 2..end]);
+        place = end;
     }
-    Copied { end: end, at: a }
+    Some(place)
 }
 
 // The signing certificate of the group at a place: `{"Signaturzertifikat":` and the certificate.
-pub(crate) fn put_signing(
-    dry: bool,
-    more: bool,
-    groups: &[u8],
-    at: usize,
-    out: &mut [u8],
-    p: End,
-) -> Copied
-    ensures { SigningPut dry more groups.now at out.old out.new p result }
+fn put_signing<S: Sink>(sink: &mut S, more: bool, groups: &[u8], at: usize) -> Option<usize>
+    ensures { SigningPut S.writes more groups.now at (S.view sink.old) (S.view sink.new) result }
 {
-    let e = sized_end(groups, at);
-    if e == 0 {
-        return Copied { end: p, at: at };
-    }
-    let s = at + 2;
-    let a = put_comma(dry, more, out, p);
-    let b = put_bytes(dry, b"{\"Signaturzertifikat\":", out, a);
-    // no ',' before it, and in BASE64
-    let c = put_string(dry, false, true, &groups[s..e], out, b);
-    Copied { end: c, at: e }
+    let end = sized_end(groups, at)?;
+    put_comma(sink, more);
+    sink.put(b"{\"Signaturzertifikat\":");
+    put_string::<InBase64, S>(sink, false, &groups[at + 2..end]);
+    Some(end)
 }
 
 // An element up to its receipts, from the group at a place.
-pub(crate) fn put_group(
-    dry: bool,
-    more: bool,
-    groups: &[u8],
-    at: usize,
-    out: &mut [u8],
-    p: End,
-) -> Copied
-    ensures { GroupPut dry more groups.now at out.old out.new p result }
+fn put_group<S: Sink>(sink: &mut S, more: bool, groups: &[u8], at: usize) -> Option<usize>
+    ensures { GroupPut S.writes more groups.now at (S.view sink.old) (S.view sink.new) result }
 {
-    if groups.len() <= at {
-        return Copied { end: p, at: at };
-    }
-    let count = groups[at] as usize;
+    let count = *groups.get(at)? as usize;
     if count == 0 {
-        return Copied { end: p, at: at };
+        return None;
     }
-    let s = put_signing(dry, more, groups, at + 1, out, p);
-    let b = put_bytes(dry, b",\"Zertifizierungsstellen\":[", out, s.end);
-    let t = put_strings(dry, true, groups, s.at, count - 1, out, b);
-    let d = put_bytes(dry, b"],\"Belege-kompakt\":[", out, t.end);
-    Copied { end: d, at: t.at }
+    let issuers = put_signing(sink, more, groups, at + 1)?;
+    sink.put(b",\"Zertifizierungsstellen\":[");
+    let end = put_strings::<InBase64, S>(sink, groups, issuers, count - 1)?;
+    sink.put(b"],\"Belege-kompakt\":[");
+    Some(end)
 }
 
-// The number in the four bytes at a place; 0 if they are not all there.
-pub(crate) fn four_at(j: &[u8], at: usize) -> usize
+// The number in the four bytes at a place, if they are all there.
+fn four_at(j: &[u8], at: usize) -> Option<usize>
     ensures { FourRead j.now at result }
 {
-    match receipt::number_at(j, at, 4) {
-        Number::Is(v) => v as usize,
-        Number::Missing => 0,
-    }
+    let n = receipt::number_at(j, at, 4)?;
+    Some(n as usize)
 }
 
-// The place after the section at a place; 0 if it is not all there.
-pub(crate) fn section_end(j: &[u8], at: usize) -> usize
+// The place after the section at a place, if it is all there.
+fn section_end(j: &[u8], at: usize) -> Option<usize>
     ensures { SectionRead j.now at result }
 {
-    if !receipt::has_room(j.len(), at, 4) {
-        return 0;
-    }
-    let n = four_at(j, at);
-    let a = at + 4;
-    if !receipt::has_room(j.len(), a, n) {
-        return 0;
-    }
-    a + n
+    let n = four_at(j, at)?;
+    moved(j.len(), Some(at + 4), n)
 }
 
 // The receipts of the pair at a place, and the end of the element.
-pub(crate) fn put_pair(dry: bool, j: &[u8], at: usize, out: &mut [u8], p: End) -> Copied
-    ensures { PairPut dry j.now at out.old out.new p result }
+fn put_pair<S: Sink>(sink: &mut S, j: &[u8], at: usize) -> Option<usize>
+    ensures { PairPut S.writes j.now at (S.view sink.old) (S.view sink.new) result }
 {
-    let b = section_end(j, at);
-    if !receipt::has_room(j.len(), b, 4) {
-        return Copied { end: p, at: at };
-    }
-    let count = four_at(j, b);
-    let r = put_strings(dry, false, j, b + 4, count, out, p);
-    let c = put_bytes(dry, b"]}", out, r.end);
-    Copied { end: c, at: r.at }
+    let serial_end = section_end(j, at)?;
+    let count = four_at(j, serial_end)?;
+    let end = put_strings::<AsIs, S>(sink, j, serial_end + 4, count)?;
+    sink.put(b"]}");
+    Some(end)
 }
 
 // k elements, from the pairs of a journal and as many groups.
-pub(crate) fn put_elements(
-    dry: bool,
-    j: &[u8],
-    at: usize,
-    groups: &[u8],
-    k: usize,
-    out: &mut [u8],
-    p: End,
-) -> End
-    ensures { ElementsPut dry j.now at groups.now k out.old out.new p result }
+fn put_elements<S: Sink>(sink: &mut S, j: &[u8], at: usize, groups: &[u8], k: usize) -> Option<()>
+    ensures { ElementsPut S.writes j.now at groups.now k (S.view sink.old) (S.view sink.new) result }
 {
-    let mut end = moved(out.len(), p, 0);
-    let mut a = at;
-    let mut g: usize = 0;
-    let mut i: usize = 0;
-    while i < k {
-        let x = put_group(dry, 0 < i, groups, g, out, end);
-        g = x.at;
-        let y = put_pair(dry, j, a, out, x.end);
-        a = y.at;
-        end = y.end;
-        i += 1;
+    let mut pair = at;
+    let mut group = 0;
+    for i in 0..k {
+        group = put_group(sink, 0 < i, groups, group)?;
+        pair = put_pair(sink, j, pair)?;
     }
-    end
+    Some(())
 }
 
-// The whole text, from the start of the output on.
-pub(crate) fn put_export(dry: bool, j: &[u8], groups: &[u8], k: usize, out: &mut [u8]) -> End
-    ensures { ExportPut dry j.now groups.now k out.old out.new result }
+// The whole text of a journal that was taken over, with a group of certificates for each of its k pairs. Only another journal, or other groups, give None.
+fn put_export<S: Sink>(sink: &mut S, j: &[u8], groups: &[u8], k: usize) -> Option<()>
+    ensures { ExportPut S.writes j.now groups.now k (S.view sink.old) (S.view sink.new) }
 {
-    let at = section_end(j, 7);
-    let a = put_bytes(dry, b"{\"Belege-Gruppe\":[", out, End { fits: true, at: 0 });
-    let b = put_elements(dry, j, at, groups, k, out, a);
-    put_bytes(dry, b"]}", out, b)
+    let pairs = section_end(j, 7)?;
+    sink.put(b"{\"Belege-Gruppe\":[");
+    put_elements(sink, j, pairs, groups, k)?;
+    sink.put(b"]}");
+    Some(())
 }
 
-// Takes a journal over and writes it with its certificates as an export. Questions of Take over, with number and index; then 28 and 23.
-pub fn export(j: &[u8], key: [u8; 32], n: usize, groups: &[u8], out: &mut [u8]) -> Exported
-    ensures { (result ≡ exported j.now key n groups.now out.old)
+// A question that is asked before the first receipt or after the last.
+pub(crate) fn refused(question: Refusal) -> RefusedAt
+    ensures { result ≡ record { question = question; index = 0 } }
+{
+    RefusedAt { question, index: 0 }
+}
+
+// Takes a journal over and writes it with its certificates as an export; answers the length of the text. Questions of Take over, with its index; then 28 and 23.
+pub fn export(
+    j: &[u8],
+    key: [u8; 32],
+    n: usize,
+    groups: &[u8],
+    out: &mut [u8],
+) -> Result<usize, RefusedAt>
+    ensures { (as_exported result ≡ exported j.now key n groups.now out.old)
         × (out.new ≡ export_buffer j.now key n groups.now out.old) }
 {
-    let t = journal::take_over(j, key, n);
-    if t.number != 0 {
-        return Exported {
-            number: t.number,
-            index: t.index,
-            length: 0,
-        };
-    }
-    let st = t.state;
-    let serials = st.serials;
-    let k = journal::used_count(serials);
+    let state = journal::take_over(j, key, n)?;
+    let k = journal::used_count(state.serials);
     if !groups_there(groups, k) {
-        return Exported {
-            number: 28,
-            index: 0,
-            length: 0,
-        };
+        return Err(refused(Refusal::BadExport));
     }
-    let end = put_export(true, j, groups, k, out);
-    if !end.fits {
-        return Exported {
-            number: 23,
-            index: 0,
-            length: 0,
-        };
-    }
-    let _ = put_export(false, j, groups, k, out);
-    Exported {
-        number: 0,
-        index: 0,
-        length: end.at,
-    }
+    let mut measure = Measure::new(out.len());
+    let _ = put_export(&mut measure, j, groups, k);
+    let Some(length) = measure.end() else {
+        return Err(refused(Refusal::OutputShort));
+    };
+    let mut writer = Writer::new(out);
+    let _ = put_export(&mut writer, j, groups, k);
+    Ok(length)
 }

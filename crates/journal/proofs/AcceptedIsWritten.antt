@@ -1,15 +1,6 @@
 -- Demand 3, back: the receipts of an accepted journal, issued again with a Change for each later pair, write the same journal.
-use Prim.Native.Nat.{ℕ, suc, ◌+◌, ◌^◌, ◌≤◌, ◌<◌}
-use mathlib.Core.Path.{◌≡◌, refl, sym, ap, ◌∙◌, subst}
-use mathlib.Core.Bool.{Bool, true, false, cond, ◌||◌}
-use mathlib.Core.List.{List, [], ◌∷◌, ◌++◌, append_assoc, append-nil}
-use native.Mathlib.Omega.{arith}
+use Rattle.std.proofs.Common.{ℕ, suc, ◌+◌, ◌^◌, ◌≤◌, ◌<◌, ◌≡◌, refl, sym, ap, ◌∙◌, subst, Bool, true, false, cond, ◌||◌, List, [], ◌∷◌, ◌++◌, append_assoc, append-nil, arith, eq-eqb, ne_eqb, le-leb, eqb, lit<, pos, length, replicate, get_or, length-append, take_all, length-take-le}
 use native.Mathlib.Nat.{pow-le-pow_right}
-use borrow.Author.Tests.{eq-eqb, ne_eqb, le-leb}
-use lib.Dec.{eqb, lit<}
-use lib.IntN.{pos}
-use lib.ListN.{length, replicate, get_or, length-append}
-use lib.Seq.{take_all, length-take-le}
 use Rattle.primitives.specs.Bytes.{AllBytes}
 use Rattle.primitives.specs.Number.{bytes_of}
 use Rattle.primitives.specs.Counter.{width_good, counter_fits, half}
@@ -20,12 +11,11 @@ use Rattle.primitives.proofs.Numbers.{length_bytes_of}
 use Rattle.primitives.proofs.Rows.{ask_yes}
 use Rattle.primitives.proofs.Twos.{width_true, half_twice, below_fits, fits_wide}
 use Rattle.receipt.specs.Settings.{csp_good, id_good, settings_good}
-use Rattle.receipt.specs.Details.{standard}
+use Rattle.receipt.specs.Details.{standard, After}
 use Rattle.receipt.specs.Payload.{counter_good}
 use Rattle.receipt.specs.Chain.{encrypted_counter, decrypted_counter}
 use Rattle.receipt.specs.Compact.{compact, signature_zero, TypedEntry}
 use Rattle.receipt.specs.declared.details.Kind.{Kind}
-use Rattle.receipt.specs.declared.details.After.{After}
 use Rattle.receipt.specs.declared.settings.Name.{Name}
 use Rattle.receipt.specs.declared.settings.Settings.{Settings}
 use Rattle.receipt.specs.declared.entry.Signature.{Signature}
@@ -34,6 +24,7 @@ use Rattle.receipt.proofs.Entries.{Admitted, admitted, standard_is, counter_afte
 use Rattle.receipt.proofs.Names.{settings_yes, id_own}
 use Rattle.journal.specs.Head.{head_length, entry_text}
 use Rattle.journal.specs.State.{no_name, used, in_eight, is_in, all_good, settings_now}
+use Rattle.journal.specs.declared.state.TakenOver.{TakenOver}
 use Rattle.journal.specs.Step.{new_counter, fields_of}
 use Rattle.journal.specs.Opening.{open_number}
 use Rattle.journal.specs.Issuing.{signature_sized, given_signature, entry_of, text_of, issue_number}
@@ -43,7 +34,6 @@ use Rattle.journal.specs.Valid.{Owner, Pair, settings_for, texts, pair_texts, ow
 use Rattle.journal.specs.Calls.{Order, TypedOrder, Call, issue, change, issues, changes, TypedCalls, none, more, Register, opening, number_of, call, calls, calls_within, numbers_of, order_of, issues_of, later_calls, calls_of}
 use Rattle.journal.specs.Demands.{before_count, AcceptedIsWritten}
 use Rattle.journal.specs.declared.state.State.{State}
-use Rattle.journal.specs.declared.state.TakenOver.{TakenOver}
 use Rattle.journal.proofs.Check.{RightAt, text_in, step, first_yes, right_new, step_length}
 use Rattle.journal.proofs.Serials.{serials_good_lem}
 use Rattle.journal.proofs.Answers.{Sound, Detailed, issue-yes, change-yes}

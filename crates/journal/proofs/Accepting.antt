@@ -1,11 +1,5 @@
 -- Take over accepts exactly the valid journals.
-use Prim.Native.Nat.{ℕ, zero, suc, ◌+◌, ◌-◌, ◌≤◌, ◌<◌}
-use mathlib.Core.Path.{◌≡◌, refl, sym, ap, ◌∙◌, subst}
-use mathlib.Core.Bool.{true, false, ◌&&◌}
-use mathlib.Core.List.{List, [], ◌∷◌, ◌++◌, append_assoc, append-nil}
-use native.Mathlib.Omega.{arith}
-use lib.IntN.{pos}
-use lib.ListN.{length, drop, length-append, drop_of_length-le}
+use Rattle.std.proofs.Common.{ℕ, zero, suc, ◌+◌, ◌-◌, ◌≤◌, ◌<◌, ◌≡◌, refl, sym, ap, ◌∙◌, subst, true, false, ◌&&◌, List, [], ◌∷◌, ◌++◌, append_assoc, append-nil, arith, pos, length, drop, length-append, drop_of_length-le}
 use Rattle.primitives.specs.Bytes.{AllBytes}
 use Rattle.primitives.specs.Number.{bytes_of, count_at}
 use Rattle.primitives.specs.Counter.{width_good}
@@ -23,13 +17,12 @@ use Rattle.receipt.specs.declared.entry.Entry.{Entry}
 use Rattle.receipt.proofs.Names.{good_name}
 use Rattle.journal.specs.Head.{section, front, head, head_length, count_place, head_settings, head_good, entry_text, text_at, pair_start, serial_at}
 use Rattle.journal.specs.State.{used, in_eight, added, is_in, TypedName}
+use Rattle.journal.specs.declared.state.TakenOver.{TakenOver}
 use Rattle.journal.specs.Step.{fresh, next, renewed}
-use Rattle.journal.specs.Checking.{head_number, after, entry_number, one_step, steps, refused, accepted, last_answer, take_over}
+use Rattle.journal.specs.Checking.{head_number, after, entry_number, one_step, steps, refused, accepted, last_answer, take_over, Checked}
+use Rattle.journal.specs.declared.checking.Step.{Step}
 use Rattle.journal.specs.Valid.{Owner, Pair, settings_for, texts, pair_text, pair_texts, owner_text, journal_text, placed_under, all_placed, GoodOwner, Valid}
 use Rattle.journal.specs.declared.state.State.{State}
-use Rattle.journal.specs.declared.state.TakenOver.{TakenOver}
-use Rattle.journal.specs.declared.checking.Checked.{Checked}
-use Rattle.journal.specs.declared.checking.Step.{Step}
 use Rattle.journal.proofs.Places.{length_entry, there_entry}
 use Rattle.journal.proofs.Heads.{length_head, read_settings, head_good_lem, good_head, read_typed, read_few, read_back, count_of, read_count_at, read_place_is, read_length}
 use Rattle.journal.proofs.Check.{RightAt, text_in, step, passes_right, after_passed, bytes_text, step_length}

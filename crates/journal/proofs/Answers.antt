@@ -1,13 +1,6 @@
 -- What the yes answers to a call say, and that the entry of such a call is right.
-use Prim.Native.Nat.{ℕ, ◌+◌, ◌≤◌, ◌<◌}
-use mathlib.Core.Path.{◌≡◌, refl, sym, ap, ◌∙◌}
-use mathlib.Core.Bool.{Bool, true, false, cond, ◌&&◌, ◌||◌}
-use mathlib.Core.List.{List}
-use native.Mathlib.Omega.{arith}
-use borrow.Author.Tests.{leb-true, le-leb, lt-ltb, ltb-true, eqb-true, not-true}
-use lib.Dec.{eqb}
-use lib.IntN.{◌+ℤ◌}
-use lib.ListN.{length, replicate}
+use Rattle.std.proofs.lemmas.Bool.{not-true}
+use Rattle.std.proofs.Common.{ℕ, ◌+◌, ◌≤◌, ◌<◌, ◌≡◌, refl, sym, ap, ◌∙◌, Bool, true, false, cond, ◌&&◌, ◌||◌, List, arith, leb-true, le-leb, lt-ltb, ltb-true, eqb-true, eqb, ◌+ℤ◌, length, replicate}
 use Rattle.primitives.specs.Bytes.{AllBytes}
 use Rattle.primitives.specs.Counter.{width_good, counter_fits}
 use Rattle.primitives.specs.Aes.{key_schedule}
@@ -17,13 +10,12 @@ use Rattle.receipt.specs.Settings.{csp_good, id_good, serial_good, settings_good
 use Rattle.receipt.specs.declared.settings.Name.{Name}
 use Rattle.receipt.specs.Payload.{counter_good}
 use Rattle.receipt.specs.DateTime.{date_good}
-use Rattle.receipt.specs.Details.{standard, amounts_good, counted}
+use Rattle.receipt.specs.Details.{standard, amounts_good, counted, After}
 use Rattle.receipt.specs.Chain.{chain_value, encrypted_counter, decrypted_counter}
 use Rattle.receipt.specs.Compact.{signature_zero, spellable, TypedEntry}
 use Rattle.receipt.specs.declared.details.Kind.{Kind}
 use Rattle.receipt.specs.declared.details.Kind.TheVariants.{Standard, Cancellation, Training}
 use Rattle.receipt.specs.declared.details.Details.{Details}
-use Rattle.receipt.specs.declared.details.After.{After}
 use Rattle.receipt.specs.declared.entry.Signature.{Signature}
 use Rattle.primitives.proofs.Rows.{both, true-is-not-false, ask_zero}
 use Rattle.receipt.proofs.Names.{good_sized}
@@ -100,8 +92,8 @@ settings-three csp id serial a b c = rw (a, b, c)
 pub sound-settings : (st : State) → Sound st → settings_good (settings_now st) ≡ true
 sound-settings st s = settings-three st.csp st.id (newest st.serials) s.csp s.id (newest_good st.serials s.serials)
 
-pub names-first : (st : State) → csp_good st.csp && (id_good st.id && serials_good st.serials) ≡ true → settings_good (settings_first st) ≡ true
-names-first st e =
+pub names_first : (st : State) → csp_good st.csp && (id_good st.id && serials_good st.serials) ≡ true → settings_good (settings_first st) ≡ true
+names_first st e =
     let p = both _ _ e in
     let q = both _ _ p.1 in
     settings-three st.csp st.id (settings_first st).serial p.0 q.0 (first_good_lem st.serials q.1)

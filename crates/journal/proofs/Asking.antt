@@ -1,14 +1,7 @@
 -- Open, Issue, Prepare and Change give the number of their first "no", and a check asks 6 as the paper says it.
-use Prim.Native.Nat.{ℕ, ◌+◌, ◌-◌, ◌≤◌, ◌<◌}
-use mathlib.Core.Path.{◌≡◌, refl, sym, ap, ◌∙◌}
-use mathlib.Core.Bool.{Bool, true, false, not, ◌||◌}
-use mathlib.Core.List.{List, ◌++◌}
-use mathlib.Core.Logic.{◌⊎◌, inl, inr}
-use native.Mathlib.Omega.{arith}
-use borrow.Author.Tests.{leb-true, le-leb, ltb-true, lt-ltb, eqb-true, eq-eqb, not-true}
-use lib.Dec.{leb, ltb, eqb}
-use lib.IntN.{ℤ, ◌+ℤ◌}
-use lib.ListN.{length, get_or, replicate, get_or-append}
+use Rattle.std.proofs.lemmas.Bool.{not-true}
+use Rattle.std.proofs.Common.{ℕ, ◌+◌, ◌-◌, ◌≤◌, ◌<◌, ◌≡◌, refl, sym, ap, ◌∙◌, Bool, true, false, not, ◌||◌, List, ◌++◌, ◌⊎◌, inl, inr, arith, leb-true, le-leb, ltb-true, lt-ltb, eqb-true, eq-eqb, leb, ltb, eqb, ℤ, ◌+ℤ◌, length, get_or, replicate}
+use lib.ListN.{get_or-append}
 use Rattle.primitives.specs.Counter.{counter_fits}
 use Rattle.primitives.specs.Questions.{Row, asked_all, question, GivesFirstNo}
 use Rattle.primitives.proofs.Rows.{both, true-is-not-false}

@@ -1,13 +1,5 @@
 -- What the steps for other readers ask, in the paper's words.
-use Prim.Native.Nat.{ℕ, zero, suc, ◌+◌, ◌≤◌}
-use mathlib.Core.Path.{◌≡◌, refl, sym, ap, ◌∙◌}
-use mathlib.Core.Bool.{Bool, true, false, cond}
-use mathlib.Core.List.{List, ◌++◌}
-use native.Mathlib.Omega.{arith}
-use borrow.Author.Tests.{leb-true, le-leb}
-use lib.Dec.{leb}
-use lib.ListN.{length, take, drop, take-append-drop}
-use lib.Seq.{length-take-le}
+use Rattle.std.proofs.Common.{ℕ, zero, suc, ◌+◌, ◌≤◌, ◌≡◌, refl, sym, ap, ◌∙◌, Bool, true, false, cond, List, ◌++◌, arith, leb-true, le-leb, leb, length, take, drop, take-append-drop, length-take-le}
 use Rattle.primitives.specs.Bytes.{AllBytes, same}
 use Rattle.primitives.specs.Number.{count_at}
 use Rattle.primitives.specs.Counter.{width_good}
@@ -18,23 +10,21 @@ use Rattle.primitives.proofs.Rows.{both}
 use Rattle.primitives.proofs.FirstNo.{gives_none, gives_ask, gives_same}
 use Rattle.receipt.specs.Settings.{serial_good, settings_good}
 use Rattle.receipt.specs.SettingsWords.{GoodSerial, GoodWidth, AllGood}
-use Rattle.receipt.specs.Compact.{spellable, read_entry}
+use Rattle.receipt.specs.Compact.{spellable, read_entry, Found}
 use Rattle.receipt.proofs.SettingsMeaning.{serial_means, width_means, settings_mean}
 use Rattle.receipt.proofs.Entries.{admitted}
 use Rattle.receipt.proofs.ExactEntry.{back, exact}
 use Rattle.receipt.specs.declared.settings.Name.{Name}
 use Rattle.receipt.specs.declared.settings.Settings.{Settings}
 use Rattle.receipt.specs.declared.entry.Entry.{Entry}
-use Rattle.receipt.specs.declared.entry.Found.{Found}
 use Rattle.journal.specs.Head.{entry_text, pair_start, there, text_at, serial_at, start_there}
 use Rattle.journal.specs.State.{settings_now, TypedState}
 use Rattle.journal.specs.Step.{fresh, sound_alone, sound, number_above, first_good, renewed}
-use Rattle.journal.specs.Checking.{found, counter_right, context_number, text_number, entry_number, stopped, checked, text_checked, start_number, entry_ready, entry_checked, serial_ready, serial_number, serial_checked, settings_checked, step_checked, accepted, refused}
+use Rattle.journal.specs.Checking.{found, counter_right, context_number, text_number, entry_number, stopped, checked, text_checked, start_number, entry_ready, entry_checked, serial_ready, serial_number, serial_checked, settings_checked, step_checked, accepted, refused, Checked}
 use Rattle.journal.specs.Valid.{Counted}
 use Rattle.journal.specs.FirstNo.{EntryThere, StartThere, Spells}
 use Rattle.journal.specs.Asked.{ReadyFor, entry_row, EntryIsAsked, serial_row, SerialIsAsked, SettingsAreAsked, StepIsAsked}
 use Rattle.journal.specs.declared.state.State.{State}
-use Rattle.journal.specs.declared.checking.Checked.{Checked}
 use Rattle.journal.proofs.Places.{length_entry, there_at, text_at_lem, there_entry, text_short}
 use Rattle.journal.proofs.Starting.{start_at, serial_read, start_there_lem}
 use Rattle.journal.proofs.ReadBySteps.{checked_is, step_is_its_entry, step_is_its_start}

@@ -1,13 +1,6 @@
 -- What Change asks, writes and leaves; and that journals with one certificate are checked as before.
-use Prim.Native.Nat.{ℕ, zero, suc, ◌+◌, ◌-◌, ◌≤◌, ◌<◌}
-use mathlib.Core.Path.{◌≡◌, refl, sym, ap, ◌∙◌, subst}
-use mathlib.Core.Bool.{Bool, true, false, cond, not, ◌||◌}
-use mathlib.Core.List.{List, [], ◌∷◌, ◌++◌, append_assoc, append-nil}
-use native.Mathlib.Omega.{arith}
-use borrow.Author.Tests.{leb-true, leb-false, le-leb, lt-leb, ltb-true, ltb-false, le-ltb, lt-ltb}
-use lib.Dec.{leb, ltb}
-use lib.ListN.{length, take, get_or, length-append}
-use lib.Seq.{take-add}
+use Rattle.std.proofs.lemmas.Bool.{lt-leb}
+use Rattle.std.proofs.Common.{ℕ, zero, suc, ◌+◌, ◌-◌, ◌≤◌, ◌<◌, ◌≡◌, refl, sym, ap, ◌∙◌, subst, Bool, true, false, cond, not, ◌||◌, List, [], ◌∷◌, ◌++◌, append_assoc, append-nil, arith, leb-true, leb-false, le-leb, ltb-true, ltb-false, le-ltb, lt-ltb, leb, ltb, length, take, get_or, length-append, take-add}
 use Rattle.primitives.specs.Place.{overwrite}
 use Rattle.primitives.specs.Number.{count_at}
 use Rattle.primitives.specs.Counter.{width_good}
@@ -26,16 +19,15 @@ use Rattle.receipt.specs.declared.settings.Settings.{Settings}
 use Rattle.receipt.specs.declared.entry.Entry.{Entry}
 use Rattle.journal.specs.Head.{head, head_settings, head_good, entry_text, pair_start, text_at, start_there}
 use Rattle.journal.specs.State.{same_name, used, in_eight, is_in, all_good, settings_now}
+use Rattle.journal.specs.declared.state.TakenOver.{TakenOver}
 use Rattle.journal.specs.Step.{fresh, sound, number_above, first_good, new_counter, details_number_within, next, renewed, renew_number}
 use Rattle.journal.specs.Issuing.{issue_number, signature_sized, entry_fits, text_of, issue_number_within}
 use Rattle.journal.specs.Changing.{change_number, changed, change_buffer}
-use Rattle.journal.specs.Checking.{head_number, found, after, entry_number, checked, stopped, place_checked, start_number, start_checked, full, one_step, steps, refused, accepted, last_answer, take_over}
+use Rattle.journal.specs.Checking.{head_number, found, after, entry_number, checked, stopped, place_checked, start_number, start_checked, full, one_step, steps, refused, accepted, last_answer, take_over, Checked}
+use Rattle.journal.specs.declared.checking.Step.{Step}
 use Rattle.journal.specs.Certificates.{EachGood, SerialsGoodExactly, ChangeAsks6AsIssue, BadSerialGets3, OneOf, UsedSerialGets30, NinthSerialGets31, NoRoomGets13, SerialAdded, ChangeAddsSerial, ChangeAppends, ChangeTouchesNoOther, ChangedSerialIsSpelled, RunsOn, ChangeRunsOn, one_step_before, steps_before, take_over_before, OneSectionAsBefore}
 use Rattle.journal.specs.Valid.{Owner, Pair, settings_for, texts, pair_texts, placed_under, all_placed, journal_text, GoodOwner, Valid, head_of}
 use Rattle.journal.specs.declared.state.State.{State}
-use Rattle.journal.specs.declared.state.TakenOver.{TakenOver}
-use Rattle.journal.specs.declared.checking.Checked.{Checked}
-use Rattle.journal.specs.declared.checking.Step.{Step}
 use Rattle.journal.proofs.Serials.{used_added, same_name_is, same_name_refl, used_eight, newest_added, serials_good_lem, Zeroed, serials_are, used_length}
 use Rattle.journal.proofs.Sections.{length_start}
 use Rattle.journal.proofs.Answers.{Changeable, change-zero}

@@ -1,12 +1,5 @@
 -- What the functions of a Change show at their returns, over plain variables.
-use Prim.Native.Nat.{ℕ, ◌+◌, ◌≤◌, ◌<◌}
-use mathlib.Core.Path.{◌≡◌, refl, sym, ◌∙◌}
-use mathlib.Core.Bool.{Bool, true, false, not}
-use mathlib.Core.List.{List}
-use native.Mathlib.Omega.{arith}
-use borrow.Author.Tests.{le-ltb}
-use lib.Dec.{ltb, leb}
-use lib.ListN.{length}
+use Rattle.std.proofs.Common.{ℕ, ◌+◌, ◌≤◌, ◌<◌, ◌≡◌, refl, sym, ◌∙◌, Bool, true, false, not, List, arith, le-ltb, ltb, leb, length}
 use Rattle.primitives.specs.Place.{overwrite}
 use Rattle.primitives.specs.Questions.{ask, ifZero}
 use Rattle.primitives.proofs.Rows.{ask_yes, ask_no, ifZero-yes, ifZero-no}
@@ -14,7 +7,7 @@ use Rattle.receipt.specs.Settings.{serial_good}
 use Rattle.receipt.specs.declared.settings.Name.{Name}
 use Rattle.journal.specs.Changing.{change_number, changed, change_buffer}
 use Rattle.journal.specs.Head.{pair_start}
-use Rattle.journal.specs.State.{used, is_in, serials_good}
+use Rattle.journal.specs.State.{used, added, is_in}
 use Rattle.journal.specs.Step.{sound, renewed, renew_number}
 use Rattle.journal.specs.declared.state.State.{State}
 use Rattle.journal.proofs.Answers.{Changeable, serial-zero, serial-yes, change-zero}
@@ -39,6 +32,39 @@ module _ (st : State) (s : Name) (rest : ℕ) where
       go false b = refl
       go true false = refl
       go true true = refl
+
+-- the state after the start of a pair
+pub renewed_is : (st : State) (s : Name) {ns : List Name} → ns ≡ added st.serials s
+    → record {
+      csp = st.csp;
+      id = st.id;
+      serials = ns;
+      width = st.width;
+      key = st.key;
+      counter = st.counter;
+      last = st.last;
+      issued = st.issued;
+      chain = st.chain;
+      length = st.length + 8 + s.len;
+      since = 0;
+      place = st.length + 4 + s.len;
+    } ≡ renewed st s
+unfolding renewed
+renewed_is st s e =
+    λ i. record {
+      csp = st.csp;
+      id = st.id;
+      serials = e i;
+      width = st.width;
+      key = st.key;
+      counter = st.counter;
+      last = st.last;
+      issued = st.issued;
+      chain = st.chain;
+      length = st.length + 8 + s.len;
+      since = 0;
+      place = st.length + 4 + s.len;
+    }
 
 -- ---- all questions
 
@@ -90,8 +116,8 @@ module _ (st : State) (s : Name) (b : List ℕ) {k : ℕ} (e : k ≡ change_numb
     pub change_room : (serial_good s ≡ true) × (st.length + 8 + s.len ≤ length b)
     change_room = (asked.good, omega (arith, asked.fits))
 
-    pub change_serials : (serials_good st.serials ≡ true) × (length (used st.serials) < 8)
-    change_serials = (asked.sound.serials, asked.few)
+    pub change_few : length (used st.serials) < 8
+    change_few = asked.few
 
     pub change_done : {x : State} {b₁ : List ℕ} → b₁ ≡ overwrite b st.length (pair_start s 0) → x ≡ renewed st s
         → (record { number = 0; state = x } ≡ changed st s (length b)) × (b₁ ≡ change_buffer st s b)

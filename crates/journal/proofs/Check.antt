@@ -1,28 +1,18 @@
 -- One entry: the checker accepts exactly the texts of right entries.
-use Prim.Native.Nat.{ℕ, ◌+◌, ◌<◌}
-use mathlib.Core.Path.{◌≡◌, refl, sym, ap, ◌∙◌}
-use mathlib.Core.Bool.{Bool, true, false, cond, not, ◌||◌}
-use mathlib.Core.List.{List, ◌++◌}
-use native.Mathlib.Omega.{arith}
-use borrow.Author.Tests.{ltb-true, lt-ltb, eqb-true, eq-eqb}
-use lib.Dec.{eqb}
-use lib.IntN.{ℤ, ◌+ℤ◌}
-use lib.ListN.{length}
+use Rattle.std.proofs.Common.{ℕ, ◌+◌, ◌<◌, ◌≡◌, refl, sym, ap, ◌∙◌, Bool, true, false, cond, not, ◌||◌, List, ◌++◌, arith, ltb-true, lt-ltb, eqb-true, eq-eqb, eqb, ℤ, ◌+ℤ◌, length}
 use Rattle.primitives.specs.Bytes.{AllBytes}
 use Rattle.primitives.specs.Counter.{counter_fits}
 use Rattle.primitives.specs.Aes.{key_schedule}
 use Rattle.primitives.proofs.ByteLists.{bytes_take, bytes_drop, same_refl, same_true}
-use Rattle.receipt.specs.Details.{standard, amounts_good, start_good, counted}
+use Rattle.receipt.specs.Details.{standard, amounts_good, start_good, counted, After}
 use Rattle.receipt.specs.Chain.{decrypted_counter}
-use Rattle.receipt.specs.Compact.{compact, spellable, read_entry, TypedEntry}
+use Rattle.receipt.specs.Compact.{compact, spellable, read_entry, TypedEntry, Found}
 use Rattle.receipt.specs.Exact.{Spelled}
 use Rattle.receipt.specs.declared.details.Kind.{Kind}
 use Rattle.receipt.specs.declared.details.Kind.TheVariants.{Standard}
 use Rattle.receipt.specs.declared.details.Details.{Details}
-use Rattle.receipt.specs.declared.details.After.{After}
 use Rattle.receipt.specs.declared.payload.PayloadFields.{PayloadFields}
 use Rattle.receipt.specs.declared.entry.Entry.{Entry}
-use Rattle.receipt.specs.declared.entry.Found.{Found}
 use Rattle.primitives.proofs.Rows.{both, ask_zero}
 use Rattle.receipt.proofs.Counting.{Added, after_yes, after_fits}
 use Rattle.receipt.proofs.ExactEntry.{back, compact_short, exact}

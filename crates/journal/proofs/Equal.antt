@@ -1,11 +1,5 @@
 -- Equal counters.
-use Prim.Native.Nat.{ℕ}
-use mathlib.Core.Path.{◌≡◌, sym, ap}
-use mathlib.Core.Bool.{true, ◌&&◌}
-use native.Mathlib.Omega.{arith}
-use borrow.Author.Tests.{leb-true, le-leb}
-use lib.Dec.{leb}
-use lib.IntN.{ℤ, pos, negsuc}
+use Rattle.std.proofs.Common.{ℕ, ◌≡◌, sym, ap, true, ◌&&◌, arith, leb-true, le-leb, leb, ℤ, pos, negsuc}
 use Rattle.primitives.proofs.Rows.{both, true-is-not-false}
 use Rattle.journal.specs.Checking.{equal}
 

@@ -1,10 +1,6 @@
 -- Zeros and bytes of erased flash after a journal: read as the count of a serial, they are no length of one.
-use Prim.Native.Nat.{ℕ, ◌+◌, ◌-◌, ◌≤◌}
-use mathlib.Core.Path.{◌≡◌, refl, sym, ap, ◌∙◌}
-use mathlib.Core.Bool.{Bool, true, false}
-use mathlib.Core.List.{List, ◌++◌}
-use native.Mathlib.Omega.{arith}
-use lib.ListN.{length, replicate, length-append, length-replicate, replicate-append-replicate}
+use Rattle.std.proofs.lemmas.List.{length-replicate, replicate-append-replicate}
+use Rattle.std.proofs.Common.{ℕ, ◌+◌, ◌-◌, ◌≤◌, ◌≡◌, refl, sym, ap, ◌∙◌, Bool, true, false, List, ◌++◌, arith, length, replicate, length-append}
 use Rattle.primitives.specs.Number.{number_after, value_after, value_of, count_at}
 use Rattle.primitives.proofs.Counts.{part_at, count_is}
 use Rattle.receipt.specs.declared.settings.Letters.TheVariants.{Serial}

@@ -1,12 +1,6 @@
 -- How far every answer was yes: the state there, and that the steps of a take-over lead to it.
-use Prim.Native.Nat.{ℕ, suc, ◌+◌, ◌-◌, ◌≤◌, ◌<◌}
-use mathlib.Core.Path.{◌≡◌, sym, ap, ◌∙◌, subst}
-use mathlib.Core.Bool.{true, false}
-use mathlib.Core.List.{List, [], ◌∷◌, ◌++◌, append_assoc}
-use native.Mathlib.Omega.{arith}
+use Rattle.std.proofs.Common.{ℕ, suc, ◌+◌, ◌-◌, ◌≤◌, ◌<◌, ◌≡◌, sym, ap, ◌∙◌, subst, true, false, List, [], ◌∷◌, ◌++◌, append_assoc, arith, length, drop, length-append, drop_at}
 use lib.IntN.{+ℤ_idl}
-use lib.ListN.{length, drop, length-append}
-use lib.Seq.{drop_at}
 use Rattle.primitives.specs.Number.{bytes_of, count_at}
 use Rattle.primitives.specs.Counter.{width_good}
 use Rattle.primitives.specs.Aes.{key_schedule}
@@ -20,13 +14,12 @@ use Rattle.receipt.specs.declared.settings.Settings.{Settings}
 use Rattle.journal.specs.Head.{section, head, head_length, head_settings, head_good, entry_text, pair_start}
 use Rattle.journal.specs.State.{used, is_in}
 use Rattle.journal.specs.Step.{fresh, renewed}
-use Rattle.journal.specs.Checking.{stopped, one_step, steps, refused, last_answer, take_over}
+use Rattle.journal.specs.Checking.{stopped, one_step, steps, refused, last_answer, take_over, Checked}
 use Rattle.journal.specs.Receipts.{receipts_in, sum}
 use Rattle.journal.specs.Valid.{Owner, Pair, settings_for, texts, pair_text, pair_texts, owner_text, journal_text, Placed, placed_under, all_placed, entries_of, last_of, chain_of, serials_of}
 use Rattle.journal.specs.FirstNo.{Headed, SoFar, so_far, index}
 use Rattle.journal.specs.Demands.{before_count}
 use Rattle.journal.specs.declared.state.State.{State}
-use Rattle.journal.specs.declared.checking.Checked.{Checked}
 use Rattle.journal.proofs.Sections.{length_start}
 use Rattle.journal.proofs.Heads.{length_head, head_good_lem, read_settings, read_count_at}
 use Rattle.journal.proofs.Starting.{StartAt}

@@ -1,14 +1,6 @@
 -- A refused Take over gives the number and the index of the first question answered no; and if there is such a question, they are the answer.
-use Prim.Native.Nat.{ℕ, zero, suc, ◌+◌, ◌≤◌, ◌<◌}
-use mathlib.Core.Path.{◌≡◌, refl, sym, ap, ◌∙◌, subst}
-use mathlib.Core.Bool.{Bool, true, false, not}
-use mathlib.Core.List.{List, [], ◌∷◌, ◌++◌}
-use native.Mathlib.Omega.{arith}
-use borrow.Author.Tests.{ltb-true, ltb-false, le-ltb, not-true, not-false}
-use lib.Dec.{ltb}
-use lib.IntN.{ℤ, ◌+ℤ◌}
-use lib.ListN.{length, drop, length-append}
-use lib.Seq.{drop_at}
+use Rattle.std.proofs.lemmas.Bool.{not-true, not-false}
+use Rattle.std.proofs.Common.{ℕ, zero, suc, ◌+◌, ◌≤◌, ◌<◌, ◌≡◌, refl, sym, ap, ◌∙◌, subst, Bool, true, false, not, List, [], ◌∷◌, ◌++◌, arith, ltb-true, ltb-false, le-ltb, ltb, ℤ, ◌+ℤ◌, length, drop, length-append, drop_at}
 use Rattle.primitives.specs.Bytes.{AllBytes, same}
 use Rattle.primitives.specs.Number.{count_at}
 use Rattle.primitives.specs.Counter.{width_good, counter_fits}
@@ -19,24 +11,22 @@ use Rattle.primitives.proofs.Rows.{true-is-not-false}
 use Rattle.receipt.specs.Settings.{TypedSettings}
 use Rattle.receipt.specs.Details.{counted}
 use Rattle.receipt.specs.Chain.{decrypted_counter}
-use Rattle.receipt.specs.Compact.{spellable, read_entry}
+use Rattle.receipt.specs.Compact.{spellable, read_entry, Found}
 use Rattle.receipt.specs.declared.settings.Name.{Name}
 use Rattle.receipt.specs.declared.settings.Settings.{Settings}
 use Rattle.receipt.specs.declared.entry.Entry.{Entry}
-use Rattle.receipt.specs.declared.entry.Found.{Found}
 use Rattle.receipt.proofs.Entries.{admitted}
 use Rattle.receipt.proofs.ExactEntry.{back, exact}
 use Rattle.journal.specs.Head.{head_settings, head_good, head_length, entry_text, there, text_at, serial_at, start_there, pair_start}
 use Rattle.journal.specs.State.{used, is_in}
+use Rattle.journal.specs.declared.state.TakenOver.{TakenOver}
 use Rattle.journal.specs.Step.{fresh, number_above, first_good, renewed, renew_number}
-use Rattle.journal.specs.Checking.{head_number, found, counter_right, context_number, text_number, entry_number, start_number, stopped, full, one_step, steps, refused, accepted, last_answer, take_over}
+use Rattle.journal.specs.Checking.{head_number, found, counter_right, context_number, text_number, entry_number, start_number, stopped, full, one_step, steps, refused, accepted, last_answer, take_over, Checked}
+use Rattle.journal.specs.declared.checking.Step.{Step}
 use Rattle.journal.specs.Valid.{Owner, Pair, settings_for, Placed, serials_of}
 use Rattle.journal.specs.FirstNo.{Headed, so_far, index, EntryThere, Spells, Above, StartFirst, Chained, CountedAfter, Next, Full, StartThere, NoAt, no_width, no_head, not_there, not_spelled, not_above, not_start, not_chained, not_counted, no_start, used_before, a_ninth}
 use Rattle.journal.specs.Demands.{FirstNo}
 use Rattle.journal.specs.declared.state.State.{State}
-use Rattle.journal.specs.declared.state.TakenOver.{TakenOver}
-use Rattle.journal.specs.declared.checking.Checked.{Checked}
-use Rattle.journal.specs.declared.checking.Step.{Step}
 use Rattle.journal.proofs.Places.{text_at_lem, there_at, there_entry, text_short}
 use Rattle.journal.proofs.Heads.{head_good_lem, good_head, read_typed, read_few, read_back, count_of}
 use Rattle.journal.proofs.Starting.{start_at, serial_read, start_there_lem}

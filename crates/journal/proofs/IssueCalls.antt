@@ -1,15 +1,12 @@
 -- What the functions of an Issue and a Prepare show at their returns, over plain variables.
-use Prim.Native.Nat.{ℕ, zero, suc, ◌+◌, ◌-◌, ◌≤◌, ◌<◌}
-use mathlib.Core.Path.{◌≡◌, refl, sym, ap, ◌∙◌}
-use mathlib.Core.Bool.{Bool, true, false, cond}
-use mathlib.Core.List.{List, [], ◌∷◌, ◌++◌}
-use native.Mathlib.Omega.{arith}
-use borrow.Author.Tests.{leb-true, leb-false, le-leb, lt-leb, eq-eqb, ne_eqb}
-use lib.Dec.{leb}
-use lib.IntN.{ℤ}
-use lib.ListN.{length, take, drop, replicate, length-append, length-take}
-use lib.Seq.{take_all, take-add, drop-drop, drop_at, length-take-le}
-use Rattle.primitives.specs.Place.{overwrite, placed, place_after}
+use Rattle.std.proofs.lemmas.Bool.{lt-leb}
+use Rattle.std.proofs.Common.{ℕ, zero, suc, ◌+◌, ◌-◌, ◌≤◌, ◌<◌, ◌≡◌, refl, sym, ap, ◌∙◌, subst, Bool, true, false, cond, List, [], ◌∷◌, ◌++◌, arith, leb-true, leb-false, le-leb, eq-eqb, ne_eqb, leb, ℤ, length, take, drop, replicate, length-append, length-take, take_all, take-add, drop-drop, drop_at, length-take-le}
+use Rattle.std.specs.Prelude.{Option, Some, None, Ok, Err}
+use Rattle.std.specs.Option.{is_some, unwrap_or}
+use Rattle.primitives.specs.declared.refusal.Refusal.{Refusal}
+use Rattle.primitives.specs.declared.refusal.Refusal.TheVariants.{BadSignature}
+use Rattle.primitives.specs.Refusals.{number_of}
+use Rattle.primitives.specs.Place.{overwrite, room, placed, place_after}
 use Rattle.primitives.specs.Number.{bytes_of}
 use Rattle.primitives.specs.Aes.{key_schedule}
 use Rattle.primitives.specs.Base64.{encoding}
@@ -17,7 +14,7 @@ use Rattle.primitives.specs.declared.base64.Alphabet.TheVariants.{UrlSafe}
 use Rattle.primitives.proofs.Numbers.{length_bytes_of}
 use Rattle.primitives.proofs.Over.{length_over, read_over, over_over, placed_room, placed_full, after_room, after_full}
 use Rattle.primitives.proofs.Rewrites.{over_comm}
-use Rattle.receipt.specs.Details.{standard}
+use Rattle.receipt.specs.Details.{standard, as_after, After}
 use Rattle.receipt.specs.Chain.{chain_value, encrypted_counter}
 use Rattle.receipt.specs.Compact.{signature_text, compact, signing_input, prepared, spellable, spelled}
 use Rattle.receipt.specs.declared.settings.Settings.{Settings}
@@ -25,36 +22,22 @@ use Rattle.receipt.specs.declared.details.Kind.{Kind}
 use Rattle.receipt.specs.declared.details.Kind.TheVariants.{Standard}
 use Rattle.receipt.specs.declared.settings.Name.{Name}
 use Rattle.receipt.specs.declared.details.Details.{Details}
-use Rattle.receipt.specs.declared.details.After.{After}
 use Rattle.receipt.specs.declared.payload.PayloadFields.{PayloadFields}
 use Rattle.receipt.specs.declared.entry.Entry.{Entry}
+use Rattle.receipt.specs.declared.entry.Signature.{Signature}
 use Rattle.primitives.proofs.Rows.{both, ask_zero, ask_yes, ask_no, ifZero-yes, ifZero-no}
 use Rattle.receipt.proofs.Entries.{input_some}
 use Rattle.receipt.proofs.EntryCalls.{spellable_true, preparable_made, spelled_is, prepared_is}
 use Rattle.receipt.proofs.ExactEntry.{compact_signed}
 use Rattle.journal.specs.Head.{entry_text}
 use Rattle.primitives.specs.Questions.{ask, ifZero}
-use Rattle.journal.specs.Step.{count_within, sound_alone, sound, new_counter, details_number, fields_of, next}
+use Rattle.journal.specs.Step.{sound_alone, sound, new_counter, details_number, fields_of, next}
 use Rattle.journal.specs.Issuing.{signature_sized, given_signature, entry_of, text_of, entry_fits, issue_number, issue_number_within, issued, issued_within, with_entry, issue_buffer, issue_buffer_within}
 use Rattle.journal.specs.Preparing.{prepared_text, prepare_number, prepare_answer, prepare_buffer}
 use Rattle.journal.specs.declared.state.State.{State}
 use Rattle.journal.proofs.Places.{length_entry}
-use Rattle.journal.proofs.Readings.{leb_moved}
 use Rattle.journal.proofs.Answers.{sound-true, details-zero, details-yes, details-then, sized-cases, call-spellable}
 use Rattle.journal.specs.State.{settings_now}
-
--- ---- the count of the open section ends within the journal
-
-module _ (st : State) where
-  pub within_no : st.length < 4 → false ≡ count_within st
-  unfolding count_within
-  within_no h = sym (lt-leb (st.place + 4) st.length (omega arith))
-
-  pub within_is : 4 ≤ st.length → leb st.place (st.length - 4) ≡ count_within st
-  unfolding count_within
-  within_is h =
-      let e : 4 + st.place ≡ st.place + 4 = omega arith in
-      leb_moved 4 st.place st.length h ∙ ap (λ (n : ℕ). leb n st.length) e
 
 -- ---- the questions 7 to 11, and then the rest
 
@@ -64,6 +47,20 @@ module _ (st : State) (d : Details) {k : ℕ} (e : k ≡ details_number st d 0) 
 
   pub details_past : k ≡ 0 → details_number st d rest ≡ rest
   details_past z = details-yes st d rest (details-zero st d 0 (sym e ∙ z)).0
+
+-- ---- the counter after the receipt, or the one before it
+
+pub counter_kept : {y z v : ℤ} (r : Option ℤ) → y ≡ z → v ≡ unwrap_or r y → v ≡ (as_after z r).counter
+counter_kept {z = z} r q u = u ∙ ap (unwrap_or r) q ∙ go r
+  where
+    go : (r : Option ℤ) → unwrap_or r z ≡ (as_after z r).counter
+    go (Some x) = refl
+    go None = refl
+
+-- whether it fits
+pub counter_fit : (z : ℤ) (r : Option ℤ) {a : After} → as_after z r ≡ a → is_some r ≡ a.fits
+counter_fit z (Some x) e = ap (λ (a : After). a.fits) e
+counter_fit z None e = ap (λ (a : After). a.fits) e
 
 -- ---- the counter field
 
@@ -156,25 +153,30 @@ module _ (b t : List ℕ) (at : ℕ) {r : ℕ} {b₁ : List ℕ} (w : (r ≡ pla
 
 -- ---- the entry after the journal
 
+-- the place after a text that was written, or none where there is no room for it
+abbrev pub end_of : List ℕ → List ℕ → ℕ → Option ℕ
+end_of b t at = cond (room b at t) (Some (at + length t)) None
+
 module _ (t b : List ℕ) (at : ℕ) (some : 0 < length t) where
-  full : length b < at + (2 + length t) → (at ≡ place_after b at (entry_text t)) × (b ≡ placed b at (entry_text t))
+  full : length b < at + (2 + length t) → (None ≡ end_of b (entry_text t) at) × (b ≡ placed b at (entry_text t))
+  unfolding room
   full h =
       let l = length_entry t in
       let k : length b < at + length (entry_text t) = omega arith in
-      (sym (after_full b at (entry_text t) k), sym (placed_full b at (entry_text t) k))
+      (rw (lt-leb _ _ k), sym (placed_full b at (entry_text t) k))
 
-  pub entry_short : length b < at + 2 → (at ≡ place_after b at (entry_text t)) × (b ≡ placed b at (entry_text t))
+  pub entry_short : length b < at + 2 → (None ≡ end_of b (entry_text t) at) × (b ≡ placed b at (entry_text t))
   entry_short h = full (omega arith)
 
   module _ {r : ℕ} {b₁ : List ℕ} (w : (r ≡ place_after b (at + 2) t) × (b₁ ≡ placed b (at + 2) t)) where
-    pub entry_full : r ≡ at + 2 → (at ≡ place_after b at (entry_text t)) × (b₁ ≡ placed b at (entry_text t))
+    pub entry_full : r ≡ at + 2 → (None ≡ end_of b (entry_text t) at) × (b₁ ≡ placed b at (entry_text t))
     entry_full q =
         let s = stayed b t (at + 2) w some q in
         let f = full (omega (arith, s.full)) in
         (f.0, s.same ∙ f.1)
 
-    pub entry_placed : {b₂ : List ℕ} → (r ≡ at + 2 → ⊥) → b₂ ≡ placed b₁ at (bytes_of 2 (r - (at + 2))) → (r ≡ place_after b at (entry_text t)) × (b₂ ≡ placed b at (entry_text t))
-    unfolding entry_text
+    pub entry_placed : {b₂ : List ℕ} → (r ≡ at + 2 → ⊥) → b₂ ≡ placed b₁ at (bytes_of 2 (r - (at + 2))) → (Some r ≡ end_of b (entry_text t) at) × (b₂ ≡ placed b at (entry_text t))
+    unfolding entry_text room
     entry_placed {b₂} q v =
         let m = moved b t (at + 2) w q in
         let k = m.room in
@@ -184,7 +186,7 @@ module _ (t b : List ℕ) (at : ℕ) (some : 0 < length t) where
         let le : length (h ++ t) ≡ 2 + length t = length_entry t in
         let p : at + 2 ≡ at + length h = omega arith in
         let w₂ : b₂ ≡ overwrite b₁ at h = v ∙ ap (λ (x : ℕ). placed b₁ at (bytes_of 2 x)) n ∙ placed_room b₁ at h (omega (arith, m.same)) in (
-          m.end ∙ sym (after_room b at (h ++ t) (omega arith) ∙ omega arith),
+          (let q : r ≡ at + length (h ++ t) = omega (arith, m.end, le) in rw (le-leb (at + length (h ++ t)) (length b) (omega (arith, le, k))) (ap Some q)),
           w₂ ∙ (λ i. overwrite (m.wrote i) at h) ∙ (λ i. overwrite (overwrite b (p i) t) at h)
               ∙ sym (over_comm b at h (at + length h) t (omega arith) (omega arith)) ∙ over_over b at h t (omega arith) ∙ sym (placed_room b at (h ++ t) (omega arith)),
         )
@@ -238,14 +240,6 @@ next_is st d text p q =
       place = st.place;
     }
 
--- ---- question 13
-
--- what was asked before
-pub record Asked (st : State) (d : Details) (sig : List ℕ) (room : ℕ) : Type 0 where
-  pub sound : sound st room ≡ true
-  pub details : details_number st d 0 ≡ 0
-  pub signature : signature_sized sig ≡ true
-
 -- the places of the entry, once it is written
 pub record Made (st : State) (b b₁ : List ℕ) (r : ℕ) : Type 0 where
   pub start : st.length + 2 ≤ r
@@ -253,105 +247,154 @@ pub record Made (st : State) (b b₁ : List ℕ) (r : ℕ) : Type 0 where
   pub same : length b₁ ≡ length b
   pub long : st.length + 2 + length (take (r - (st.length + 2)) (drop (st.length + 2) b₁)) ≤ length b
 
-module _ (st : State) (d : Details) (sig b : List ℕ) (a : Asked st d sig (length b)) where
-  pub asked_alone : (sound_alone st ≡ true) × (st.length ≤ length b)
-  unfolding sound
-  asked_alone = let p = both _ _ a.sound in (p.0, leb-true _ _ p.1)
+end_none : (b t : List ℕ) (at : ℕ) → None ≡ end_of b t at → length b < at + length t
+unfolding room
+end_none b t at e = go (leb (at + length t) (length b)) refl e
+  where
+    go : (u : Bool) → leb (at + length t) (length b) ≡ u → None ≡ cond u (Some (at + length t)) None → length b < at + length t
+    go true h q = absurd (let w : None ≡ Some (at + length t) = q in cc)
+    go false h q = leb-false _ _ h
 
-  -- the counts of receipts, and the place of that of the open section
-  pub append_count : d.number < 4294967296 → (st.issued + 1 < 4294967296) × (st.since + 1 < 4294967296)
-  append_count h =
-      let s = sound-true st asked_alone.0 in
-      let n = (details-zero st d 0 a.details).0.above in
-      (omega (arith, s.issued), omega (arith, s.issued, s.since))
+end_some : (b t : List ℕ) (at : ℕ) {r : ℕ} {b₁ : List ℕ} → Some r ≡ end_of b t at → b₁ ≡ placed b at t → Moved b t at r b₁
+unfolding room
+end_some b t at {r} {b₁} e p = go (leb (at + length t) (length b)) refl e
+  where
+    go : (u : Bool) → leb (at + length t) (length b) ≡ u → Some r ≡ cond u (Some (at + length t)) None → Moved b t at r b₁
+    go true h q =
+        let k = leb-true (at + length t) (length b) h in
+        let w : b₁ ≡ overwrite b at t = p ∙ placed_room b at t k in
+        let f : r ≡ at + length t = cc in
+        record { room = k; end = f; wrote = w; same = ap length w ∙ length_over b at t k }
+    go false h q = absurd (let w : Some r ≡ None = q in cc)
 
-  pub append_place : st.place + 4 ≤ length b
-  append_place = omega (arith, (sound-true st asked_alone.0).place, asked_alone.1)
+-- ---- the answers of an Issue
 
-  -- the part of the number that is not known yet
-  number_is : issue_number st d sig (length b) ≡ ask (leb (st.length + length (entry_text (text_of st d sig))) (length b)) 13 0
-  unfolding issue_number_within entry_fits
-  number_is =
-      ask_yes 6 _ a.sound ∙ details_past st d refl _ a.details ∙ ask_yes 12 _ a.signature
-
-  module _ {e : Entry} (q : e ≡ entry_of st d sig) {r : ℕ} {b₁ : List ℕ}
-      (w : (r ≡ place_after b st.length (entry_text (compact (settings_now st) st.width e))) × (b₁ ≡ placed b st.length (entry_text (compact (settings_now st) st.width e)))) where
-    -- the same for the text that the definitions name
-    w' : (r ≡ place_after b st.length (entry_text (text_of st d sig))) × (b₁ ≡ placed b st.length (entry_text (text_of st d sig)))
-    unfolding text_of
-    w' =
-        let p : entry_text (compact (settings_now st) st.width e) ≡ entry_text (text_of st d sig) = λ i. entry_text (compact (settings_now st) st.width (q i)) in
-        (w.0 ∙ ap (place_after b st.length) p, w.1 ∙ ap (placed b st.length) p)
-
-    pub append_refused : r ≡ st.length → (record { number = 13; state = st } ≡ issued st d sig (length b)) × (b₁ ≡ issue_buffer st d sig b)
-    unfolding issued_within issue_buffer_within
-    append_refused z =
-        let t = entry_text (text_of st d sig) in
-        let some : 0 < length t = omega (arith, length_entry (text_of st d sig)) in
-        let s = stayed b t st.length w' some z in
-        let n : issue_number st d sig (length b) ≡ 13 = number_is ∙ ask_no 13 0 (lt-leb _ _ s.full) in
-        let m : issue_number st d sig (length b) ≡ 0 → ⊥ = λ o. omega (arith, n, o) in (
-          (λ i. record { number = sym n i; state = sym (ifZero-no (issue_number st d sig (length b)) (next st d (text_of st d sig)) st m) i }),
-          s.same ∙ sym (ifZero-no (issue_number st d sig (length b)) (with_entry st (text_of st d sig) b) b m),
-        )
-
-    module _ (z : r ≡ st.length → ⊥) where
-      appended : Moved b (entry_text (text_of st d sig)) st.length r b₁
-      appended = moved b (entry_text (text_of st d sig)) st.length w' z
-
-      text_is : take (r - (st.length + 2)) (drop (st.length + 2) b₁) ≡ text_of st d sig
-      text_is =
-          let n : r - (st.length + 2) ≡ length (text_of st d sig) = omega (arith, appended.end, length_entry (text_of st d sig)) in
-          (λ i. take (n i) (drop (st.length + 2) (appended.wrote i))) ∙ entry_text_lem b (text_of st d sig) st.length appended.room
-
-      pub append_made : Made st b b₁ r
-      append_made =
-          let l = length_entry (text_of st d sig) in
-          record {
-            start = omega (arith, appended.end);
-            end = omega (arith, appended.end, appended.room);
-            same = appended.same;
-            long = omega (arith, ap length text_is, appended.end, appended.room);
-          }
-
-      pub append_done : {st₁ : State} {b₂ : List ℕ} → st₁ ≡ next st d (take (r - (st.length + 2)) (drop (st.length + 2) b₁))
-          → b₂ ≡ overwrite b₁ st.place (bytes_of 4 (st.since + 1))
-          → (record { number = 0; state = st₁ } ≡ issued st d sig (length b)) × (b₂ ≡ issue_buffer st d sig b)
-      unfolding issued_within issue_buffer_within with_entry
-      append_done f g =
-          let n : issue_number st d sig (length b) ≡ 0 = number_is ∙ ask_yes 13 0 (le-leb _ _ appended.room) in (
-            (λ i. record { number = sym n i; state = (f ∙ ap (next st d) text_is ∙ sym (ifZero-yes (next st d (text_of st d sig)) st n)) i }),
-            g ∙ (λ i. overwrite (appended.wrote i) st.place (bytes_of 4 (st.since + 1))) ∙ sym (ifZero-yes (with_entry st (text_of st d sig) b) b n),
-          )
-
--- ---- the questions of an Issue
-
-module _ (st : State) (d : Details) (sig b : List ℕ) {k : ℕ} (e : k ≡ ask (sound st (length b)) 6 (details_number st d (ask (signature_sized sig) 12 0))) where
-  asked_then : (rest : ℕ) → ask (sound st (length b)) 6 (details_number st d rest) ≡ ask (sound st (length b)) 6 (ifZero (details_number st d 0) rest (details_number st d 0))
-  asked_then rest = ap (ask (sound st (length b)) 6) (details-then st d rest)
-
-  pub issue_refused : (k ≡ 0 → ⊥) → (record { number = k; state = st } ≡ issued st d sig (length b)) × (b ≡ issue_buffer st d sig b)
-  unfolding issued_within issue_buffer_within issue_number_within ask ifZero
-  issue_refused h =
-      let rest = ask (entry_fits st (text_of st d sig) (length b)) 13 0 in
-      let n : k ≡ issue_number st d sig (length b) =
-      e ∙ asked_then (ask (signature_sized sig) 12 0) ∙ go (sound st (length b)) (details_number st d 0) (signature_sized sig) rest (λ z. h (e ∙ asked_then (ask (signature_sized sig) 12 0) ∙ z)) ∙ sym (asked_then (ask (signature_sized sig) 12 rest)) in
-      let m : issue_number st d sig (length b) ≡ 0 → ⊥ = λ z. h (n ∙ z) in (
-        (λ i. record { number = n i; state = sym (ifZero-no (issue_number st d sig (length b)) (next st d (text_of st d sig)) st m) i }),
-        sym (ifZero-no (issue_number st d sig (length b)) (with_entry st (text_of st d sig) b) b m),
+-- a refused call
+module _ (st : State) (d : Details) (sig b : List ℕ) {n : ℕ} (is : issue_number st d sig (length b) ≡ n) where
+  pub issue_stops : {b₁ : List ℕ} → (n ≡ 0 → ⊥) → b₁ ≡ b → (record { number = n; state = st } ≡ issued st d sig (length b)) × (b₁ ≡ issue_buffer st d sig b)
+  unfolding issued_within issue_buffer_within
+  issue_stops h q =
+      let m : issue_number st d sig (length b) ≡ 0 → ⊥ = λ z. h (sym is ∙ z) in (
+        (λ i. record { number = sym is i; state = sym (ifZero-no (issue_number st d sig (length b)) (next st d (text_of st d sig)) st m) i }),
+        q ∙ sym (ifZero-no (issue_number st d sig (length b)) (with_entry st (text_of st d sig) b) b m),
       )
-    where
-      go : (u : Bool) (m : ℕ) (v : Bool) (rest : ℕ) → (ask u 6 (ifZero m (ask v 12 0) m) ≡ 0 → ⊥) → ask u 6 (ifZero m (ask v 12 0) m) ≡ ask u 6 (ifZero m (ask v 12 rest) m)
-      go false m v rest h = refl
-      go true zero false rest h = refl
-      go true zero true rest h = absurd (h refl)
-      go true (suc m) v rest h = refl
 
-  pub issue_asked : k ≡ 0 → (sound st (length b) ≡ true) × (details_number st d 0 ≡ 0) × (signature_sized sig ≡ true)
-  issue_asked z =
-      let p = ask_zero _ _ _ (sym e ∙ z) in
-      let q = details-zero st d _ p.1 in
-      (p.0, details-yes st d 0 q.0, (ask_zero _ _ _ q.1).0)
+-- a question that is answered no, whatever is asked after it
+asked_stops : (u : Bool) (m rest : ℕ) → (ask u 6 m ≡ 0 → ⊥) → ask u 6 m ≡ ask u 6 (ifZero m rest m)
+unfolding ask ifZero
+asked_stops false m rest h = refl
+asked_stops true zero rest h = absurd (h refl)
+asked_stops true (suc m) rest h = refl
+
+-- 6 to 11
+module _ (st : State) (d : Details) (sig b : List ℕ) {k : ℕ} (e : k ≡ ask (sound st (length b)) 6 (details_number st d 0)) where
+  pub issue_refused : (k ≡ 0 → ⊥) → (record { number = k; state = st } ≡ issued st d sig (length b)) × (b ≡ issue_buffer st d sig b)
+  unfolding issue_number_within
+  issue_refused h =
+      let rest = ask (signature_sized sig) 12 (ask (entry_fits st (text_of st d sig) (length b)) 13 0) in
+      let n : k ≡ issue_number st d sig (length b) =
+      e ∙ asked_stops (sound st (length b)) (details_number st d 0) rest (λ z. h (e ∙ z)) ∙ ap (ask (sound st (length b)) 6) (sym (details-then st d rest)) in
+      issue_stops st d sig b (sym n) h refl
+
+  module _ (z : k ≡ 0) where
+    issue_asked : (sound st (length b) ≡ true) × (details_number st d 0 ≡ 0)
+    issue_asked = ask_zero _ _ _ (sym e ∙ z)
+
+    number_asked : issue_number st d sig (length b) ≡ ask (signature_sized sig) 12 (ask (entry_fits st (text_of st d sig) (length b)) 13 0)
+    unfolding issue_number_within
+    number_asked = ask_yes 6 _ issue_asked.0 ∙ details_past st d refl _ issue_asked.1
+
+    -- 12
+    pub signature_refused : {r : Refusal} → Err r ≡ cond (signature_sized sig) (Ok (given_signature sig)) (Err BadSignature)
+        → (record { number = number_of r; state = st } ≡ issued st d sig (length b)) × (b ≡ issue_buffer st d sig b)
+    signature_refused {r} q = go (signature_sized sig) refl q
+      where
+        go : (t : Bool) → signature_sized sig ≡ t → Err r ≡ cond t (Ok (given_signature sig)) (Err BadSignature)
+            → (record { number = number_of r; state = st } ≡ issued st d sig (length b)) × (b ≡ issue_buffer st d sig b)
+        go true p v = absurd (let w : Err r ≡ Ok (given_signature sig) = v in cc)
+        go false p v =
+            let w : BadSignature ≡ r = cc in
+            subst (λ (x : Refusal). (record { number = number_of x; state = st } ≡ issued st d sig (length b)) × (b ≡ issue_buffer st d sig b)) w
+            (issue_stops st d sig b (number_asked ∙ ask_no 12 _ p) (λ o. absurd (omega arith)) refl)
+
+    pub entry_taken : {f : PayloadFields} {g : Signature} → f ≡ fields_of st d → Ok g ≡ cond (signature_sized sig) (Ok (given_signature sig)) (Err BadSignature)
+        → (signature_sized sig ≡ true) × (record { fields = f; signature = g } ≡ entry_of st d sig)
+    unfolding entry_of
+    entry_taken {f} {g} e q = go (signature_sized sig) refl q
+      where
+        go : (t : Bool) → signature_sized sig ≡ t → Ok g ≡ cond t (Ok (given_signature sig)) (Err BadSignature)
+            → (signature_sized sig ≡ true) × (record { fields = f; signature = g } ≡ entry_of st d sig)
+        go true p v = let w : g ≡ given_signature sig = cc in (p, λ i. record { fields = e i; signature = w i })
+        go false p v = absurd (let w : Ok g ≡ Err BadSignature = v in cc)
+
+    module _ (g : signature_sized sig ≡ true) where
+      pub issue_alone : (sound_alone st ≡ true) × (st.length ≤ length b)
+      unfolding sound
+      issue_alone = let p = both _ _ issue_asked.0 in (p.0, leb-true _ _ p.1)
+
+      pub issue_spellable : spellable (settings_now st) st.width (entry_of st d sig) ≡ true
+      issue_spellable = spellable_asked st d sig issue_alone.0 issue_asked.1 g
+
+      -- the counts of receipts, and the place of that of the open section
+      pub issue_count : d.number < 4294967296 → (st.issued + 1 < 4294967296) × (st.since + 1 < 4294967296)
+      issue_count h =
+          let s = sound-true st issue_alone.0 in
+          let n = (details-zero st d 0 issue_asked.1).0.above in
+          (omega (arith, s.issued), omega (arith, s.issued, s.since))
+
+      pub issue_place : st.place + 4 ≤ length b
+      issue_place = omega (arith, (sound-true st issue_alone.0).place, issue_alone.1)
+
+      -- the part of the number that is not known yet
+      number_is : issue_number st d sig (length b) ≡ ask (leb (st.length + length (entry_text (text_of st d sig))) (length b)) 13 0
+      unfolding entry_fits
+      number_is = number_asked ∙ ask_yes 12 _ g
+
+      module _ {x : Entry} (q : x ≡ entry_of st d sig) where
+        -- the text that the definitions name
+        text_same : entry_text (compact (settings_now st) st.width x) ≡ entry_text (text_of st d sig)
+        unfolding text_of
+        text_same = λ i. entry_text (compact (settings_now st) st.width (q i))
+
+        module _ {b₁ : List ℕ} where
+          -- 13
+          pub room_refused : (None ≡ end_of b (entry_text (compact (settings_now st) st.width x)) st.length) × (b₁ ≡ placed b st.length (entry_text (compact (settings_now st) st.width x)))
+              → (record { number = 13; state = st } ≡ issued st d sig (length b)) × (b₁ ≡ issue_buffer st d sig b)
+          room_refused w =
+              let t = entry_text (text_of st d sig) in
+              let f : length b < st.length + length t = end_none b t st.length (w.0 ∙ ap (λ (l : List ℕ). end_of b l st.length) text_same) in
+              issue_stops st d sig b (number_is ∙ ask_no 13 0 (lt-leb _ _ f)) (λ o. absurd (omega arith))
+              (w.1 ∙ ap (placed b st.length) text_same ∙ placed_full b st.length t f)
+
+          module _ {r : ℕ} (w : (Some r ≡ end_of b (entry_text (compact (settings_now st) st.width x)) st.length) × (b₁ ≡ placed b st.length (entry_text (compact (settings_now st) st.width x)))) where
+            appended : Moved b (entry_text (text_of st d sig)) st.length r b₁
+            appended =
+                end_some b (entry_text (text_of st d sig)) st.length (w.0 ∙ ap (λ (l : List ℕ). end_of b l st.length) text_same) (w.1 ∙ ap (placed b st.length) text_same)
+
+            text_is : take (r - (st.length + 2)) (drop (st.length + 2) b₁) ≡ text_of st d sig
+            text_is =
+                let n : r - (st.length + 2) ≡ length (text_of st d sig) = omega (arith, appended.end, length_entry (text_of st d sig)) in
+                (λ i. take (n i) (drop (st.length + 2) (appended.wrote i))) ∙ entry_text_lem b (text_of st d sig) st.length appended.room
+
+            pub issue_made : Made st b b₁ r
+            issue_made =
+                let l = length_entry (text_of st d sig) in
+                record {
+                  start = omega (arith, appended.end);
+                  end = omega (arith, appended.end, appended.room);
+                  same = appended.same;
+                  long = omega (arith, ap length text_is, appended.end, appended.room);
+                }
+
+            pub issue_done : {st₁ : State} {b₂ : List ℕ} → st₁ ≡ next st d (take (r - (st.length + 2)) (drop (st.length + 2) b₁))
+                → b₂ ≡ overwrite b₁ st.place (bytes_of 4 (st.since + 1))
+                → (record { number = 0; state = st₁ } ≡ issued st d sig (length b)) × (b₂ ≡ issue_buffer st d sig b)
+            unfolding issued_within issue_buffer_within with_entry
+            issue_done f g =
+                let n : issue_number st d sig (length b) ≡ 0 = number_is ∙ ask_yes 13 0 (le-leb _ _ appended.room) in (
+                  (λ i. record { number = sym n i; state = (f ∙ ap (next st d) text_is ∙ sym (ifZero-yes (next st d (text_of st d sig)) st n)) i }),
+                  g ∙ (λ i. overwrite (appended.wrote i) st.place (bytes_of 4 (st.since + 1))) ∙ sym (ifZero-yes (with_entry st (text_of st d sig) b) b n),
+                )
 
 -- ---- Prepare
 
@@ -361,16 +404,11 @@ module _ (st : State) (d : Details) (out : List ℕ) {k : ℕ} (e : k ≡ ask (s
   prepare_refused h =
       let rest = ask (leb (length (prepared_text st d)) (length out)) 13 0 in
       let n : k ≡ prepare_number st d (length out) =
-      e ∙ go (sound_alone st) (details_number st d 0) rest (λ z. h (e ∙ z)) ∙ ap (ask (sound_alone st) 6) (sym (details-then st d rest)) in
+      e ∙ asked_stops (sound_alone st) (details_number st d 0) rest (λ z. h (e ∙ z)) ∙ ap (ask (sound_alone st) 6) (sym (details-then st d rest)) in
       let m : prepare_number st d (length out) ≡ 0 → ⊥ = λ z. h (n ∙ z) in (
         (λ i. record { number = n i; length = sym (ifZero-no (prepare_number st d (length out)) (length (prepared_text st d)) 0 m) i }),
         sym (ifZero-no (prepare_number st d (length out)) (overwrite out 0 (prepared_text st d)) out m),
       )
-    where
-      go : (u : Bool) (m rest : ℕ) → (ask u 6 m ≡ 0 → ⊥) → ask u 6 m ≡ ask u 6 (ifZero m rest m)
-      go false m rest h = refl
-      go true zero rest h = absurd (h refl)
-      go true (suc m) rest h = refl
 
   module _ (z : k ≡ 0) {s : Settings} (g : s ≡ settings_now st) {f : PayloadFields} (q : f ≡ fields_of st d) {r : ℕ} {out₁ : List ℕ}
       (w : (r ≡ place_after out 0 (prepared s st.width f)) × (out₁ ≡ placed out 0 (prepared s st.width f))) where

@@ -1,9 +1,5 @@
 -- The state of a valid journal.
-use Prim.Native.Nat.{ℕ, ◌+◌, ◌-◌, ◌<◌}
-use mathlib.Core.Path.{◌≡◌, refl, sym, ap, ◌∙◌, subst}
-use mathlib.Core.List.{List, [], ◌∷◌, ◌++◌}
-use native.Mathlib.Omega.{arith}
-use lib.ListN.{length, length-append}
+use Rattle.std.proofs.Common.{ℕ, ◌+◌, ◌-◌, ◌<◌, ◌≡◌, refl, sym, ap, ◌∙◌, subst, List, [], ◌∷◌, ◌++◌, arith, length, length-append}
 use Rattle.primitives.specs.Number.{bytes_of}
 use Rattle.primitives.proofs.Numbers.{length_bytes_of}
 use Rattle.receipt.specs.declared.entry.Entry.{Entry}

@@ -24,6 +24,7 @@ pub mod ListSteps
 pub mod ListTurns
 pub mod Lists
 pub mod OneReading
+pub mod OneToOne
 pub mod OpenCalls
 pub mod Pairs
 pub mod PartPassed

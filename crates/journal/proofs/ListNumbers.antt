@@ -1,25 +1,18 @@
 -- Numbers that a list does not give: 12 to none of its receipts, and 6 to none but the first, since an Issue that is not refused leaves a sound state.
-use Prim.Native.Nat.{ℕ, zero, suc, ◌≤◌}
-use mathlib.Core.Path.{◌≡◌, refl, sym, ap, ◌∙◌, subst}
-use mathlib.Core.Bool.{Bool, true, false}
-use mathlib.Core.List.{List, [], ◌∷◌}
-use native.Mathlib.Omega.{arith}
-use borrow.Author.Tests.{le-leb}
-use lib.ListN.{length}
+use Rattle.std.proofs.Common.{ℕ, zero, suc, ◌≤◌, ◌≡◌, refl, sym, ap, ◌∙◌, subst, Bool, true, false, List, [], ◌∷◌, arith, le-leb, length}
 use Rattle.primitives.specs.Counter.{counter_fits}
 use Rattle.primitives.specs.Questions.{ask}
 use Rattle.primitives.proofs.Rows.{true-is-not-false, ifZero-yes}
 use Rattle.receipt.specs.Amount.{amount_limit}
 use Rattle.receipt.specs.DateTime.{date_good}
-use Rattle.receipt.specs.Details.{amounts_within}
+use Rattle.receipt.specs.Details.{amounts_within, After}
 use Rattle.receipt.specs.declared.details.Details.{Details}
-use Rattle.receipt.specs.declared.details.After.{After}
 use Rattle.journal.specs.Step.{sound, next, number_above, first_good, new_counter, details_number_within}
 use Rattle.journal.specs.Issuing.{signature_sized, text_of, entry_fits, issue_number, issue_number_within, issued, issued_within, issue_buffer}
 use Rattle.journal.specs.Listing.{issued_list}
 use Rattle.journal.specs.Lists.{SixIssuesNone, ListNeverGets12}
 use Rattle.journal.specs.declared.state.State.{State}
-use Rattle.journal.specs.declared.state.IssuedList.{IssuedList}
+use Rattle.journal.specs.State.{IssuedList}
 use Rattle.journal.proofs.Answers.{Sound, sound-yes, issue-zero}
 use Rattle.journal.proofs.Check.{new_fits, new_is}
 use Rattle.journal.proofs.Certificates.{issue_six}

@@ -1,16 +1,11 @@
 -- A list of receipts, one more receipt at a time: it is issued, and the rest follows, or it is refused and ends the list.
-use Prim.Native.Nat.{ℕ, ◌+◌}
-use mathlib.Core.Path.{◌≡◌, refl, sym, ◌∙◌, ap}
-use mathlib.Core.List.{List, [], ◌∷◌}
-use native.Mathlib.Omega.{arith}
-use lib.ListN.{length}
+use Rattle.std.proofs.Common.{ℕ, ◌+◌, ◌≡◌, refl, sym, ◌∙◌, ap, List, [], ◌∷◌, arith, length}
 use Rattle.primitives.proofs.Rows.{ifZero-yes, ifZero-no}
 use Rattle.receipt.specs.declared.details.Details.{Details}
 use Rattle.journal.specs.Issuing.{issue_number_within, issue_number, issued_within, issued, issue_buffer_within, issue_buffer}
 use Rattle.journal.specs.Listing.{counted_from, issued_list_within, issued_list, list_buffer_within, list_buffer}
 use Rattle.journal.specs.declared.state.State.{State}
-use Rattle.journal.specs.declared.state.Issued.{Issued}
-use Rattle.journal.specs.declared.state.IssuedList.{IssuedList}
+use Rattle.journal.specs.State.{Issued, IssuedList}
 use Rattle.journal.proofs.Answers.{issued-number}
 use Rattle.journal.proofs.Refusals.{issue_refused}
 

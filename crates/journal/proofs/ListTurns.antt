@@ -1,16 +1,10 @@
 -- Where the loop over a list of receipts stands.
-use mathlib.Core.Path.{◌≡◌, refl, sym, ◌∙◌, ap}
-use Prim.Native.Nat.{ℕ, suc, ◌+◌, ◌<◌, ◌≤◌}
-use native.Mathlib.Omega.{arith}
-use native.Mathlib.Numerals.{add-one}
-use mathlib.Core.List.{List, [], ◌∷◌}
-use lib.ListN.{length, get_or, drop, drop_of_length-le}
-use lib.Seq.{drop-cons}
+use Rattle.std.proofs.Common.{◌≡◌, refl, sym, ◌∙◌, ap, ℕ, suc, ◌+◌, ◌<◌, ◌≤◌, arith, add-one, List, [], ◌∷◌, length, get_or, drop, drop_of_length-le, drop-cons}
 use Rattle.receipt.specs.declared.details.Details.{Details}
 use Rattle.journal.specs.Issuing.{issued, issue_buffer}
 use Rattle.journal.specs.Listing.{issued_list, list_buffer}
 use Rattle.journal.specs.declared.state.State.{State}
-use Rattle.journal.specs.declared.state.Issued.{Issued}
+use Rattle.journal.specs.State.{Issued}
 use Rattle.journal.proofs.ListSteps.{listed, listed_start, listed_end, buffer_none, listed_more, buffer_more, left_there, listed_stops, buffer_stops}
 
 -- ---- where the loop stands: i receipts are issued, s is the state after them and zs the buffer
@@ -51,8 +45,11 @@ module _ {st : State} {xs : List Details} {ys : List ℕ} {s : State} {zs : List
       )
 
   -- the loop is left
-  pub done_all : length xs ≤ i → (record { number = 0; count = i; state = s } ≡ issued_list st xs ys) × (zs ≡ list_buffer st xs ys)
+  pub done_all : length xs ≤ i → (record { number = 0; count = length xs; state = s } ≡ issued_list st xs ys) × (zs ≡ list_buffer st xs ys)
   done_all l = (
-    listed_end i s zs ∙ sym (ap (λ (ds : List Details). listed i s ds zs) (drop_of_length-le xs l)) ∙ t.list_is,
+    (λ j. record { number = 0; count = count j; state = s }) ∙ listed_end i s zs ∙ sym (ap (λ (ds : List Details). listed i s ds zs) (drop_of_length-le xs l)) ∙ t.list_is,
     sym (buffer_none _ s zs) ∙ sym (ap (λ (ds : List Details). list_buffer s ds zs) (drop_of_length-le xs l)) ∙ t.buffer_is,
   )
+    where
+      count : length xs ≡ i
+      count = omega (arith, l, t.within)

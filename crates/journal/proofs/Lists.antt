@@ -1,16 +1,12 @@
 -- A list of receipts, one by one.
-use Prim.Native.Nat.{ℕ, zero, suc, ◌+◌}
-use mathlib.Core.Path.{◌≡◌, refl, sym, ap, ◌∙◌, subst}
-use mathlib.Core.List.{List, [], ◌∷◌, ◌++◌, map}
-use native.Mathlib.Omega.{arith}
-use lib.ListN.{length, take, replicate}
+use Rattle.std.proofs.Common.{ℕ, zero, suc, ◌+◌, ◌≡◌, refl, sym, ap, ◌∙◌, subst, List, [], ◌∷◌, ◌++◌, map, arith, length, take, replicate}
 use Rattle.receipt.specs.Amount.{amount_limit}
 use Rattle.receipt.specs.declared.details.Details.{Details}
 use Rattle.journal.specs.Issuing.{issue_number_within}
 use Rattle.journal.specs.Listing.{counted_from, issued_list_within, issued_list, list_buffer_within}
 use Rattle.journal.specs.Calls.{issue_list, failed_order, Register, number_of, call_within, call, calls, calls_within, numbers_of, receipt_of_call, receipts_of_list}
 use Rattle.journal.specs.Lists.{single_call, single_calls, NoneRefused, FirstRefused, Ends, whole, early, ListLeaves, ListEqualsSingleCalls, EmptyListChangesNothing}
-use Rattle.journal.specs.declared.state.IssuedList.{IssuedList}
+use Rattle.journal.specs.State.{IssuedList}
 use Rattle.journal.proofs.ListSteps.{answer_none, buffer_none, answer_yes, buffer_yes, answer_no, buffer_no}
 
 -- ---- one receipt of a list: it is issued, or it ends the list

@@ -1,19 +1,11 @@
 -- A journal is valid with only one CSP, one ID and one list of pairs.
-use Prim.Native.Nat.{ℕ, ◌+◌, ◌<◌}
-use mathlib.Core.Path.{◌≡◌, refl, sym, ap, ◌∙◌, subst}
-use mathlib.Core.Bool.{true}
-use mathlib.Core.List.{List, [], ◌∷◌, ◌++◌, append_assoc}
-use native.Mathlib.Omega.{arith}
-use lib.ListN.{length, drop, length-append}
-use lib.Seq.{drop_at}
+use Rattle.std.proofs.Common.{ℕ, ◌+◌, ◌<◌, ◌≡◌, refl, sym, ap, ◌∙◌, subst, true, List, [], ◌∷◌, ◌++◌, append_assoc, arith, length, drop, length-append, drop_at}
 use Rattle.primitives.specs.Number.{count_at}
-use Rattle.receipt.specs.Settings.{serial_good}
-use Rattle.receipt.specs.Compact.{compact, spellable, read_entry, TypedEntry}
+use Rattle.receipt.specs.Settings.{serial_good, TypedSettings}
+use Rattle.receipt.specs.Compact.{compact, spellable, read_entry, TypedEntry, Found}
 use Rattle.receipt.specs.declared.settings.Name.{Name}
 use Rattle.receipt.specs.declared.settings.Settings.{Settings}
 use Rattle.receipt.specs.declared.entry.Entry.{Entry}
-use Rattle.receipt.specs.declared.entry.Found.{Found}
-use Rattle.receipt.specs.Settings.{TypedSettings}
 use Rattle.receipt.proofs.ExactEntry.{back, compact_short}
 use Rattle.journal.specs.Head.{head_settings, entry_text, text_at, pair_start, serial_at}
 use Rattle.journal.specs.State.{TypedName}

@@ -1,10 +1,6 @@
 -- What the functions of an Open show at their returns, over plain variables.
-use Prim.Native.Nat.{ℕ, ◌+◌, ◌-◌, ◌≤◌, ◌<◌}
-use mathlib.Core.Path.{◌≡◌, sym, ap, ◌∙◌}
-use mathlib.Core.Bool.{Bool, true}
-use mathlib.Core.List.{List, ◌++◌, append_assoc}
-use native.Mathlib.Omega.{arith}
-use lib.ListN.{length, take, length-append}
+use Rattle.std.proofs.lemmas.Bool.{lt-leb}
+use Rattle.std.proofs.Common.{ℕ, ◌+◌, ◌≤◌, ◌<◌, ◌≡◌, refl, sym, ap, ◌∙◌, Bool, true, List, ◌++◌, append_assoc, arith, length, take, length-append, leb-true, le-leb, leb}
 use Rattle.primitives.specs.Place.{overwrite, placed}
 use Rattle.primitives.specs.Number.{bytes_of}
 use Rattle.primitives.specs.Counter.{width_good}
@@ -14,7 +10,7 @@ use Rattle.receipt.specs.Settings.{name_text, serial_good, settings_good, id_all
 use Rattle.receipt.specs.declared.settings.Name.{Name}
 use Rattle.receipt.specs.declared.settings.Settings.{Settings}
 use Rattle.receipt.proofs.Names.{good_settings, length_text, settings_zero, settings_pass, settings_stop}
-use Rattle.receipt.proofs.Entries.{lent_name, settings_all}
+use Rattle.receipt.proofs.Entries.{settings_all}
 use Rattle.journal.specs.Head.{head, head_length, front, section, pair_start}
 use Rattle.journal.specs.State.{unopened}
 use Rattle.journal.specs.Step.{fresh}
@@ -23,8 +19,6 @@ use Rattle.journal.specs.declared.state.State.{State}
 use Rattle.primitives.proofs.Rows.{ifZero-yes, ifZero-no, ask_zero, ask_yes, ask_no}
 use Rattle.journal.proofs.Sections.{length_section, serial_long, length_serial, length_start}
 use Rattle.primitives.specs.Questions.{ask}
-use borrow.Author.Tests.{leb-true, le-leb, lt-leb}
-use lib.Dec.{leb}
 
 -- ---- writers in a row
 
@@ -53,13 +47,18 @@ put_section text b at h e₁ e₂ =
     let l = length_bytes_of 4 (length text) in
     then_placed b (bytes_of 4 (length text)) text at (at + 4) (e₁ ∙ placed_room b at (bytes_of 4 (length text)) (omega arith)) e₂ (omega arith) (omega arith)
 
+-- what is lent of a name
+pub lent_name : (n : Name) → take n.len n.bytes ≡ name_text n
+unfolding name_text
+lent_name n = refl
+
 -- the start of a pair
 module _ (s : Name) (long : length s.bytes ≡ 32) (g : serial_good s ≡ true) (b : List ℕ) (at : ℕ) (h : at + 8 + s.len ≤ length b) where
   -- what is lent of the name
-  pub lent_room : at + 4 + length (take (s.len - 0) s.bytes) ≤ length b
+  pub lent_room : at + 4 + length (take s.len s.bytes) ≤ length b
   lent_room = omega (arith, ap length (lent_name s), serial_long s long g)
 
-  pub put_start : {b₁ b₂ : List ℕ} → b₁ ≡ overwrite b at (section (take (s.len - 0) s.bytes))
+  pub put_start : {b₁ b₂ : List ℕ} → b₁ ≡ overwrite b at (section (take s.len s.bytes))
       → b₂ ≡ overwrite b₁ (at + 4 + s.len) (bytes_of 4 0) → b₂ ≡ overwrite b at (pair_start s 0)
   unfolding pair_start
   put_start e₁ e₂ =
@@ -79,13 +78,13 @@ module _ (s : Settings) (t : SettingsLengths s) (b : List ℕ) (good : settings_
   pub csp_room : 0 + 4 + length s.csp ≤ length b
   csp_room = omega (arith, room, t.csp)
 
-  pub id_room : (b₁ : List ℕ) → length b₁ ≡ length b → 7 + 4 + length (take (s.id.len - 0) s.id.bytes) ≤ length b₁
+  pub id_room : (b₁ : List ℕ) → length b₁ ≡ length b → 7 + 4 + length (take s.id.len s.id.bytes) ≤ length b₁
   id_room b₁ e = omega (arith, room, ap length (lent_name s.id) ∙ id_long, e)
 
   pub pair_room : (b₁ : List ℕ) → length b₁ ≡ length b → (serial_good s.serial ≡ true) × (11 + s.id.len + 8 + s.serial.len ≤ length b₁)
   pair_room b₁ e = ((settings_all s good).serial, omega (arith, room, e))
 
-  pub put_head : {b₁ b₂ b₃ : List ℕ} → b₁ ≡ overwrite b 0 (section s.csp) → b₂ ≡ overwrite b₁ 7 (section (take (s.id.len - 0) s.id.bytes))
+  pub put_head : {b₁ b₂ b₃ : List ℕ} → b₁ ≡ overwrite b 0 (section s.csp) → b₂ ≡ overwrite b₁ 7 (section (take s.id.len s.id.bytes))
       → b₃ ≡ overwrite b₂ (11 + s.id.len) (pair_start s.serial 0) → b₃ ≡ overwrite b 0 (head s 0)
   put_head {b₁} {b₂} e₁ e₂ e₃ =
       let c = section s.csp in

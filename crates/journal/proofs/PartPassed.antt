@@ -1,22 +1,17 @@
 -- A check that is not refused has found every answer yes up to the state that it gives.
-use Prim.Native.Nat.{ℕ, zero, suc, ◌+◌, ◌≤◌, ◌<◌}
-use mathlib.Core.Path.{◌≡◌, refl, sym, ap, ◌∙◌, subst}
-use mathlib.Core.List.{List, [], ◌∷◌, ◌++◌}
-use native.Mathlib.Omega.{arith}
-use lib.ListN.{length, drop, length-append}
+use Rattle.std.proofs.Common.{ℕ, zero, suc, ◌+◌, ◌≤◌, ◌<◌, ◌≡◌, refl, sym, ap, ◌∙◌, subst, List, [], ◌∷◌, ◌++◌, arith, length, drop, length-append}
 use Rattle.primitives.specs.Number.{count_at}
 use Rattle.primitives.specs.Bytes.{AllBytes}
 use Rattle.primitives.specs.Aes.{key_schedule}
 use Rattle.journal.specs.Head.{head_settings, head_length, serial_at}
 use Rattle.journal.specs.Step.{fresh, renewed}
-use Rattle.journal.specs.Checking.{one_step, steps, head_number}
+use Rattle.journal.specs.Checking.{one_step, steps, head_number, Checked}
+use Rattle.journal.specs.declared.checking.Step.{Step}
 use Rattle.journal.specs.Parts.{total}
 use Rattle.journal.specs.PartLaws.{GoodSoFar, PassedIsGood}
 use Rattle.journal.specs.Valid.{Owner, Pair}
 use Rattle.journal.specs.declared.state.State.{State}
 use Rattle.journal.specs.declared.state.TakenOver.{TakenOver}
-use Rattle.journal.specs.declared.checking.Checked.{Checked}
-use Rattle.journal.specs.declared.checking.Step.{Step}
 use Rattle.journal.proofs.Heads.{count_of}
 use Rattle.journal.proofs.Check.{step}
 use Rattle.journal.proofs.Passing.{steps_of, state_of_lem}

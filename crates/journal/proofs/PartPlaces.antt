@@ -1,12 +1,5 @@
 -- Where the steps of a check lead: to the state of the entries and changes up to there.
-use Prim.Native.Nat.{ℕ, zero, suc, ◌+◌, ◌-◌, ◌≤◌, ◌<◌}
-use mathlib.Core.Path.{◌≡◌, refl, sym, ap, ◌∙◌, subst}
-use mathlib.Core.Bool.{Bool, true, false}
-use mathlib.Core.List.{List, [], ◌∷◌, ◌++◌, append_assoc, append-nil}
-use native.Mathlib.Omega.{arith}
-use lib.Dec.{leb}
-use lib.ListN.{length, replicate, length-append}
-use borrow.Author.Tests.{leb-true, leb-false}
+use Rattle.std.proofs.Common.{ℕ, zero, suc, ◌+◌, ◌-◌, ◌≤◌, ◌<◌, ◌≡◌, refl, sym, ap, ◌∙◌, subst, Bool, true, false, List, [], ◌∷◌, ◌++◌, append_assoc, append-nil, arith, leb, length, replicate, length-append, leb-true, leb-false}
 use Rattle.primitives.specs.Bytes.{AllBytes}
 use Rattle.primitives.specs.Aes.{key_schedule}
 use Rattle.primitives.specs.Questions.{ask}
@@ -14,12 +7,12 @@ use Rattle.receipt.specs.declared.entry.Entry.{Entry}
 use Rattle.journal.specs.Head.{head_settings, start_there, pair_start}
 use Rattle.journal.specs.Step.{fresh}
 use Rattle.journal.specs.Checking.{stopped, full, one_step, steps, accepted, head_number, check_head, take_over}
+use Rattle.journal.specs.declared.checking.Step.{Step}
 use Rattle.journal.specs.Parts.{handed_back, part_answer, check_steps, checks_after, check_in_parts, total}
 use Rattle.journal.specs.PartLaws.{SameAnswer, RefusalIsTakeOvers, StateAfterSteps, GrownJournalGoesOn, LostStateIsFound}
 use Rattle.journal.specs.Valid.{Owner, Pair, settings_for, texts, pair_texts, owner_text, journal_text, entries_in, serials_of, state_after, Valid}
 use Rattle.journal.specs.declared.state.State.{State}
 use Rattle.journal.specs.declared.state.TakenOver.{TakenOver}
-use Rattle.journal.specs.declared.checking.Step.{Step}
 use Rattle.journal.proofs.Passing.{steps_of, run_pairs}
 use Rattle.journal.proofs.Accepting.{Work, valid_work, valid_taken, blank}
 use Rattle.journal.proofs.Placing.{names_split}

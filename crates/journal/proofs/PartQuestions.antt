@@ -1,12 +1,5 @@
 -- What a check asks: 6 of the state, the head alone in the first call, and 21 after the last entry.
-use Prim.Native.Nat.{ℕ, zero, suc, ◌≤◌, ◌<◌}
-use mathlib.Core.Path.{◌≡◌, refl, sym, ap, ◌∙◌}
-use mathlib.Core.Bool.{Bool, true, false}
-use mathlib.Core.List.{List}
-use native.Mathlib.Omega.{arith}
-use borrow.Author.Tests.{leb-true, leb-false}
-use lib.Dec.{leb}
-use lib.ListN.{length, drop}
+use Rattle.std.proofs.Common.{ℕ, zero, suc, ◌≤◌, ◌<◌, ◌≡◌, refl, sym, ap, ◌∙◌, Bool, true, false, List, arith, leb-true, leb-false, leb, length, drop}
 use Rattle.primitives.specs.Bytes.{AllBytes}
 use Rattle.primitives.specs.Counter.{width_good}
 use Rattle.primitives.specs.Aes.{key_schedule}
@@ -16,14 +9,13 @@ use Rattle.receipt.specs.declared.settings.Settings.{Settings}
 use Rattle.journal.specs.Head.{head_settings, head_good, head_length, start_there, serial_at, text_at}
 use Rattle.journal.specs.Step.{fresh, renewed, renew_number, sound}
 use Rattle.journal.specs.Opening.{open_number, opened}
-use Rattle.journal.specs.Checking.{context_number, text_number, entry_number, stopped, start_number, full, one_step, steps, accepted, check_head, step_checked}
+use Rattle.journal.specs.Checking.{context_number, text_number, entry_number, stopped, start_number, full, one_step, steps, accepted, check_head, step_checked, Checked}
+use Rattle.journal.specs.declared.checking.Step.{Step}
 use Rattle.journal.specs.Parts.{ready, handed_back, part_answer, check_steps}
 use Rattle.journal.specs.PartLaws.{HeadIsReadAlone, FreshIsOpened, OneStepIsCheckStep, SixIsNotReady, OnlyAsks21}
 use Rattle.journal.specs.FirstNo.{Headed}
 use Rattle.journal.specs.declared.state.State.{State}
 use Rattle.journal.specs.declared.state.TakenOver.{TakenOver}
-use Rattle.journal.specs.declared.checking.Checked.{Checked}
-use Rattle.journal.specs.declared.checking.Step.{Step}
 use Rattle.journal.proofs.Heads.{head_good_lem, good_head, read_typed, read_few, read_back, read_settings, count_of}
 use Rattle.journal.proofs.FirstNo.{bool_no}
 use Rattle.journal.proofs.Stepping.{end_none, entry_refused, start_refused, entry_passed, start_passed, idle, refused_step}

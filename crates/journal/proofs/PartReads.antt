@@ -1,23 +1,15 @@
 -- What a check reads: the open section's count, and the bytes after the state's length.
-use Prim.Native.Nat.{ℕ, zero, suc, ◌+◌, ◌-◌, ◌≤◌}
-use mathlib.Core.Path.{◌≡◌, refl, sym, ap, ◌∙◌, subst}
-use mathlib.Core.Bool.{cond, ◌&&◌}
-use mathlib.Core.List.{List}
-use native.Mathlib.Omega.{arith}
-use lib.Dec.{leb}
-use lib.ListN.{length, take, drop}
-use lib.Seq.{drop-drop}
+use Rattle.std.proofs.Common.{ℕ, zero, suc, ◌+◌, ◌-◌, ◌≤◌, ◌≡◌, refl, sym, ap, ◌∙◌, subst, cond, ◌&&◌, List, arith, leb, length, take, drop, drop-drop}
 use Rattle.primitives.specs.Number.{count_at, value_of}
 use Rattle.primitives.specs.Aes.{key_schedule}
 use Rattle.receipt.specs.Settings.{name_of, serial_good}
 use Rattle.journal.specs.Head.{length_at, there, text_at, section_text, section_end, serial_at, start_there}
 use Rattle.journal.specs.Step.{next, renewed, renew_number, sound}
 use Rattle.primitives.specs.Questions.{ask, ifZero}
-use Rattle.journal.specs.Checking.{text_number, after, entry_number, stopped, checked, place_checked, start_number, start_checked, end_checked, full, one_step, steps}
+use Rattle.journal.specs.Checking.{text_number, after, entry_number, stopped, checked, place_checked, start_number, start_checked, end_checked, full, one_step, steps, Checked}
 use Rattle.journal.specs.Parts.{ready, handed_back, part_answer, check_steps}
 use Rattle.journal.specs.PartLaws.{ReadsNoOther}
 use Rattle.journal.specs.declared.state.State.{State}
-use Rattle.journal.specs.declared.checking.Checked.{Checked}
 use Rattle.journal.proofs.Stepping.{after_within, Case, an_entry, at_end_lem, a_start, step_case}
 use Rattle.journal.proofs.Passing.{renewed_length, renewed_place, state_of_lem}
 use Rattle.journal.proofs.PartSteps.{turn, stuck, no_steps}

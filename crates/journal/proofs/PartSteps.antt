@@ -1,27 +1,19 @@
 -- A check in parts is a take-over: the same steps, counted.
-use Prim.Native.Nat.{ℕ, zero, suc, ◌+◌, ◌-◌, ◌≤◌, ◌<◌}
-use mathlib.Core.Path.{◌≡◌, refl, sym, ap, ◌∙◌, subst}
-use mathlib.Core.Bool.{Bool, true, false, cond}
-use mathlib.Core.List.{List, [], ◌∷◌}
-use native.Mathlib.Omega.{arith}
-use native.Mathlib.Nat.{zero-add}
-use borrow.Author.Tests.{leb-true, le-leb}
-use lib.ListN.{length}
+use Rattle.std.proofs.Common.{ℕ, zero, suc, ◌+◌, ◌-◌, ◌≤◌, ◌<◌, ◌≡◌, refl, sym, ap, ◌∙◌, subst, Bool, true, false, cond, List, [], ◌∷◌, arith, zero-add, leb-true, le-leb, length}
 use Rattle.primitives.specs.Number.{count_at}
 use Rattle.primitives.specs.Bytes.{AllBytes}
 use Rattle.primitives.specs.Counter.{counter_fits}
 use Rattle.primitives.specs.Aes.{key_schedule}
 use Rattle.primitives.proofs.Rows.{both, ask_zero, ifZero-yes, ifZero-no}
-use Rattle.receipt.specs.declared.details.After.{After}
+use Rattle.receipt.specs.Details.{After}
 use Rattle.journal.specs.Head.{head_settings, head_length, text_at, serial_at}
 use Rattle.journal.specs.Step.{fresh, new_counter, next, renewed, sound}
-use Rattle.journal.specs.Checking.{found, context_number, counter_right, text_number, after, entry_number, stopped, one_step, steps, refused, accepted, last_answer, head_number, take_over}
+use Rattle.journal.specs.Checking.{found, context_number, counter_right, text_number, after, entry_number, stopped, one_step, steps, refused, accepted, last_answer, head_number, take_over, Checked}
+use Rattle.journal.specs.declared.checking.Step.{Step}
 use Rattle.journal.specs.Parts.{ready, handed_back, part_answer, check_steps, checks_after, check_in_parts, total}
 use Rattle.journal.specs.PartLaws.{SameAnswer, StepsAreTakeOver, EndIsSeen, ChecksAdd, NoStepsAskSix, CheckedIsReady}
 use Rattle.journal.specs.declared.state.State.{State}
 use Rattle.journal.specs.declared.state.TakenOver.{TakenOver}
-use Rattle.journal.specs.declared.checking.Checked.{Checked}
-use Rattle.journal.specs.declared.checking.Step.{Step}
 use Rattle.journal.proofs.Answers.{Sound, sound-true}
 use Rattle.journal.proofs.Check.{new_fits, new_is}
 use Rattle.journal.proofs.Heads.{good_head, read_length, read_typed}

@@ -1,11 +1,6 @@
 -- Right entries and pairs are passed, whatever follows them.
-use Prim.Native.Nat.{ℕ, suc, ◌+◌, ◌≤◌, ◌<◌}
-use mathlib.Core.Path.{◌≡◌, refl, sym, ap, ◌∙◌, subst, transport}
-use mathlib.Core.Bool.{true}
-use mathlib.Core.List.{List, [], ◌∷◌, ◌++◌, append_assoc, append-nil}
-use native.Mathlib.Omega.{arith}
-use native.Mathlib.Nat.{add-zero}
-use lib.ListN.{length, length-append}
+use Rattle.std.proofs.Common.{ℕ, suc, ◌+◌, ◌≤◌, ◌<◌, ◌≡◌, refl, sym, ap, ◌∙◌, subst, true, List, [], ◌∷◌, ◌++◌, append_assoc, append-nil, arith, add-zero, length, length-append}
+use mathlib.Core.Path.{transport}
 use Rattle.primitives.specs.Number.{count_at}
 use Rattle.primitives.specs.Aes.{key_schedule}
 use Rattle.receipt.specs.Settings.{serial_good, settings_good, TypedSettings}
@@ -16,10 +11,9 @@ use Rattle.receipt.specs.declared.entry.Entry.{Entry}
 use Rattle.journal.specs.Head.{entry_text, text_at, pair_start, serial_at, start_there}
 use Rattle.journal.specs.State.{used, newest, settings_now, TypedName}
 use Rattle.journal.specs.Step.{next, renewed}
-use Rattle.journal.specs.Checking.{found, after, entry_number, stopped, start_number, one_step, steps}
+use Rattle.journal.specs.Checking.{found, after, entry_number, stopped, start_number, one_step, steps, Checked}
 use Rattle.journal.specs.Valid.{Owner, Pair, settings_for, texts, pair_text, pair_texts, Placed, placed_under, all_placed, Right, GoodOwner}
 use Rattle.journal.specs.declared.state.State.{State}
-use Rattle.journal.specs.declared.checking.Checked.{Checked}
 use Rattle.primitives.proofs.Rows.{ask_yes}
 use Rattle.journal.proofs.Sections.{length_start}
 use Rattle.journal.proofs.Places.{text_at_lem}

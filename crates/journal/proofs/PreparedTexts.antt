@@ -1,6 +1,5 @@
 -- Prepare and Issue: one text, and the same questions.
-use borrow.Author.Tests.{le-leb}
-use lib.ListN.{length}
+use Rattle.std.proofs.Common.{le-leb, length}
 use Rattle.receipt.proofs.ExactEntry.{input_before_dot}
 use Rattle.primitives.specs.Questions.{ask}
 use Rattle.journal.specs.Issuing.{entry_of, text_of}

@@ -1,12 +1,6 @@
 -- The steps for other readers: over a valid journal they read its entries, pair after pair and in order.
-use Prim.Native.Nat.{ℕ, zero, suc, ◌+◌, ◌-◌, ◌≤◌, ◌<◌}
-use mathlib.Core.Path.{◌≡◌, refl, sym, ap, ◌∙◌, subst}
-use mathlib.Core.Bool.{Bool, true, cond, ◌&&◌}
-use mathlib.Core.List.{List, [], ◌∷◌, ◌++◌, append_assoc, append-nil}
-use native.Mathlib.Omega.{arith}
-use borrow.Author.Tests.{le-leb, leb-true, lt-leb}
-use lib.Dec.{leb, eqb}
-use lib.ListN.{length, take, drop, get_or, length-append, length-take}
+use Rattle.std.proofs.lemmas.Bool.{lt-leb}
+use Rattle.std.proofs.Common.{ℕ, zero, suc, ◌+◌, ◌-◌, ◌≤◌, ◌<◌, ◌≡◌, refl, sym, ap, ◌∙◌, subst, Bool, true, cond, ◌&&◌, List, [], ◌∷◌, ◌++◌, append_assoc, append-nil, arith, le-leb, leb-true, leb, eqb, length, take, drop, get_or, length-append, length-take}
 use Rattle.primitives.specs.Questions.{ask}
 use Rattle.primitives.specs.Number.{count_at}
 use Rattle.primitives.specs.Counter.{width_good, counter_fits}
@@ -20,11 +14,10 @@ use Rattle.receipt.proofs.Entries.{none_found}
 use Rattle.journal.specs.Head.{head, head_length, entry_text, length_at, there, text_at, pair_start, count_place_in, head_settings, head_good, serial_at, start_there}
 use Rattle.journal.specs.State.{no_name, used, in_eight, added, serials_good}
 use Rattle.journal.specs.Step.{fresh, sound_alone, sound, next, renewed}
-use Rattle.journal.specs.Checking.{entry_number, text_number, stopped, checked, text_checked, place_checked, one_step, entry_ready, entry_checked, step_checked, read_by_steps, full, start_number, start_checked, end_checked, head_number, check_head, settings_checked, serial_ready, serial_number, serial_checked}
+use Rattle.journal.specs.Checking.{entry_number, text_number, stopped, checked, text_checked, place_checked, one_step, entry_ready, entry_checked, step_checked, read_by_steps, full, start_number, start_checked, end_checked, head_number, check_head, settings_checked, serial_ready, serial_number, serial_checked, Checked}
 use Rattle.journal.specs.Valid.{Owner, Pair, settings_for, texts, pair_text, pair_texts, journal_text, placed_under, all_placed, entries_in, GoodOwner, head_of}
 use Rattle.journal.specs.Demands.{StepsReadEntries, StepIsItsEntry, StepIsItsStart, HeadIsItsSettings}
 use Rattle.journal.specs.declared.state.State.{State}
-use Rattle.journal.specs.declared.checking.Checked.{Checked}
 use Rattle.journal.proofs.Heads.{length_head, read_count_at}
 use Rattle.journal.proofs.Places.{length_entry}
 use Rattle.journal.proofs.Check.{RightAt, step, step_counter, step_length}

@@ -1,13 +1,7 @@
 -- What the counts and parts read from a head and from the start of a pair amount to.
-use Prim.Native.Nat.{ℕ, ◌+◌, ◌-◌, ◌≤◌, ◌<◌}
-use mathlib.Core.Path.{◌≡◌, refl, sym, ap, ◌∙◌, subst}
-use mathlib.Core.Bool.{Bool, true, false, ◌&&◌, and-false}
-use mathlib.Core.List.{List, [], ◌∷◌}
-use native.Mathlib.Omega.{arith}
-use borrow.Author.Tests.{leb-true, leb-false, le-leb, lt-leb, eq-eqb, ne_eqb, eqb-true}
-use lib.Dec.{leb, eqb}
-use lib.ListN.{length, take, drop, get_or}
-use lib.Seq.{drop-cons}
+use Rattle.std.proofs.lemmas.Bool.{lt-leb}
+use Rattle.std.proofs.Common.{ℕ, ◌+◌, ◌-◌, ◌≤◌, ◌<◌, ◌≡◌, refl, sym, ap, ◌∙◌, subst, Bool, true, false, ◌&&◌, List, [], ◌∷◌, arith, leb-true, leb-false, le-leb, eq-eqb, ne_eqb, eqb-true, leb, eqb, length, take, drop, get_or, drop-cons}
+use mathlib.Core.Bool.{and-false}
 use Rattle.primitives.specs.Number.{count_at}
 use Rattle.receipt.specs.Settings.{name_of, serial_good, settings_good}
 use Rattle.receipt.specs.declared.settings.Name.{Name}

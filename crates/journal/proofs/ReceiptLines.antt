@@ -1,8 +1,5 @@
 -- Every receipt of a valid journal has an optical line.
-use mathlib.Core.Path.{◌≡◌, subst}
-use mathlib.Core.Bool.{true}
-use mathlib.Core.List.{List, [], ◌∷◌, ◌++◌}
-use Prim.Native.Nat.{ℕ}
+use Rattle.std.proofs.Common.{◌≡◌, subst, true, List, [], ◌∷◌, ◌++◌, ℕ}
 use Rattle.receipt.specs.Settings.{settings_good, TypedSettings}
 use Rattle.receipt.specs.declared.settings.Name.{Name}
 use Rattle.receipt.specs.declared.settings.Settings.{Settings}

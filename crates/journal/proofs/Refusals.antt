@@ -1,15 +1,10 @@
 -- What a refused call leaves.
-use Prim.Native.Nat.{ℕ, zero, suc}
-use native.Mathlib.Omega.{arith}
-use mathlib.Core.Bool.{Bool, true, false, cond}
-use mathlib.Core.Path.{◌≡◌, refl}
-use mathlib.Core.List.{List, [], ◌∷◌}
-use lib.Dec.{leb}
-use lib.ListN.{length}
+use Rattle.std.proofs.Common.{ℕ, zero, suc, arith, Bool, true, false, cond, ◌≡◌, refl, List, [], ◌∷◌, leb, length}
 use Rattle.receipt.specs.declared.settings.Name.{Name}
 use Rattle.receipt.specs.declared.settings.Settings.{Settings}
 use Rattle.receipt.specs.declared.details.Details.{Details}
-use Rattle.journal.specs.State.{unopened}
+use Rattle.journal.specs.State.{unopened, IssuedList}
+use Rattle.journal.specs.declared.state.TakenOver.{TakenOver}
 use Rattle.journal.specs.Step.{fresh, sound, renewed}
 use Rattle.primitives.specs.Questions.{ask, ifZero}
 use Rattle.primitives.specs.Counter.{width_good}
@@ -20,16 +15,13 @@ use Rattle.journal.specs.Issuing.{issue_number, issued, issued_within, issue_buf
 use Rattle.journal.specs.Listing.{issued_list, list_buffer, issued_list_within, list_buffer_within, counted_from}
 use Rattle.journal.specs.Changing.{change_number, changed, change_buffer}
 use Rattle.journal.specs.Preparing.{prepare_number, prepare_answer, prepare_buffer}
-use Rattle.journal.specs.Checking.{text_number, entry_number, stopped, checked, text_checked, place_checked, start_number, start_checked, end_checked, full, one_step, head_number, refused, accepted, check_head, take_over, last_answer, steps, entry_ready, entry_checked, serial_ready, serial_number, serial_checked, settings_checked, step_checked}
+use Rattle.journal.specs.Checking.{text_number, entry_number, stopped, checked, text_checked, place_checked, start_number, start_checked, end_checked, full, one_step, head_number, refused, accepted, check_head, take_over, last_answer, steps, entry_ready, entry_checked, serial_ready, serial_number, serial_checked, settings_checked, step_checked, Checked}
+use Rattle.journal.specs.declared.checking.Step.{Step}
 use Rattle.journal.specs.Parts.{ready, handed_back, part_answer, check_steps}
 use Rattle.journal.specs.Head.{head_settings, text_at, serial_at}
 use Rattle.journal.specs.Demands.{RefusedChangesNothing}
 use Rattle.journal.specs.declared.state.State.{State}
-use Rattle.journal.specs.declared.state.IssuedList.{IssuedList}
-use Rattle.journal.specs.declared.state.TakenOver.{TakenOver}
 use Rattle.primitives.proofs.Rows.{ifZero-no}
-use Rattle.journal.specs.declared.checking.Step.{Step}
-use Rattle.journal.specs.declared.checking.Checked.{Checked}
 use Rattle.primitives.specs.Aes.{key_schedule}
 
 open_refused : (s : Settings) (key : List ℕ) (shared : Bool) (n : ℕ) (buf : List ℕ) → ((opened s key shared n (length buf)).number ≡ 0 → ⊥)

@@ -1,16 +1,17 @@
 -- The serials of a state: those used, one more, and what good ones are.
-use Prim.Native.Nat.{ℕ, zero, suc, ◌+◌, ◌-◌, ◌≤◌, ◌<◌}
-use mathlib.Core.Path.{◌≡◌, refl, sym, ap, ◌∙◌, subst}
-use mathlib.Core.Bool.{Bool, true, false, cond, ◌||◌}
-use mathlib.Core.List.{List, [], ◌∷◌, ◌++◌, map, append_assoc}
-use native.Mathlib.Omega.{arith}
-use native.Mathlib.Numerals.{add-one}
-use borrow.Author.Tests.{leb-true, le-leb, lt-leb, eqb-true, eq-eqb, ne_eqb}
-use lib.Dec.{leb, eqb}
-use lib.ListN.{length, drop, get_or, set, replicate, length-append, length-drop, length-map, length-replicate, drop_of_length-le}
-use lib.Seq.{drop_at, drop-cons, set_at}
+use Rattle.std.proofs.Common.{ℕ, zero, suc, ◌+◌, ◌-◌, ◌≤◌, ◌<◌, ◌≡◌, refl, sym, ap, ◌∙◌, subst, Bool, true, false, cond, ◌&&◌, ◌||◌, List, [], ◌∷◌, ◌++◌, map, append_assoc, arith, ltb-false, leb-true, le-leb, eqb-true, eq-eqb, ne_eqb, ltb, eqb, length, take, drop, get_or, set, replicate, length-append, length-drop, drop_at}
+use Rattle.std.specs.Prelude.{Option, Some, None}
+use Rattle.std.specs.Option.{unwrap_or}
+use Rattle.std.specs.List.{position_or_len, slice_get, list_any, list_all}
+use Rattle.std.proofs.Math.Seq.{take-append_seam}
+use Rattle.std.proofs.Math.Bool.{and_comm}
+use Rattle.std.proofs.lemmas.List.{drop-replicate, length-map, length-replicate, set_at}
+use Rattle.std.proofs.lemmas.List.Recursion.{is_position_or_len}
+use Rattle.primitives.specs.Bytes.{same}
+use Rattle.receipt.specs.contracts.settings.NamePartialEq.TheImpl.{ghosts}
+use lib.Pointwise.{pointwise}
 use Rattle.primitives.proofs.ByteLists.{same_refl, same_true}
-use Rattle.primitives.proofs.Rows.{both, and_no, and_yes}
+use Rattle.primitives.proofs.Rows.{both}
 use Rattle.receipt.specs.Settings.{serial_good}
 use Rattle.receipt.specs.declared.settings.Letters.TheVariants.{Serial}
 use Rattle.receipt.specs.declared.settings.Name.{Name}
@@ -28,6 +29,26 @@ same_name_is a b e =
 pub same_name_refl : (a : Name) → same_name a a ≡ true
 unfolding same_name
 same_name_refl a = rw (eq-eqb a.len a.len refl) (same_refl a.bytes)
+
+-- what `==` says of two names
+same_bytes : (xs ys : List ℕ) → pointwise eqb xs ys ≡ same xs ys
+unfolding same
+same_bytes [] [] = refl
+same_bytes [] (y ∷ ys) = refl
+same_bytes (x ∷ xs) [] = refl
+same_bytes (x ∷ xs) (y ∷ ys) = ap (λ (t : Bool). eqb x y && t) (same_bytes xs ys)
+
+pub name_eq : (a b : Name) → ghosts.eq a b ≡ same_name a b
+unfolding same_name
+name_eq a b = rw (same_bytes a.bytes b.bytes) (and_comm (same a.bytes b.bytes) (eqb a.len b.len))
+
+pub name_eq_turned : (a b : Name) → ghosts.eq a b ≡ same_name b a
+name_eq_turned a b = name_eq a b ∙ go (same_name a b) (same_name b a) refl refl
+  where
+    go : (s t : Bool) → same_name a b ≡ s → same_name b a ≡ t → s ≡ t
+    go true t p q = sym (ap (λ (n : Name). same_name n a) (sym (same_name_is a b p)) ∙ same_name_refl a) ∙ q
+    go false true p q = sym p ∙ (ap (λ (n : Name). same_name n b) (sym (same_name_is b a q)) ∙ same_name_refl b)
+    go false false p q = refl
 
 some_letters : (s : Name) → serial_good s ≡ true → s.len ≡ 0 → ⊥
 some_letters s g e = let h = (good_name Serial s g).some in absurd (omega arith)
@@ -206,13 +227,22 @@ eight_set ns s h =
     let k : 8 - length ns ≡ suc (8 - suc (length ns)) = omega arith in
     rw (l, k) (append_assoc ns (s ∷ []) (replicate (8 - suc (length ns)) no_name) ∙ sym (set_at ns no_name (replicate (8 - suc (length ns)) no_name) s (length ns) refl))
 
--- the code's way: the place after those used is set
+-- the place after those used is set
 pub added_set : (slots : List Name) (k : ℕ) (s : Name) → length slots ≡ 8 → serials_good slots ≡ true → length (used slots) < 8 → k ≡ length (used slots)
     → set slots k s ≡ added slots s
 added_set slots k s l e f q =
     let z = (serials_are slots l e).zeroed in
     ap (λ (n : ℕ). set slots n s) q
     ∙ sym (added_is slots s ∙ (eight_set (used slots) s f ∙ ap (λ (l : List Name). set l (length (used slots)) s) (sym z)))
+
+-- the code's way: those used are copied to eight zero names, and the place after them is set
+pub added_copied : (slots us bs : List Name) (s : Name) → us ≡ used slots → length (used slots) < 8 → bs ≡ us
+    → set (bs ++ drop (length us) (replicate 8 no_name)) (length us) s ≡ added slots s
+unfolding in_eight
+added_copied slots us bs s e f q =
+    (λ i. set ((q ∙ e) i ++ drop (length (e i)) (replicate 8 no_name)) (length (e i)) s)
+    ∙ ap (λ (l : List Name). set (used slots ++ l) (length (used slots)) s) (drop-replicate (length (used slots)) 8 no_name)
+    ∙ sym (eight_set (used slots) s f) ∙ sym (added_is slots s)
 
 -- ---- one of them
 
@@ -229,110 +259,67 @@ in_snoc s (m ∷ ms) n = go (same_name s m) (in_snoc s ms n)
     go true e = refl
     go false e = e
 
--- ---- what the loops of the code find
+-- ---- what the code finds
 
-module _ (slots : List Name) (i : ℕ) (d : Name) (h : i < length slots) where
-  pub used_stop : (get_or slots i d).len ≡ 0 → length (used (drop i slots)) ≡ 0
-  unfolding used
-  used_stop e = rw (drop-cons slots i d h, eq-eqb (get_or slots i d).len 0 e)
-
-  pub used_more : ((get_or slots i d).len ≡ 0 → ⊥) → length (used (drop i slots)) ≡ suc (length (used (drop (i + 1) slots)))
-  unfolding used
-  used_more e = rw (drop-cons slots i d h, ne_eqb (get_or slots i d).len 0 e, add-one i)
-
-pub used_all : (slots : List Name) (i : ℕ) → length slots ≤ i → length (used (drop i slots)) ≡ 0
+-- the place of the first empty one
+used_place : (slots : List Name) → length (used slots) ≡ position_or_len (λ (n : Name). eqb n.len 0) slots
 unfolding used
-used_all slots i h = rw (drop_of_length-le slots h)
+used_place slots = is_position_or_len (λ (l : List Name). length (used l)) (λ (n : Name). eqb n.len 0) refl (λ n ns. go n ns (eqb n.len 0)) slots
+  where
+    go : (n : Name) (ns : List Name) (t : Bool) → length (cond t [] (n ∷ used ns)) ≡ cond t 0 (1 + length (used ns))
+    go n ns true = refl
+    go n ns false = omega arith
 
-last_at_lem : (n : Name) (us rest : List Name) (d : Name) → last_from n us ≡ get_or (n ∷ (us ++ rest)) (length us) d
-unfolding last_from
-last_at_lem n [] rest d = refl
-last_at_lem n (u ∷ us) rest d = last_at_lem u us rest d
+used_taken : (slots : List Name) → take (length (used slots)) slots ≡ used slots
+used_taken slots =
+    subst (λ (l : List Name). take (length (used slots)) l ≡ used slots) (sym (used_prefix slots)) (take-append_seam (used slots) (drop (length (used slots)) slots))
 
-newest_in : (us rest : List Name) (d : Name) → 0 < length us → last_from no_name us ≡ get_or (us ++ rest) (length us - 1) d
-unfolding last_from
-newest_in [] rest d h = absurd (omega arith)
-newest_in (u ∷ us) rest d h =
-    let k : suc (length us) - 1 ≡ length us = omega arith in
-    rw k (last_at_lem u us rest d)
+pub used_before : (slots : List Name) (r : Option ℕ) (k : ℕ) → length slots ≡ 8
+    → r ≡ cond (ltb (position_or_len (λ (n : Name). eqb n.len 0) slots) (length slots)) (Some (position_or_len (λ (n : Name). eqb n.len 0) slots)) None
+    → k ≡ unwrap_or r 8 → take k slots ≡ used slots
+used_before slots r k l e u = ap (λ (n : ℕ). take n slots) (count (position_or_len (λ (n : Name). eqb n.len 0) slots) (used_place slots) e) ∙ used_taken slots
+  where
+    count : (m : ℕ) → length (used slots) ≡ m → r ≡ cond (ltb m (length slots)) (Some m) None → k ≡ length (used slots)
+    count m p q = go (ltb m (length slots)) refl q
+      where
+        go : (t : Bool) → ltb m (length slots) ≡ t → r ≡ cond t (Some m) None → k ≡ length (used slots)
+        go true d z = u ∙ (ap (λ (o : Option ℕ). unwrap_or o 8) z ∙ sym p)
+        go false d z = u ∙ (ap (λ (o : Option ℕ). unwrap_or o 8) z ∙ omega (arith, used_length slots, l, p, ltb-false _ _ d))
 
-pub newest_at : (slots : List Name) (k : ℕ) (d : Name) → k ≡ length (used slots) → 0 < k → get_or slots (k - 1) d ≡ newest slots
-unfolding newest
-newest_at slots k d e h =
-    ap (λ (n : ℕ). get_or slots (n - 1) d) e
-    ∙ sym (newest_in (used slots) (drop (length (used slots)) slots) d (omega (arith, e)) ∙ ap (λ (l : List Name). get_or l (length (used slots) - 1) d) (sym (used_prefix slots)))
-
-pub newest_none : (slots : List Name) (k : ℕ) → k ≡ length (used slots) → k ≡ 0 → no_name ≡ newest slots
+pub newest_last : (slots us : List Name) (o : Option Name) (r : Name) → us ≡ used slots → o ≡ slice_get us (length us - 1) → r ≡ unwrap_or o no_name
+    → r ≡ newest slots
 unfolding newest last_from
-newest_none slots k e z = go (used slots) (omega (arith, e))
+newest_last slots us o r e p q = q ∙ (ap (λ (x : Option Name). unwrap_or x no_name) p ∙ (go us ∙ ap (last_from no_name) e))
   where
-    go : (ns : List Name) → length ns ≡ 0 → no_name ≡ last_from no_name ns
-    go [] l = refl
-    go (n ∷ ns) l = absurd (omega arith)
+    at : (n : Name) (ns : List Name) → unwrap_or (slice_get (n ∷ ns) (length ns)) no_name ≡ last_from n ns
+    at n [] = refl
+    at n (m ∷ ms) = at m ms
 
--- the name at a place before those used end
-pub used_at : (slots : List Name) (i : ℕ) (d : Name) → i < length (used slots) → get_or (used slots) i d ≡ get_or slots i d
-used_at slots i d h = go (used slots) (drop (length (used slots)) slots) i h ∙ ap (λ (l : List Name). get_or l i d) (sym (used_prefix slots))
-  where
-    go : (ns rest : List Name) (i : ℕ) → i < length ns → get_or ns i d ≡ get_or (ns ++ rest) i d
-    go [] rest i h = absurd (omega arith)
-    go (n ∷ ns) rest zero h = refl
-    go (n ∷ ns) rest (suc i) h = go ns rest i (omega arith)
+    go : (ns : List Name) → unwrap_or (slice_get ns (length ns - 1)) no_name ≡ last_from no_name ns
+    go [] = refl
+    go (n ∷ ns) =
+        let k : suc (length ns) - 1 ≡ length ns = omega arith in
+        rw k (at n ns)
 
-module _ (ns : List Name) (i : ℕ) (d : Name) (h : i < length ns) where
-  pub in_here : (s : Name) → same_name s (get_or ns i d) ≡ true → is_in s (drop i ns) ≡ true
-  unfolding is_in
-  in_here s e = rw (drop-cons ns i d h, e)
+-- the answers of the code's tests
 
-  pub in_later : (s : Name) → same_name s (get_or ns i d) ≡ false → is_in s (drop i ns) ≡ is_in s (drop (i + 1) ns)
-  unfolding is_in
-  in_later s e = rw (drop-cons ns i d h, e, add-one i)
-
-  pub good_no : serial_good (get_or ns i d) ≡ false → all_good (drop i ns) ≡ false
-  unfolding all_good
-  good_no e = rw (drop-cons ns i d h, e)
-
-  pub good_later : serial_good (get_or ns i d) ≡ true → all_good (drop i ns) ≡ all_good (drop (i + 1) ns)
-  unfolding all_good
-  good_later e = rw (drop-cons ns i d h, e, add-one i)
-
-  pub empty_no : same_name (get_or ns i d) no_name ≡ false → all_empty (drop i ns) ≡ false
-  unfolding all_empty
-  empty_no e = rw (drop-cons ns i d h, e)
-
-  pub empty_later : same_name (get_or ns i d) no_name ≡ true → all_empty (drop i ns) ≡ all_empty (drop (i + 1) ns)
-  unfolding all_empty
-  empty_later e = rw (drop-cons ns i d h, e, add-one i)
-
-pub in_none : (s : Name) (ns : List Name) (i : ℕ) → length ns ≤ i → is_in s (drop i ns) ≡ false
+in_is : (s : Name) (ns : List Name) → list_any (λ (n : Name). ghosts.eq n s) ns ≡ is_in s ns
 unfolding is_in
-in_none s ns i h = rw (drop_of_length-le ns h)
+in_is s [] = refl
+in_is s (n ∷ ns) = rw (name_eq_turned n s) (ap (λ (t : Bool). same_name s n || t) (in_is s ns))
 
-pub good_none : (ns : List Name) (i : ℕ) → length ns ≤ i → all_good (drop i ns) ≡ true
+pub in_used : (slots us : List Name) (s : Name) (r : Bool) → us ≡ used slots → r ≡ list_any (λ (n : Name). ghosts.eq n s) us → r ≡ is_in s (used slots)
+in_used slots us s r e q = q ∙ (in_is s us ∙ ap (is_in s) e)
+
+pub good_are : (ns : List Name) → list_all serial_good ns ≡ all_good ns
 unfolding all_good
-good_none ns i h = rw (drop_of_length-le ns h)
+good_are [] = refl
+good_are (n ∷ ns) = ap (λ (t : Bool). serial_good n && t) (good_are ns)
 
-pub empty_none : (ns : List Name) (i : ℕ) → length ns ≤ i → all_empty (drop i ns) ≡ true
+pub empty_are : (ns : List Name) → list_all (λ (n : Name). ghosts.eq n no_name) ns ≡ all_empty ns
 unfolding all_empty
-empty_none ns i h = rw (drop_of_length-le ns h)
-
--- one question after the other
-module _ (slots : List Name) {k : ℕ} (e : k ≡ length (used slots)) where
-  pub good_empty : k ≡ 0 → false ≡ serials_good slots
-  unfolding serials_good
-  good_empty z = and_no _ _ (lt-leb 1 (length (used slots)) (omega (arith, e)))
-
-  module _ (h : k ≡ 0 → ⊥) where
-    some_used : leb 1 (length (used slots)) ≡ true
-    some_used = le-leb 1 (length (used slots)) (omega (arith, e, h))
-
-    pub good_bad : all_good (used slots) ≡ false → false ≡ serials_good slots
-    unfolding serials_good
-    good_bad a = and_yes _ _ _ some_used (and_no _ _ a)
-
-    pub good_rest : {t : Bool} → all_good (used slots) ≡ true → t ≡ all_empty (drop k slots) → t ≡ serials_good slots
-    unfolding serials_good
-    good_rest a q = and_yes _ _ _ some_used (and_yes _ _ _ a (q ∙ ap (λ (n : ℕ). all_empty (drop n slots)) e))
+empty_are [] = refl
+empty_are (n ∷ ns) = rw (name_eq n no_name) (ap (λ (t : Bool). same_name n no_name && t) (empty_are ns))
 
 -- what the types say of the serials of a state stands at their image
 pub unmapped : (X Y : Type 0) (f : X → Y) (l : List X) (n : ℕ) → length (map f l) ≡ n → length l ≡ n

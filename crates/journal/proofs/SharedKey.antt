@@ -1,11 +1,6 @@
 -- What the mark of an Open for a shared key asks and promises.
-use Prim.Native.Nat.{ℕ}
-use mathlib.Core.Path.{◌≡◌, refl, sym, ap, ◌∙◌, subst}
-use mathlib.Core.Bool.{Bool, true, false, not}
-use native.Mathlib.Omega.{arith}
-use borrow.Author.Tests.{not-true, not-false}
-use lib.Dec.{leb}
-use lib.ListN.{length}
+use Rattle.std.proofs.lemmas.Bool.{not-true, not-false}
+use Rattle.std.proofs.Common.{ℕ, ◌≡◌, refl, sym, ap, ◌∙◌, subst, Bool, true, false, not, arith, leb, length}
 use Rattle.primitives.specs.Place.{overwrite}
 use Rattle.primitives.specs.Questions.{ask, ifZero}
 use Rattle.primitives.specs.Counter.{width_good}

@@ -1,12 +1,6 @@
 -- One step of a take-over, and steps one after the other.
-use Prim.Native.Nat.{ℕ, zero, suc, ◌+◌, ◌≤◌, ◌<◌}
-use mathlib.Core.Path.{◌≡◌, refl, sym, ap, ◌∙◌, subst}
-use mathlib.Core.Bool.{Bool, true, false, cond}
-use mathlib.Core.List.{List}
-use native.Mathlib.Omega.{arith}
-use borrow.Author.Tests.{ltb-true, leb-true, leb-false, le-leb, lt-leb}
-use lib.Dec.{leb}
-use lib.ListN.{length, take, drop, length-take, length-drop}
+use Rattle.std.proofs.lemmas.Bool.{lt-leb}
+use Rattle.std.proofs.Common.{ℕ, zero, suc, ◌+◌, ◌≤◌, ◌<◌, ◌≡◌, refl, sym, ap, ◌∙◌, subst, Bool, true, false, cond, List, arith, ltb-true, leb-true, leb-false, le-leb, leb, length, take, drop, length-take, length-drop}
 use Rattle.primitives.specs.Number.{count_at}
 use Rattle.primitives.proofs.Rows.{both, ask_zero, ifZero-yes, ifZero-no}
 use Rattle.receipt.specs.Settings.{serial_good}
@@ -15,9 +9,8 @@ use Rattle.receipt.proofs.Entries.{len_of}
 use Rattle.journal.specs.Head.{length_at, there, text_at, section_text, section_end, serial_at, start_there}
 use Rattle.journal.specs.State.{used, is_in, count_place_now}
 use Rattle.journal.specs.Step.{number_above, next, renewed}
-use Rattle.journal.specs.Checking.{found, context_number, text_number, after, entry_number, stopped, checked, place_checked, start_number, start_checked, end_checked, full, one_step, Steady, steps, refused, accepted, last_answer}
+use Rattle.journal.specs.Checking.{found, context_number, text_number, after, entry_number, stopped, checked, place_checked, start_number, start_checked, end_checked, full, one_step, Steady, steps, refused, accepted, last_answer, Checked}
 use Rattle.journal.specs.declared.state.State.{State}
-use Rattle.journal.specs.declared.checking.Checked.{Checked}
 use Rattle.journal.proofs.Places.{length_entry}
 use Rattle.journal.proofs.Serials.{added_good}
 use Rattle.journal.proofs.Answers.{serial-zero}

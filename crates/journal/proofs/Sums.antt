@@ -1,7 +1,6 @@
 -- The sum of demand 3 is what a register counts, receipt by receipt.
-use mathlib.Core.Path.{◌≡◌, refl, sym, ap, ◌∙◌}
-use mathlib.Core.List.{List, [], ◌∷◌, ◌++◌}
-use lib.IntN.{ℤ, ◌+ℤ◌, +ℤ_assoc, +ℤ_idl}
+use Rattle.std.proofs.Common.{◌≡◌, refl, sym, ap, ◌∙◌, List, [], ◌∷◌, ◌++◌, ℤ, ◌+ℤ◌}
+use lib.IntN.{+ℤ_assoc, +ℤ_idl}
 use Rattle.receipt.specs.DetailsWords.{amounts_taken, added_up}
 use Rattle.receipt.proofs.DetailsMeaning.{counted_is_added_up}
 use Rattle.journal.specs.Receipts.{all_amounts, sum, SumIsCounted}

@@ -1,12 +1,5 @@
 -- Issue and a list of receipts touch no byte but those of the new entries and of the open section's count, and Change none but those that it appends.
-use Prim.Native.Nat.{ℕ, zero, suc, ◌+◌, ◌≤◌, ◌<◌}
-use mathlib.Core.Path.{◌≡◌, refl, ap, ◌∙◌}
-use mathlib.Core.Bool.{Bool, true, false}
-use mathlib.Core.List.{List, [], ◌∷◌}
-use native.Mathlib.Omega.{arith}
-use borrow.Author.Tests.{leb-true, leb-false}
-use lib.Dec.{leb}
-use lib.ListN.{length, get_or}
+use Rattle.std.proofs.Common.{ℕ, zero, suc, ◌+◌, ◌≤◌, ◌<◌, ◌≡◌, refl, ap, ◌∙◌, Bool, true, false, List, [], ◌∷◌, arith, leb-true, leb-false, leb, length, get_or}
 use Rattle.primitives.specs.Place.{overwrite}
 use Rattle.primitives.specs.Number.{bytes_of}
 use Rattle.primitives.proofs.Numbers.{length_bytes_of}
@@ -22,13 +15,12 @@ use Rattle.journal.specs.Listing.{issued_list, issued_list_within, list_buffer, 
 use Rattle.journal.specs.Lists.{ListTouchesNoOther}
 use Rattle.journal.specs.Demands.{TouchesNoOther}
 use Rattle.journal.specs.declared.state.State.{State}
-use Rattle.journal.specs.declared.state.IssuedList.{IssuedList}
+use Rattle.journal.specs.State.{IssuedList, count_place_now}
 use Rattle.primitives.proofs.Rows.{ifZero-yes, ifZero-no}
 use Rattle.journal.proofs.Answers.{issue-zero}
 use Rattle.journal.proofs.Appended.{form_is_appended}
 use Rattle.journal.proofs.Places.{length_entry}
 use Rattle.journal.proofs.ListSteps.{answer_yes, answer_no, buffer_yes, buffer_no}
-use Rattle.journal.specs.State.{count_place_now}
 
 -- a byte outside of what is written
 pub outside : (xs : List ℕ) (at : ℕ) (ys : List ℕ) (i : ℕ) → at + length ys ≤ length xs → (at ≤ i → i < at + length ys → ⊥) → get_or (overwrite xs at ys) i 0 ≡ get_or xs i 0

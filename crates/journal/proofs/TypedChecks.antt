@@ -1,13 +1,6 @@
 -- What the code's types say of the states of a check.
-use Prim.Native.Nat.{ℕ, zero, suc, ◌^◌, ◌<◌}
-use mathlib.Core.Path.{◌≡◌, refl, sym, ap, ◌∙◌, subst}
-use mathlib.Core.Bool.{Bool, true, false}
-use mathlib.Core.List.{List, [], ◌∷◌}
-use native.Mathlib.Omega.{arith}
-use borrow.Author.Tests.{lt-ltb, eqb-true, eqb-false}
-use lib.Dec.{eqb}
-use lib.ListN.{length, get_or, set, length-set}
-use lib.Seq.{get_or-set_same, get_or-set_other}
+use Rattle.std.proofs.lemmas.Bool.{eqb-false}
+use Rattle.std.proofs.Common.{ℕ, zero, suc, ◌^◌, ◌<◌, ◌≡◌, refl, sym, ap, ◌∙◌, subst, Bool, true, false, List, [], ◌∷◌, arith, lt-ltb, eqb-true, eqb, length, get_or, set, length-set, get_or-set_same, get_or-set_other}
 use lib.Signed.{mag}
 use Rattle.primitives.specs.Bytes.{AllBytes}
 use Rattle.primitives.specs.Counter.{fits_in}
@@ -18,14 +11,13 @@ use Rattle.receipt.specs.declared.settings.Settings.{Settings}
 use Rattle.receipt.proofs.ExactEntry.{found_typed}
 use Rattle.journal.specs.Head.{head_settings, text_at, serial_at}
 use Rattle.journal.specs.State.{no_name, used, in_eight, added, serials_good, settings_now, TypedName, TypedState}
+use Rattle.journal.specs.declared.state.TakenOver.{TakenOver}
 use Rattle.journal.specs.Step.{fresh, next, renewed}
-use Rattle.journal.specs.Checking.{found, after, one_step, steps, check_head}
+use Rattle.journal.specs.Checking.{found, after, one_step, steps, check_head, Checked}
+use Rattle.journal.specs.declared.checking.Step.{Step}
 use Rattle.journal.specs.Parts.{check_steps}
 use Rattle.journal.specs.Valid.{GoodOwner}
 use Rattle.journal.specs.declared.state.State.{State}
-use Rattle.journal.specs.declared.state.TakenOver.{TakenOver}
-use Rattle.journal.specs.declared.checking.Checked.{Checked}
-use Rattle.journal.specs.declared.checking.Step.{Step}
 use Rattle.journal.proofs.Serials.{added_set}
 use Rattle.journal.proofs.Answers.{Eight, chain-eight}
 use Rattle.journal.proofs.Heads.{good_head, read_typed}

@@ -1,8 +1,5 @@
 -- Demand 3, forth: after any list of calls the journal is accepted with the register's state.
-use Prim.Native.Nat.{ℕ}
-use mathlib.Core.Path.{◌≡◌, sym, ap, ◌∙◌}
-use mathlib.Core.List.{List, []}
-use lib.ListN.{length}
+use Rattle.std.proofs.Common.{ℕ, ◌≡◌, sym, ap, ◌∙◌, List, [], length}
 use Rattle.journal.specs.Checking.{accepted, take_over}
 use Rattle.journal.specs.Receipts.{receipts_in, sum}
 use Rattle.journal.specs.Valid.{Owner, Pair, entries_in, journal_text, Valid}

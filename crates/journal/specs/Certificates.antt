@@ -7,15 +7,14 @@ use Rattle.receipt.specs.declared.settings.Name.{Name}
 use Rattle.receipt.specs.declared.details.Details.{Details}
 use Rattle.journal.specs.Head.{head_settings, pair_start, start_there}
 use Rattle.journal.specs.State.{no_name, used, in_eight, serials_good, settings_now}
+use Rattle.journal.specs.declared.state.TakenOver.{TakenOver}
 use Rattle.journal.specs.Step.{fresh, sound}
 use Rattle.journal.specs.Issuing.{issue_number}
 use Rattle.journal.specs.Changing.{change_number, changed, change_buffer}
-use Rattle.journal.specs.Checking.{stopped, place_checked, full, one_step, refused, head_number, last_answer, take_over}
+use Rattle.journal.specs.Checking.{stopped, place_checked, full, one_step, refused, head_number, last_answer, take_over, Checked}
+use Rattle.journal.specs.declared.checking.Step.{Step}
 use Rattle.journal.specs.Valid.{Pair, Valid}
 use Rattle.journal.specs.declared.state.State.{State}
-use Rattle.journal.specs.declared.state.TakenOver.{TakenOver}
-use Rattle.journal.specs.declared.checking.Checked.{Checked}
-use Rattle.journal.specs.declared.checking.Step.{Step}
 
 -- ---- the serials of a state
 

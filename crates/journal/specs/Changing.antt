@@ -7,7 +7,7 @@ use Rattle.receipt.specs.declared.settings.Name.{Name}
 use Rattle.journal.specs.Head.{pair_start}
 use Rattle.journal.specs.Step.{sound, renew_number, renewed}
 use Rattle.journal.specs.declared.state.State.{State}
-use Rattle.journal.specs.declared.state.Changed.{Changed}
+use Rattle.journal.specs.State.{Changed}
 
 -- "Change undergoes 6, 3 and 13 as Issue would", with 30 and 31 "between 3 and 13"
 unfoldable pub change_number : State → Name → ℕ → ℕ

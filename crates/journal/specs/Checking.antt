@@ -1,27 +1,53 @@
 -- Take over: "(journal, key, N) returns the state, or a number, the index of the entry from 0 and the unopened state".
-use Rattle.std.specs.Prelude.{ℕ, zero, suc, ◌+◌, ◌≤◌, ◌≡◌, Bool, true, cond, not, ◌&&◌, ◌||◌, List, [], ◌∷◌, leb, ℤ, length}
+use Rattle.std.specs.Prelude.{Result, Ok, Err, ℕ, zero, suc, ◌+◌, ◌≤◌, ◌≡◌, Bool, true, cond, not, ◌&&◌, ◌||◌, List, [], ◌∷◌, leb, ℤ, length}
 use Rattle.std.specs.Int.Signed.{le_z}
 use Rattle.primitives.specs.Bytes.{same}
 use Rattle.primitives.specs.Number.{count_at}
 use Rattle.primitives.specs.Counter.{width_good}
 use Rattle.primitives.specs.Aes.{key_schedule}
+use Rattle.primitives.specs.Refusals.{number_of}
+use Rattle.primitives.specs.declared.refusal.Refusal.{Refusal}
 use Rattle.receipt.specs.Settings.{serial_good, settings_good}
 use Rattle.receipt.specs.Details.{standard}
 use Rattle.receipt.specs.Chain.{decrypted_counter}
-use Rattle.receipt.specs.Compact.{no_entry, read_entry}
+use Rattle.receipt.specs.Compact.{Found, no_entry, as_found, read_entry}
 use Rattle.receipt.specs.declared.settings.Name.{Name}
 use Rattle.receipt.specs.declared.settings.Settings.{Settings}
 use Rattle.receipt.specs.declared.payload.PayloadFields.{PayloadFields}
 use Rattle.receipt.specs.declared.entry.Entry.{Entry}
-use Rattle.receipt.specs.declared.entry.Found.{Found}
 use Rattle.journal.specs.State.{unopened, serials_good, settings_now, count_place_now}
+use Rattle.journal.specs.declared.state.TakenOver.{TakenOver}
 use Rattle.journal.specs.Head.{head_settings, head_good, entry_text, there, text_at, serial_at, start_there}
 use Rattle.journal.specs.Step.{fresh, sound_alone, sound, number_above, first_good, new_counter, next, renewed, renew_number}
 use Rattle.primitives.specs.Questions.{ask, ifZero}
 use Rattle.journal.specs.declared.state.State.{State}
-use Rattle.journal.specs.declared.state.TakenOver.{TakenOver}
-use Rattle.journal.specs.declared.checking.Checked.{Checked}
+use Rattle.journal.specs.declared.state.Stop.{Stop}
+use Rattle.journal.specs.declared.checking.Checked.{Checked as Passed}
 use Rattle.journal.specs.declared.checking.Step.{Step}
+
+-- ---- what the steps answer, each as one record. The number is 0, or that of the first question answered no. `as_..` reads the code's answers so; each
+-- tells all answers apart
+
+-- one step: what it read, and the state after it
+pub record Checked : Type 0 where
+  pub number : ℕ
+  pub found : Found
+  pub state : State
+
+-- refused: no entry, and the state that the step was given
+abbrev pub as_checked : State → Result Passed Refusal → Checked
+as_checked st (Ok c) = record { number = 0; found = as_found c.entry; state = c.state }
+as_checked st (Err refusal) = record { number = number_of refusal; found = no_entry; state = st }
+
+-- a step that reads no entry
+abbrev pub as_unread : State → Result State Refusal → Checked
+as_unread st (Ok after) = record { number = 0; found = no_entry; state = after }
+as_unread st (Err refusal) = record { number = number_of refusal; found = no_entry; state = st }
+
+-- several steps: the state after them; refused, the state before the refused one
+abbrev pub as_step : Result State Stop → Step
+as_step (Ok st) = record { number = 0; state = st }
+as_step (Err stop) = record { number = number_of stop.question; state = stop.state }
 
 -- "each entry with its pair's serial". 16: "spelled as above, with the head's CSP, ID and serial, number, date with its time and amounts within limits, a counter field of U1RP, VFJB or N bytes, a chain field of 8 bytes?"
 unfoldable pub found : State → List ℕ → Found

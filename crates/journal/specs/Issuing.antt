@@ -10,9 +10,8 @@ use Rattle.receipt.specs.declared.entry.Entry.{Entry}
 use Rattle.journal.specs.Head.{entry_text}
 use Rattle.primitives.specs.Questions.{ask, ifZero}
 use Rattle.journal.specs.declared.state.State.{State}
-use Rattle.journal.specs.declared.state.Issued.{Issued}
+use Rattle.journal.specs.State.{Issued, settings_now, count_place_now}
 use Rattle.journal.specs.Step.{sound, details_number_within, fields_of, next}
-use Rattle.journal.specs.State.{settings_now, count_place_now}
 
 -- ---- the questions
 

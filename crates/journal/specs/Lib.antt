@@ -10,6 +10,7 @@ pub mod Head
 pub mod Issuing
 pub mod Listing
 pub mod Lists
+pub mod OneToOne
 pub mod Opening
 pub mod PartLaws
 pub mod Parts

@@ -6,7 +6,7 @@ use Rattle.receipt.specs.Amount.{amount_limit}
 use Rattle.receipt.specs.declared.details.Details.{Details}
 use Rattle.journal.specs.Issuing.{issue_number_within, issued_within, issue_buffer_within}
 use Rattle.journal.specs.declared.state.State.{State}
-use Rattle.journal.specs.declared.state.IssuedList.{IssuedList}
+use Rattle.journal.specs.State.{IssuedList}
 
 -- the answer with so many receipts issued before
 abbrev pub counted_from : ℕ → IssuedList → IssuedList

@@ -4,10 +4,9 @@ use Rattle.primitives.specs.Place.{overwrite}
 use Rattle.receipt.specs.Settings.{settings_number_for}
 use Rattle.receipt.specs.declared.settings.Settings.{Settings}
 use Rattle.journal.specs.Head.{head, head_length}
-use Rattle.journal.specs.State.{unopened}
+use Rattle.journal.specs.State.{unopened, Opened}
 use Rattle.journal.specs.Step.{fresh}
 use Rattle.primitives.specs.Questions.{ask, ifZero}
-use Rattle.journal.specs.declared.state.Opened.{Opened}
 
 -- "CSP good? 1. ID good? 2. Serial good? 3. N from 5 to 8? 4. Head fits the buffer? 5.", and "32 for a marked ID ending in a digit, between 2 and 3"
 unfoldable pub open_number : Settings → Bool → ℕ → ℕ → ℕ

@@ -8,6 +8,7 @@ use Rattle.receipt.specs.Settings.{TypedSettings}
 use Rattle.receipt.specs.declared.settings.Settings.{Settings}
 use Rattle.journal.specs.Head.{start_there}
 use Rattle.journal.specs.State.{count_place_now}
+use Rattle.journal.specs.declared.state.TakenOver.{TakenOver}
 use Rattle.journal.specs.Step.{fresh}
 use Rattle.journal.specs.Opening.{open_number, opened}
 use Rattle.journal.specs.Checking.{full, refused, accepted, check_head, take_over, step_checked}
@@ -16,7 +17,6 @@ use Rattle.journal.specs.Valid.{Owner, Pair, entries_in, state_after, Valid}
 use Rattle.journal.specs.FirstNo.{Headed, SoFar}
 use Rattle.journal.specs.Calls.{Call, TypedCalls, journal_of, opening, calls}
 use Rattle.journal.specs.declared.state.State.{State}
-use Rattle.journal.specs.declared.state.TakenOver.{TakenOver}
 
 -- ---- the whole journal
 

@@ -4,11 +4,11 @@ use Rattle.primitives.specs.Number.{count_at}
 use Rattle.primitives.specs.Aes.{key_schedule}
 use Rattle.primitives.specs.Questions.{ifZero}
 use Rattle.journal.specs.State.{count_place_now}
+use Rattle.journal.specs.declared.state.TakenOver.{TakenOver}
 use Rattle.journal.specs.Step.{sound}
 use Rattle.journal.specs.Checking.{steps, accepted, check_head}
-use Rattle.journal.specs.declared.state.State.{State}
-use Rattle.journal.specs.declared.state.TakenOver.{TakenOver}
 use Rattle.journal.specs.declared.checking.Step.{Step}
+use Rattle.journal.specs.declared.state.State.{State}
 
 -- 6: "A state that isn't sound for the journal as its buffer, or has more receipts in the open section than the journal's count there, gets 6."
 unfoldable pub ready : State → List ℕ → Bool

@@ -3,7 +3,7 @@ use Rattle.std.specs.Prelude.{ℕ, List, leb, length}
 use Rattle.primitives.specs.Place.{overwrite}
 use Rattle.receipt.specs.Compact.{signing_input}
 use Rattle.receipt.specs.declared.details.Details.{Details}
-use Rattle.primitives.specs.declared.answer.Answer.{Answer}
+use Rattle.primitives.specs.Answers.{Answer}
 use Rattle.primitives.specs.Questions.{ask, ifZero}
 use Rattle.journal.specs.Step.{sound_alone, details_number, fields_of}
 use Rattle.journal.specs.declared.state.State.{State}

@@ -1,12 +1,17 @@
 -- The state of a register, and its serials.
-use Rattle.std.specs.Prelude.{ℕ, ◌-◌, ◌<◌, ◌≡◌, Bool, true, false, cond, ◌&&◌, ◌||◌, List, [], ◌∷◌, ◌++◌, leb, eqb, pos, length, drop, get_or, replicate}
+use Rattle.std.specs.Prelude.{Option, Some, None, Result, Ok, Err, ℕ, ◌-◌, ◌<◌, ◌≡◌, Bool, true, false, cond, ◌&&◌, ◌||◌, List, [], ◌∷◌, ◌++◌, leb, eqb, pos, length, drop, get_or, replicate}
 use Rattle.primitives.specs.Bytes.{AllBytes, same}
 use Rattle.primitives.specs.Counter.{fits_in}
+use Rattle.primitives.specs.Refusals.{number_of}
+use Rattle.primitives.specs.declared.refusal.Refusal.{Refusal}
 use Rattle.receipt.specs.Settings.{serial_good, SettingsLengths}
 use Rattle.receipt.specs.declared.settings.Name.{Name}
 use Rattle.receipt.specs.declared.settings.Settings.{Settings}
 use Rattle.journal.specs.Head.{head_length}
 use Rattle.journal.specs.declared.state.State.{State}
+use Rattle.journal.specs.declared.state.RefusedAt.{RefusedAt}
+use Rattle.journal.specs.declared.state.IssuedList.{IssuedList as ListAnswer}
+use Rattle.journal.specs.declared.state.TakenOver.{TakenOver}
 
 -- ---- names
 
@@ -96,6 +101,57 @@ head_length_now st = head_length (settings_first st)
 -- the place of the open section's count, which Issue rewrites and a step reads
 abbrev pub count_place_now : State → ℕ
 count_place_now st = st.place
+
+-- ---- what the calls answer, each as one record. The number is 0, or that of the first question answered no. `as_..` reads the code's answers so; each
+-- tells all answers apart
+
+pub record Opened : Type 0 where
+  pub number : ℕ
+  pub state : State
+
+abbrev pub as_opened : Result State Refusal → Opened
+as_opened (Ok st) = record { number = 0; state = st }
+as_opened (Err refusal) = record { number = number_of refusal; state = unopened }
+
+pub record Issued : Type 0 where
+  pub number : ℕ
+  pub state : State
+
+-- a refused call leaves the state that it was given
+abbrev pub as_issued : State → Result State Refusal → Issued
+as_issued st (Ok after) = record { number = 0; state = after }
+as_issued st (Err refusal) = record { number = number_of refusal; state = st }
+
+-- the count is the number of receipts issued, all of them before the refused one
+pub record IssuedList : Type 0 where
+  pub number : ℕ
+  pub count : ℕ
+  pub state : State
+
+abbrev pub number_refused : Option Refusal → ℕ
+number_refused None = 0
+number_refused (Some refusal) = number_of refusal
+
+abbrev pub as_issued_list : ListAnswer → IssuedList
+as_issued_list a = record { number = number_refused a.refused; count = a.count; state = a.state }
+
+pub record Changed : Type 0 where
+  pub number : ℕ
+  pub state : State
+
+abbrev pub as_changed : State → Result State Refusal → Changed
+as_changed st (Ok after) = record { number = 0; state = after }
+as_changed st (Err refusal) = record { number = number_of refusal; state = st }
+
+-- refused: the unopened state
+abbrev pub as_taken_over : Result State RefusedAt → TakenOver
+as_taken_over (Ok st) = record { number = 0; index = 0; state = st }
+as_taken_over (Err r) = record { number = number_of r.question; index = r.index; state = unopened }
+
+-- refused: the state that the check was given
+abbrev pub as_part : State → Result State RefusedAt → TakenOver
+as_part st (Ok after) = record { number = 0; index = 0; state = after }
+as_part st (Err r) = record { number = number_of r.question; index = r.index; state = st }
 
 -- ---- what the code's types say
 

@@ -7,12 +7,11 @@ use Rattle.primitives.specs.Aes.{key_schedule}
 use Rattle.receipt.specs.Settings.{name_text, csp_good, id_good}
 use Rattle.receipt.specs.DateTime.{date_good}
 use Rattle.receipt.specs.Amount.{amount_limit}
-use Rattle.receipt.specs.Details.{standard, amounts_within, start_good, counter_after}
+use Rattle.receipt.specs.Details.{standard, amounts_within, start_good, counter_after, After}
 use Rattle.receipt.specs.Chain.{chain_value, encrypted_counter}
 use Rattle.receipt.specs.declared.settings.Name.{Name}
 use Rattle.receipt.specs.declared.settings.Settings.{Settings}
 use Rattle.receipt.specs.declared.details.Details.{Details}
-use Rattle.receipt.specs.declared.details.After.{After}
 use Rattle.receipt.specs.declared.payload.PayloadFields.{PayloadFields}
 use Rattle.journal.specs.Head.{head_length, count_place, entry_text}
 use Rattle.journal.specs.declared.state.State.{State}

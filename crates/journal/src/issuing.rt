@@ -1,137 +1,94 @@
 // Issuing a receipt: its entry, appended to the journal.
-ghost use Rattle.std.specs.Prelude.{◌≡◌, true, [], length};
+ghost use Rattle.std.specs.Prelude.{◌≡◌, ◌+◌, true, cond, [], length};
+ghost use Rattle.primitives.specs.Refusals.{answer_number};
 ghost use Rattle.primitives.specs.Questions.{ask};
-ghost use Rattle.primitives.specs.Place.{placed, place_after};
+ghost use Rattle.primitives.specs.Place.{room, placed};
 ghost use Rattle.receipt.specs.Compact.{compact, spellable};
 ghost use Rattle.journal.specs.Head.{entry_text};
 ghost use Rattle.journal.specs.Step.{sound, details_number};
-ghost use Rattle.journal.specs.Issuing.{signature_sized, given_signature, entry_of, issued, issue_buffer};
-ghost use Rattle.journal.specs.State.{settings_now};
+ghost use Rattle.journal.specs.Issuing.{signature_sized, given_signature, issued, issue_buffer};
+ghost use Rattle.journal.specs.State.{as_issued, settings_now};
 
 use super::head::put_count;
-use super::state::{Issued, State, settings_now};
-use super::step::{details_number, fields_of, next, sound};
+use super::state::{State, settings_now};
+use super::step::{ask_details, fields_of, next, sound};
+use primitives::Refusal;
 use receipt::{Details, Entry, Signature};
 
-// Question 12.
-fn signature_sized(signature: &[u8]) -> bool
-    ensures { result ≡ signature_sized signature.now }
-{
-    if signature.len() == 64 {
-        return true;
-    }
-    signature.len() == 0
-}
-
-// ---- the entry
-
-// An empty slice stands for a failed device.
-fn given_signature(signature: &[u8]) -> Signature
-    requires { signature_sized signature.now ≡ true }
-    ensures { result ≡ given_signature signature.now }
-{
-    let mut bytes = [0u8; 64];
-    if signature.len() == 0 {
-        return Signature {
-            failed: true,
-            bytes: bytes,
-        };
-    }
-    let _ = receipt::put(&mut bytes, 0, signature);
-    Signature {
-        failed: false,
-        bytes: bytes,
-    }
-}
-
-fn entry_of(st: State, d: Details, signature: &[u8]) -> Entry
-    requires { signature_sized signature.now ≡ true }
-    ensures { result ≡ entry_of st d signature.now }
-{
-    let fields = fields_of(st, d);
-    let given = given_signature(signature);
-    Entry {
-        fields: fields,
-        signature: given,
-    }
-}
-
-// ---- issuing
-
-// Writes the entry, a length and the compact form, after the journal; returns the place after it. Writes nothing if there is no room.
-fn put_entry(st: State, e: Entry, buf: &mut [u8]) -> usize
-    requires { spellable (settings_now st) st.width e ≡ true }
-    ensures { let text : _ = entry_text (compact (settings_now st) st.width e) in
-        (result ≡ place_after buf.old st.length text) × (buf.new ≡ placed buf.old st.length text) }
-{
-    let at = st.length;
-    let settings = settings_now(st);
-    if !receipt::has_room(buf.len(), at, 2) {
-        return at;
-    }
-    let start = at + 2;
-    let end = receipt::put_compact(settings, st.width, e, buf, start);
-    if end == start {
-        return at;
-    }
-    let _ = receipt::put_number(buf, at, 2, (end - start) as u64);
-    end
-}
-
-// Appends the receipt once questions 6 to 12 are answered yes: question 13.
-fn append(st: State, d: Details, signature: &[u8], buf: &mut [u8]) -> Issued
-    requires { (sound st (length buf.old) ≡ true) × (details_number st d 0 ≡ 0) × (signature_sized signature.now ≡ true) }
-    ensures { let given : _ = signature.now in
-        (result ≡ issued st d given (length buf.old)) × (buf.new ≡ issue_buffer st d given buf.old) }
-{
-    let at = st.length;
-    let e = entry_of(st, d, signature);
-    let end = put_entry(st, e, buf);
-    if end == at {
-        return Issued {
-            number: 13,
-            state: st,
-        };
-    }
-    let start = at + 2;
-    let state = next(st, d, &buf[start..end]);
-    put_count(st.place, st.since + 1, buf);
-    Issued { number: 0, state }
-}
-
-// Questions 6 to 12.
-fn issue_number(st: State, d: Details, signature: &[u8], room: usize) -> u32
-    ensures { result ≡ ask (sound st room) 6 (details_number st d (ask (signature_sized signature.now) 12 0)) }
+// Questions 6 to 11.
+#[tactic(auto, unfolding(primitives::specs::Questions::ask))]
+fn ask_issue(st: State, d: Details, room: usize) -> Result<(), Refusal>
+    ensures { answer_number result ≡ ask (sound st room) 6 (details_number st d 0) }
 {
     if !sound(st, room) {
-        return 6;
+        return Err(Refusal::BadState);
     }
-    let number = details_number(st, d);
-    if number != 0 {
-        return number;
+    ask_details(st, d)
+}
+
+// Question 12: 64 bytes, or none for a failed device.
+#[tactic(auto, unfolding(crate::specs::Issuing::given_signature, crate::specs::Issuing::signature_sized))]
+fn given_signature(signature: &[u8]) -> Result<Signature, Refusal>
+    ensures { result ≡ cond (signature_sized signature.now) (Ok (given_signature signature.now)) (Err Refusal.BadSignature) }
+{
+    let mut bytes = [0; 64];
+    match signature.len() {
+        0 => Ok(Signature {
+            failed: true,
+            bytes,
+        }),
+        64 => {
+            bytes.copy_from_slice(signature);
+            Ok(Signature {
+                failed: false,
+                bytes,
+            })
+        }
+        _ => Err(Refusal::BadSignature),
     }
-    if !signature_sized(signature) {
-        return 12;
+}
+
+// Writes the entry, a length and the compact form, after the journal; returns the place after it. Writes nothing if there is no room.
+fn put_entry(st: State, e: Entry, buf: &mut [u8]) -> Option<usize>
+    requires { spellable (settings_now st) st.width e ≡ true }
+    ensures { let text : _ = entry_text (compact (settings_now st) st.width e) in
+        (result ≡ cond (room buf.old st.length text) (Some (st.length + length text)) None) × (buf.new ≡ placed buf.old st.length text) }
+{
+    if !receipt::has_room(buf.len(), st.length, 2) {
+        return None;
     }
-    0
+    let start = st.length + 2;
+    // Writers give the place after what they wrote (`place_after`): the same place if there is no room.
+    let end = receipt::put_compact(settings_now(st), st.width, e, buf, start);
+    if end == start {
+        return None;
+    }
+    let _ = receipt::put_number(buf, st.length, 2, (end - start) as u64);
+    Some(end)
 }
 
 // Appends a receipt to the journal in the buffer and rewrites the count of the open section; a refused call changes nothing.
-pub fn issue(st: State, d: Details, signature: &[u8], buf: &mut [u8]) -> Issued
+pub fn issue(st: State, d: Details, signature: &[u8], buf: &mut [u8]) -> Result<State, Refusal>
     ensures { let given : _ = signature.now in
-        (result ≡ issued st d given (length buf.old)) × (buf.new ≡ issue_buffer st d given buf.old) }
+        (as_issued st result ≡ issued st d given (length buf.old)) × (buf.new ≡ issue_buffer st d given buf.old) }
 {
-    let number = issue_number(st, d, signature, buf.len());
-    if 0 < number {
-        return Issued { number, state: st };
-    }
-    append(st, d, signature, buf)
+    ask_issue(st, d, buf.len())?;
+    let given = given_signature(signature)?;
+    let entry = Entry {
+        fields: fields_of(st, d),
+        signature: given,
+    };
+    let Some(end) = put_entry(st, entry, buf) else {
+        return Err(Refusal::NoRoom);
+    };
+    let state = next(st, d, &buf[st.length + 2..end]);
+    put_count(st.place, st.since + 1, buf);
+    Ok(state)
 }
 
 // Issues a receipt with a failed device.
-pub fn issue_failed(st: State, d: Details, buf: &mut [u8]) -> Issued
-    ensures { (result ≡ issued st d [] (length buf.old)) × (buf.new ≡ issue_buffer st d [] buf.old) }
+pub fn issue_failed(st: State, d: Details, buf: &mut [u8]) -> Result<State, Refusal>
+    ensures { (as_issued st result ≡ issued st d [] (length buf.old)) × (buf.new ≡ issue_buffer st d [] buf.old) }
 {
-    let none = [0u8; 1];
-    issue(st, d, &none[0..0], buf)
+    issue(st, d, &[], buf)
 }

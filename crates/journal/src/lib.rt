@@ -14,8 +14,8 @@ mod step;
 
 pub use changing::change;
 pub use checking::{
-    Checked, Step, check_entry, check_head, check_serial, check_settings, check_step, last_answer,
-    take_over,
+    Checked, Step, answer_after, check_entry, check_head, check_serial, check_settings, check_step,
+    last_answer, take_over,
 };
 pub use issuing::{issue, issue_failed};
 pub use listing::issue_list;
@@ -23,5 +23,5 @@ pub use opening::open;
 pub use parts::check_steps;
 pub use preparing::prepare;
 pub use state::{
-    Changed, Issued, IssuedList, Opened, State, TakenOver, settings_now, unopened, used_count,
+    IssuedList, RefusedAt, State, Stop, TakenOver, settings_now, unopened, used_count,
 };

@@ -1,36 +1,39 @@
 // Opening a register: a head with count 0, and the fresh state.
-ghost use Rattle.std.specs.Prelude.{◌≡◌, length};
+ghost use Rattle.std.specs.Prelude.{◌≡◌, length, IfOk};
+ghost use Rattle.primitives.specs.Refusals.{answer_number};
 ghost use Rattle.journal.specs.Opening.{open_number, opened, open_buffer};
+ghost use Rattle.journal.specs.State.{as_opened};
 
-use super::head::{head_length, put_head};
-use super::state::{Opened, unopened};
+use super::head::Head;
+use super::state::State;
 use super::step::fresh;
+use primitives::Refusal;
 use receipt::Settings;
 
-// Questions 1, 2, 32, 3, 4 and 5.
-fn open_number(s: Settings, shared: bool, n: usize, room: usize) -> u32
-    ensures { result ≡ open_number s shared n room }
+// The head for these settings, if questions 1, 2, 32, 3, 4 and 5 are answered yes.
+fn ask_open(settings: Settings, shared: bool, n: usize, room: usize) -> Result<Head, Refusal>
+    ensures number { answer_number result ≡ open_number settings shared n room }
+    ensures head { IfOk result (λ head. head.settings ≡ settings) }
 {
-    let number = receipt::settings_number_for(s, shared, n);
-    if number != 0 {
-        return number;
+    receipt::ask_settings_for(settings, shared, n)?;
+    let head = Head { settings };
+    if room < head.length() {
+        return Err(Refusal::HeadTooLong);
     }
-    if room < head_length(s) {
-        return 5;
-    }
-    0
+    Ok(head)
 }
 
 // Writes a head to the buffer if every question is answered yes. `shared` says that other registers have the same key; it is not stored.
-pub fn open(s: Settings, key: [u8; 32], shared: bool, n: usize, buf: &mut [u8]) -> Opened
-    ensures { (result ≡ opened s key shared n (length buf.old)) × (buf.new ≡ open_buffer s shared n buf.old) }
+pub fn open(
+    s: Settings,
+    key: [u8; 32],
+    shared: bool,
+    n: usize,
+    buf: &mut [u8],
+) -> Result<State, Refusal>
+    ensures { (as_opened result ≡ opened s key shared n (length buf.old)) × (buf.new ≡ open_buffer s shared n buf.old) }
 {
-    let number = open_number(s, shared, n, buf.len());
-    if number != 0 {
-        let state = unopened();
-        return Opened { number, state };
-    }
-    put_head(s, buf);
-    let state = fresh(s, n, key);
-    Opened { number: 0, state }
+    let head = ask_open(s, shared, n, buf.len())?;
+    head.write(buf);
+    Ok(fresh(head, n, key))
 }

@@ -1,8 +1,8 @@
 // The state of a register, its serials, and the answers of the calls that carry a state.
-ghost use Rattle.std.specs.Prelude.{◌≡◌, true, ◌<◌};
-ghost use lib.ListN.{length};
-ghost use Rattle.journal.specs.State.{no_name, unopened, same_name, used, newest, is_in, all_good, all_empty, serials_good, added, settings_now, settings_first};
+ghost use Rattle.std.specs.Prelude.{◌≡◌, ◌<◌, length};
+ghost use Rattle.journal.specs.State.{unopened, used, newest, all_good, all_empty, serials_good, added, settings_now, settings_first};
 
+use primitives::Refusal;
 use receipt::{Name, Settings};
 
 // What a register keeps between calls. Its journal is its buffer up to the length.
@@ -24,34 +24,23 @@ pub struct State {
     pub place: usize,
 }
 
-// The number is 0, or that of the first question answered no.
-#[derive(Clone, Copy)]
-pub struct Opened {
-    pub number: u32,
-    pub state: State,
-}
-
-#[derive(Clone, Copy)]
-pub struct Issued {
-    pub number: u32,
-    pub state: State,
-}
-
-// The count is the number of receipts issued, all of them before the refused one.
+// What a list of receipts comes to: why one is refused, if one is, and the number of receipts issued, all of them before it.
 #[derive(Clone, Copy)]
 pub struct IssuedList {
-    pub number: u32,
+    pub refused: Option<Refusal>,
     pub count: usize,
     pub state: State,
 }
 
-#[derive(Clone, Copy)]
-pub struct Changed {
-    pub number: u32,
-    pub state: State,
+// Why a check is refused: the question answered no, and the number of receipts before the refused place.
+#[derive(Clone, Copy, PartialEq, Eq)]
+pub struct RefusedAt {
+    pub question: Refusal,
+    pub index: u32,
 }
 
-// The index is the number of receipts before the refused place.
+// What a check comes to, told by a number: 0 and the state, or the question answered no, the number of receipts before the refused place and the
+// unopened state. Only `last_answer` gives it.
 #[derive(Clone, Copy)]
 pub struct TakenOver {
     pub number: u32,
@@ -59,31 +48,34 @@ pub struct TakenOver {
     pub state: State,
 }
 
-// The name that is all zero.
-pub(crate) fn no_name() -> Name
-    ensures { result ≡ no_name }
-{
-    Name {
-        bytes: [0u8; 32],
-        len: 0,
-    }
+// Where a run of steps stops: the question answered no, and the state before the refused step.
+#[derive(Clone, Copy)]
+pub struct Stop {
+    pub question: Refusal,
+    pub state: State,
 }
 
+// The name that is all zero.
+pub(crate) const NO_NAME: Name = Name {
+    bytes: [0; 32],
+    len: 0,
+};
+
 // The unopened state, which is all zero.
+#[tactic(auto, unfolding(crate::specs::State::unopened))]
 pub fn unopened() -> State
     ensures { result ≡ unopened }
 {
-    let none = no_name();
     State {
-        csp: [0u8; 3],
-        id: none,
-        serials: [none; 8],
+        csp: [0; 3],
+        id: NO_NAME,
+        serials: [NO_NAME; 8],
         width: 0,
-        key: [0u8; 32],
+        key: [0; 32],
         counter: 0,
         last: 0,
         issued: 0,
-        chain: [0u8; 8],
+        chain: [0; 8],
         length: 0,
         since: 0,
         place: 0,
@@ -92,113 +84,58 @@ pub fn unopened() -> State
 
 // ---- serials
 
-// How many are used: those before the first empty one.
+// Those used, before the first empty one.
+pub(crate) fn used(slots: &[Name; 8]) -> &[Name]
+    ensures { result.now ≡ used slots.now }
+{
+    let k = slots.iter().position(|n| n.len == 0).unwrap_or(8);
+    &slots[..k]
+}
+
+// How many are used.
 pub fn used_count(slots: [Name; 8]) -> usize
     ensures { result ≡ length (used slots) }
 {
-    let mut i: usize = 0;
-    while i < 8 {
-        let n = slots[i];
-        if n.len == 0 {
-            return i;
-        }
-        i += 1;
-    }
-    8
+    used(&slots).len()
 }
 
 // The newest; the empty name if none is used.
-fn newest(slots: [Name; 8]) -> Name
-    ensures { result ≡ newest slots }
+fn newest(slots: &[Name; 8]) -> Name
+    ensures { result ≡ newest slots.now }
 {
-    let k = used_count(slots);
-    if k == 0 {
-        return no_name();
-    }
-    slots[k - 1]
+    used(slots).last().copied().unwrap_or(NO_NAME)
 }
 
-fn same_name(a: Name, b: Name) -> bool
-    ensures { result ≡ same_name a b }
+fn all_good(names: &[Name]) -> bool
+    ensures { result ≡ all_good names.now }
 {
-    if a.len != b.len {
-        return false;
-    }
-    let x = a.bytes;
-    let y = b.bytes;
-    receipt::same(&x, &y)
+    names.iter().all(|n| receipt::serial_good(*n))
 }
 
-// Question 30 is answered no: the serial is one of those used.
-pub(crate) fn is_used(serial: Name, slots: [Name; 8]) -> bool
-    ensures { result ≡ is_in serial (used slots) }
+fn all_empty(names: &[Name]) -> bool
+    ensures { result ≡ all_empty names.now }
 {
-    let k = used_count(slots);
-    let mut i: usize = 0;
-    while i < k {
-        let n = slots[i];
-        if same_name(serial, n) {
-            return true;
-        }
-        i += 1;
-    }
-    false
-}
-
-// Every serial before the place k is good.
-fn good_before(slots: [Name; 8], k: usize) -> bool
-    requires { k ≡ length (used slots) }
-    ensures { result ≡ all_good (used slots) }
-{
-    let mut i: usize = 0;
-    while i < k {
-        let n = slots[i];
-        if !receipt::serial_good(n) {
-            return false;
-        }
-        i += 1;
-    }
-    true
-}
-
-// Every name from the place k on is all zero.
-fn empty_from(slots: [Name; 8], k: usize) -> bool
-    ensures { result ≡ all_empty (lib.ListN.drop k slots) }
-{
-    let none = no_name();
-    let mut i: usize = k;
-    while i < 8 {
-        let n = slots[i];
-        if !same_name(n, none) {
-            return false;
-        }
-        i += 1;
-    }
-    true
+    names.iter().all(|n| *n == NO_NAME)
 }
 
 // One to eight good serials, and zeros after them.
-pub(crate) fn serials_good(slots: [Name; 8]) -> bool
-    ensures { result ≡ serials_good slots }
+#[tactic(auto, unfolding(crate::specs::State::serials_good))]
+pub(crate) fn serials_good(slots: &[Name; 8]) -> bool
+    ensures { result ≡ serials_good slots.now }
 {
-    let k = used_count(slots);
-    if k == 0 {
-        return false;
-    }
-    if !good_before(slots, k) {
-        return false;
-    }
-    empty_from(slots, k)
+    let some = used(slots);
+    !some.is_empty() && all_good(some) && all_empty(&slots[some.len()..])
 }
 
 // The serials with one more, the newest.
-pub(crate) fn added(slots: [Name; 8], serial: Name) -> [Name; 8]
-    requires { (serials_good slots ≡ true) × (length (used slots) < 8) }
-    ensures { result ≡ added slots serial }
+pub(crate) fn added(slots: &[Name; 8], serial: Name) -> [Name; 8]
+    requires { length (used slots.now) < 8 }
+    ensures { result ≡ added slots.now serial }
 {
-    let k = used_count(slots);
-    let mut more = slots;
-    more[k] = serial;
+    let before = used(slots);
+    let mut more = [NO_NAME; 8];
+    more[..before.len()].copy_from_slice(before);
+    more[before.len()] = serial;
     more
 }
 
@@ -208,20 +145,20 @@ pub(crate) fn added(slots: [Name; 8], serial: Name) -> [Name; 8]
 pub fn settings_now(st: State) -> Settings
     ensures { result ≡ settings_now st }
 {
-    let csp = st.csp;
-    let id = st.id;
-    let slots = st.serials;
-    let serial = newest(slots);
-    Settings { csp, id, serial }
+    Settings {
+        csp: st.csp,
+        id: st.id,
+        serial: newest(&st.serials),
+    }
 }
 
 // The settings of the head: those of Open, with the first serial.
 pub(crate) fn settings_first(st: State) -> Settings
     ensures { result ≡ settings_first st }
 {
-    let csp = st.csp;
-    let id = st.id;
-    let slots = st.serials;
-    let serial = slots[0];
-    Settings { csp, id, serial }
+    Settings {
+        csp: st.csp,
+        id: st.id,
+        serial: st.serials[0],
+    }
 }

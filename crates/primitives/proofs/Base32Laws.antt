@@ -1,13 +1,13 @@
 -- BASE32, what a caller may rely on: it is a good base, so that reading what was written gives it back and an accepted text is the
 -- encoding of its bytes; the length of a text, and which bytes it consists of.
 use Rattle.std.proofs.Common.{◌≡◌, ℕ, ◌+◌, ◌-◌, ◌*◌, ◌/◌, ◌%◌, ◌<◌, ◌≤◌, Bool, not, ◌&&◌, ◌||◌, T, eqb, ltb, List, length, get_or, replicate, refl, ap, ◌∙◌, arith, eqb→eq, ltb→lt, lt-ltb}
-use mathlib.Core.Option.{some}
+use Rattle.std.proofs.Math.Option.{some}
 use Rattle.primitives.specs.Bytes.{AllBytes}
 use Rattle.primitives.specs.BaseRule.{GoodBase, letters_for, fill_for}
-use Rattle.primitives.specs.Base32.{letter32, digit32, base32, encoding32, decoding32, encoded_length32}
+use Rattle.primitives.specs.Base32.{LetterTable32, DigitTable32, letter32, digit32, base32, encoding32, decoding32, encoded_length32}
 use Rattle.primitives.proofs.ByteLists.{each_bytes}
 use Rattle.primitives.proofs.Each.{each_at}
-use Rattle.primitives.proofs.Table.{every, at}
+use Rattle.primitives.proofs.Table.{every, at, by_rule}
 use Rattle.primitives.proofs.Base64Letters.{both_0, both_1, implied}
 use Rattle.primitives.proofs.BaseTexts.{each_of_text, length_text, read_back, read_bytes, text_only}
 
@@ -98,3 +98,11 @@ decoded_bytes32 = read_bytes base32 base32_good
 pub encode_decode32 : (text xs : List ℕ) → AllBytes text → decoding32 text ≡ some xs → text ≡ encoding32 xs
 unfolding encoding32 decoding32
 encode_decode32 text xs p e = text_only base32 base32_good text xs e p
+
+-- ---- the tables
+
+pub letter_table32 : (xs : List ℕ) → length xs ≡ 32 → T (every (λ k x. eqb x (letter32 k)) 0 xs) → LetterTable32 xs
+letter_table32 xs l t = record { at = λ k h. by_rule letter32 xs t k (omega (arith, l)) }
+
+pub digit_table32 : (xs : List ℕ) → length xs ≡ 256 → T (every (λ c x. eqb x (digit32 c)) 0 xs) → DigitTable32 xs
+digit_table32 xs l t = record { at = λ c h. by_rule digit32 xs t c (omega (arith, l)) }

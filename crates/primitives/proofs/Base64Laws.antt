@@ -1,10 +1,10 @@
 -- BASE64, what a caller may rely on: reading what was written gives it back, an accepted text is the encoding of its bytes,
 -- and which bytes a text consists of.
+use Rattle.std.proofs.lemmas.Bool.{eqb-false}
 use Rattle.std.proofs.Common.{◌≡◌, ℕ, zero, suc, ◌+◌, ◌-◌, ◌*◌, ◌/◌, ◌%◌, ◌<◌, ◌≤◌, Bool, true, false, cond, ◌&&◌, eqb, ltb, List, [], ◌∷◌, ◌++◌, length, get_or, take, drop, replicate, sym, refl, ap, ◌∙◌, subst, append_assoc, append-nil, arith, length-append, take-append-drop, drop_of_length-le, length-take-le, take_at, ltb-true, lt-ltb, eq-eqb, eqb-true}
-use mathlib.Core.Option.{none, some}
-use borrow.Author.Tests.{eqb-false}
-use lib.ListN.{get_or-append}
-use lib.Seq.{drop-length, get_or-append_seam}
+use Rattle.std.proofs.Math.Option.{none, some}
+use Rattle.std.proofs.Math.ListN.{get_or-append}
+use Rattle.std.proofs.Math.Seq.{drop-length, get_or-append_seam}
 use Rattle.primitives.specs.Bytes.{AllBytes}
 use Rattle.primitives.specs.declared.base64.Alphabet.{Alphabet}
 use Rattle.primitives.specs.declared.base64.Alphabet.TheVariants.{Standard, UrlSafe}

@@ -1,6 +1,6 @@
 -- BASE64: the lengths of a text and of the bytes it encodes.
 use Rattle.std.proofs.Common.{◌≡◌, ℕ, zero, suc, ◌+◌, ◌-◌, ◌*◌, ◌/◌, ◌%◌, List, [], ◌∷◌, length, refl, ◌∙◌, arith, length-append}
-use lib.ListN.{length-replicate}
+use Rattle.std.proofs.Math.ListN.{length-replicate}
 use Rattle.primitives.specs.declared.base64.Alphabet.{Alphabet}
 use Rattle.primitives.specs.declared.base64.Alphabet.TheVariants.{Standard, UrlSafe}
 use Rattle.primitives.specs.Base64.{quad, triple, letters, pad, padding_count, padding, encoding, encoded_length, bytes}

@@ -1,5 +1,5 @@
 -- BASE64: letters and numbers determine each other, and so do a group of 24 bits, its bytes and its numbers.
-use Rattle.std.proofs.Common.{◌≡◌, ℕ, ◌+◌, ◌*◌, ◌/◌, ◌%◌, ◌<◌, ◌≤◌, Bool, true, false, not, ◌&&◌, ◌||◌, T, eqb, ltb, leb, List, length, get_or, replicate, sym, refl, ap, subst, arith, eqb→eq, ltb→lt, leb→le}
+use Rattle.std.proofs.Common.{◌≡◌, ℕ, ◌+◌, ◌*◌, ◌/◌, ◌%◌, ◌<◌, ◌≤◌, Bool, true, false, not, ◌&&◌, ◌||◌, T, eqb, ltb, leb, List, length, replicate, sym, refl, ap, subst, arith, eqb→eq, ltb→lt, leb→le}
 use Rattle.primitives.specs.declared.base64.Alphabet.{Alphabet}
 use Rattle.primitives.specs.declared.base64.Alphabet.TheVariants.{Standard, UrlSafe}
 use Rattle.primitives.specs.Base64.{pad, letter, digit, from_bytes, from_digits, LetterTable, DigitTable}
@@ -66,12 +66,6 @@ module _ (a : Alphabet) where
   pub foreign : (c : ℕ) → digit a c ≡ 64 → (k : ℕ) → k < 64 → letter a k ≡ c → ⊥
   foreign c f k h e = omega (arith, digit_letter k h, ap (digit a) e, f)
 
--- 'A' is 0; '=' and '.' are foreign
-pub digit_zero : (a : Alphabet) → digit a 65 ≡ 0
-unfolding digit
-digit_zero Standard = refl
-digit_zero UrlSafe = refl
-
 pub pad_foreign : (a : Alphabet) → digit a pad ≡ 64
 unfolding digit
 pad_foreign Standard = refl
@@ -92,13 +86,6 @@ module _ (a b : Alphabet) (xs : List ℕ) (told : a ≡ b) where
   pub digit_table : length xs ≡ 256 → T (every (λ c x. eqb x (digit b c)) 0 xs) → DigitTable a xs
   digit_table l t =
       subst (λ (u : Alphabet). DigitTable u xs) (sym told) (record { at = λ c h. by_rule (digit b) xs t c (omega (arith, l)) })
-
--- reading the tables
-pub read_letter : {a : Alphabet} {table : List ℕ} → LetterTable a table → (k : ℕ) → get_or table (k % 64) 0 ≡ letter a (k % 64)
-read_letter t k = t.at (k % 64) (omega arith)
-
-pub read_small : {a : Alphabet} {table : List ℕ} → DigitTable a table → (c : ℕ) → c < 256 → get_or table c 0 ≤ 64
-read_small {a} t c h = omega (arith, t.at c h, digit_small a c h)
 
 -- ---- groups of 24 bits
 

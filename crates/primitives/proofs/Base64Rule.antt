@@ -1,6 +1,6 @@
 -- BASE64 follows the rule of RFC 4648 over letters of six bits (specs/BaseRule.antt): it writes the same texts and reads the same bytes.
 use Rattle.std.proofs.Common.{◌≡◌, ℕ, zero, suc, ◌+◌, ◌-◌, ◌*◌, ◌/◌, ◌%◌, ◌<◌, List, [], ◌∷◌, ◌++◌, map, length, take, replicate, sym, refl, ap, ◌∙◌, arith, lt-ltb}
-use mathlib.Core.Option.{Option, none, some}
+use Rattle.std.proofs.Math.Option.{Option, none, some}
 use Rattle.primitives.specs.Bytes.{AllBytes}
 use Rattle.primitives.specs.Number.{digits_of, number_after, value_after, value_of}
 use Rattle.primitives.specs.BaseRule.{GoodBase, fill, letters_for, spare_bits, letters_of, fill_for, text_of, read_text}

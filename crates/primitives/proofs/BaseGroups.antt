@@ -1,8 +1,8 @@
 -- The rule of RFC 4648, over every good base: bytes that fill whole letters are written, and letters that fill whole bytes are read, before
 -- the rest.
 use Rattle.std.proofs.Common.{◌≡◌, ℕ, ◌+◌, ◌-◌, ◌*◌, ◌/◌, ◌%◌, ◌^◌, ◌<◌, List, ◌++◌, map, length, sym, ap, ◌∙◌, subst, mul_assoc, div-lt_iff_lt-mul, add-mul, arith, lit<, length-append, pow_pos, pow-add}
-use native.Mathlib.Nat.{add-mul-div_right}
-use lib.ListN.{length-map}
+use Rattle.std.proofs.Math.Nat.{add-mul-div_right}
+use Rattle.std.proofs.Math.ListN.{length-map}
 use Rattle.primitives.specs.Bytes.{AllBytes}
 use Rattle.primitives.specs.Number.{digits_of, number_of, bytes_of, value_of}
 use Rattle.primitives.specs.BaseRule.{Base, GoodBase, letters_for, spare_bits, letters_of, number_in, bytes_for, bits_after, bytes_in}

@@ -1,10 +1,10 @@
 -- The rule of RFC 4648, over every good base: a text is read back to the bytes that it was written from, and has no other spelling.
 use Rattle.std.proofs.Common.{◌≡◌, ℕ, zero, suc, ◌+◌, ◌-◌, ◌*◌, ◌/◌, ◌%◌, ◌^◌, ◌<◌, ◌≤◌, Bool, true, false, cond, ◌&&◌, eqb, ltb, ◌⊎◌, List, [], ◌∷◌, ◌++◌, map, length, get_or, take, drop, replicate, sym, refl, ap, ◌∙◌, subst, inl, inr, le_of_suc-le-suc, add-zero, add-suc, mod-lt, suc-mul, eq-or-lt_of_le, pow-suc, div-add-mod', arith, length-append, length-drop, take-append-drop, length-take-le, get_or-drop, take_at, get_or-append-add, ext_get_or, pow_pos, pow-add, shl_lt, shr_lt, ltb-true, lt-ltb, eq-eqb, ne_eqb, eqb-true}
-use mathlib.Core.Option.{none, some}
-use native.Mathlib.Nat.{pow-zero}
-use lib.Arith.{digits_div}
-use lib.Pow.{shl-shr, split, low}
-use lib.ListN.{length-replicate, length-map, get_or-replicate, get_or-append}
+use Rattle.std.proofs.Math.Option.{none, some}
+use Rattle.std.proofs.Math.Nat.{pow-zero}
+use Rattle.std.proofs.Math.Arith.{digits_div}
+use Rattle.std.proofs.Math.Pow.{shl-shr, split, low}
+use Rattle.std.proofs.Math.ListN.{length-replicate, length-map, get_or-replicate, get_or-append}
 use Rattle.primitives.specs.Bytes.{AllBytes}
 use Rattle.primitives.specs.Number.{digits_of, number_of, value_of}
 use Rattle.primitives.specs.BaseRule.{Base, GoodBase, fill, letters_for, spare_bits, letters_of, fill_for, text_of, number_in, bytes_for, bits_after, bytes_in, letters_known, well_ended, before_fill, letters_in, is_text, read_text}

@@ -1,5 +1,6 @@
 -- Laws of lists of bytes.
 use Rattle.std.proofs.Common.{◌≡◌, ℕ, zero, suc, ◌+◌, ◌<◌, Bool, true, false, ◌&&◌, eqb, List, [], ◌∷◌, ◌++◌, length, get_or, take, drop, replicate, sym, refl, ap, subst, arith, get_or-drop, eq-eqb, eqb-true}
+use Rattle.std.specs.Cmp.Lexicographic.{pointwise}
 use Rattle.primitives.specs.Bytes.{AllBytes, same}
 use Rattle.primitives.proofs.Each.{Each, none_left, one_more}
 
@@ -90,3 +91,11 @@ same_length (x ∷ xs) (y ∷ ys) n = go (same_length xs ys (λ e. n (ap suc e))
     go : same xs ys ≡ false → (t : Bool) → t && same xs ys ≡ false
     go e true = e
     go e false = refl
+
+-- the library's comparison of slices is `same`
+pub pointwise_is : (xs ys : List ℕ) → pointwise eqb xs ys ≡ same xs ys
+unfolding same
+pointwise_is [] [] = refl
+pointwise_is [] (y ∷ ys) = refl
+pointwise_is (x ∷ xs) [] = refl
+pointwise_is (x ∷ xs) (y ∷ ys) = ap (λ (t : Bool). eqb x y && t) (pointwise_is xs ys)

@@ -1,6 +1,6 @@
 -- Laws of the cipher for its callers: its result is 16 bytes.
-use Rattle.std.proofs.Common.{◌≡◌, ℕ, zero, suc, ◌+◌, ◌-◌, ◌*◌, ◌/◌, ◌%◌, ◌<◌, Bool, true, false, cond, eqb, ltb, List, [], ◌∷◌, ◌++◌, length, get_or, refl, ap, ◌∙◌, arith}
-use lib.Bits.{bit_xor, xor_lt}
+use Rattle.std.proofs.lemmas.Nat.{xor_lt}
+use Rattle.std.proofs.Common.{◌≡◌, ℕ, zero, suc, ◌+◌, ◌-◌, ◌*◌, ◌/◌, ◌%◌, ◌<◌, Bool, true, false, cond, eqb, ltb, List, [], ◌∷◌, ◌++◌, length, get_or, refl, ap, ◌∙◌, arith, bit_xor}
 use Rattle.primitives.specs.Bytes.{AllBytes}
 use Rattle.primitives.specs.Field.{xtime, inverse}
 use Rattle.primitives.specs.Aes.{column, grid, cell, store, byte_of, affine_bit, affine, sub, sub_column, sub_bytes, shift_rows, add_column, add_round_key, rot_word, power, rcon, turned, next_word, key_word, word_after, words, key_schedule, round_key, last_round, rounds_of, load, cipher, aes256}

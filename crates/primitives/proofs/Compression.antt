@@ -2,7 +2,7 @@
 -- that agree.
 use Rattle.std.proofs.Common.{◌≡◌, ℕ, zero, suc, ◌+◌, ◌-◌, ◌*◌, ◌<◌, ◌≤◌, List, [], ◌∷◌, ◌++◌, length, get_or, take, set, sym, refl, ap, ◌∙◌, ap₂, le_refl, add-zero, add_assoc, add-suc, zero-add, add-one, arith, get_or-take, take-suc-set}
 use Rattle.primitives.specs.declared.hash.HashValue.{HashValue}
-use Rattle.primitives.specs.Sha256.{◌⊞◌, Ch, Maj, Σ₀, Σ₁, σ₀, σ₁, word_at, words, next_word, schedule, round, K, rounds, sums, compress, blocks}
+use Rattle.primitives.specs.Sha256.{word_at, words, next_word, schedule, round, K, rounds, sums, compress, blocks}
 
 -- one more element stored after the first i
 put_next : (w : List ℕ) (i : ℕ) (p : List ℕ) (x y : ℕ) → i < length w → take i w ≡ p → x ≡ y → take (i + 1) (set w i x) ≡ p ++ y ∷ []
@@ -26,11 +26,6 @@ next_take W t h =
       get_or-take t W (t - 16) 0 (omega arith),
     )
 
--- the word by the calls that make it
-pub next_of : (W : List ℕ) (t p x q y r : ℕ) → p ≡ σ₁ (get_or W (t - 2) 0) → x ≡ p ⊞ get_or W (t - 7) 0 → q ≡ σ₀ (get_or W (t - 15) 0) → y ≡ x ⊞ q → r ≡ y ⊞ get_or W (t - 16) 0 → r ≡ next_word W t
-unfolding next_word
-next_of W t p x q y r e₁ e₂ e₃ e₄ e₅ = cc
-
 pub schedule_next : (M w : List ℕ) (t x : ℕ) → 16 ≤ t → t < length w → take t w ≡ schedule M (t - 16) → x ≡ next_word w t → take (t + 1) (set w t x) ≡ schedule M (t + 1 - 16)
 unfolding schedule
 schedule_next M w t x low h e f =
@@ -42,13 +37,6 @@ schedule_next M w t x low h e f =
     ∙ ap (schedule M) s
 
 -- ---- rounds
-
--- a round by the calls that make it
-pub round_of : (v : HashValue) (k w s₁ x f y z t₁ s₀ j t₂ a e : ℕ) → s₁ ≡ Σ₁ v.e → x ≡ v.h ⊞ s₁ → f ≡ Ch v.e v.f v.g → y ≡ x ⊞ f → z ≡ y ⊞ k → t₁ ≡ z ⊞ w
-    → s₀ ≡ Σ₀ v.a → j ≡ Maj v.a v.b v.c → t₂ ≡ s₀ ⊞ j → a ≡ t₁ ⊞ t₂ → e ≡ v.d ⊞ t₁
-    → ◌≡◌ {A = HashValue} (record { a = a; b = v.a; c = v.b; d = v.c; e = e; f = v.e; g = v.f; h = v.g }) (round v k w)
-unfolding round
-round_of v k w s₁ x f y z t₁ s₀ j t₂ a e h₁ h₂ h₃ h₄ h₅ h₆ h₇ h₈ h₉ h₁₀ h₁₁ = cc
 
 rounds_add : (v : HashValue) (W : List ℕ) (t n k : ℕ) → rounds (rounds v W t n) W (t + n) k ≡ rounds v W t (n + k)
 unfolding rounds

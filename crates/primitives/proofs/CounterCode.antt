@@ -1,16 +1,16 @@
 -- What the counter's code computes is what its definitions say: laws for the code's own steps.
-use Rattle.std.proofs.Common.{◌≡◌, ℕ, zero, suc, ◌+◌, ◌-◌, ◌^◌, ◌<◌, ◌≤◌, true, ltb, List, ◌++◌, length, drop, replicate, ℤ, pos, negsuc, sym, ap, ◌∙◌, arith, w64, SFits, to_z, of_z}
-use native.Mathlib.Nat.{sub-zero, zero-sub, suc-sub-suc}
+use Rattle.std.proofs.Common.{◌≡◌, ℕ, zero, suc, ◌+◌, ◌-◌, ◌^◌, ◌<◌, ◌≤◌, Bool, true, false, refl, ltb, List, ◌++◌, length, drop, replicate, ℤ, pos, negsuc, sym, ap, ◌∙◌, arith, w64, SFits, to_z, of_z}
+use Rattle.std.proofs.Math.Nat.{sub-zero, zero-sub, suc-sub-suc}
 use lib.Signed.{mag}
-use mir.Facts.{to_z_pos}
+use Rattle.std.proofs.Math.Facts.{to_z_pos}
 use Rattle.primitives.specs.Place.{overwrite, placed}
 use Rattle.primitives.specs.Number.{bytes_of, number_at}
-use Rattle.primitives.specs.Counter.{width_good, half, counter_fits, of_twos, counter_bytes}
-use Rattle.primitives.specs.declared.buffer.Number.TheVariants.{Missing}
+use Rattle.primitives.specs.Counter.{width_good, half, counter_fits, of_twos, counter_bytes, counter_value}
+use Rattle.std.specs.Prelude.{None}
 use Rattle.primitives.proofs.Over.{placed_room}
 use Rattle.primitives.proofs.Numbers.{length_bytes_of, number_there}
 use Rattle.primitives.proofs.Zlaws.{not_is}
-use Rattle.primitives.proofs.Twos.{width_true, half_twice, half_small, fits_mag, of_lower, of_upper, twos_bits, counted, fits_wide, counter_bytes_is}
+use Rattle.primitives.proofs.Twos.{width_true, half_twice, half_small, fits_mag, of_lower, of_upper, twos_bits, counted, fits_wide, counter_bytes_is, value_no_width}
 
 -- the test of the magnitude against the half
 pub fits_test : (n : ℕ) (z : ℤ) {m h : ℕ} → width_good n ≡ true → m ≡ mag z → h ≡ half n → ltb m h ≡ counter_fits n z
@@ -65,9 +65,17 @@ module _ (n v : ℕ) {h : ℕ} (e : h ≡ half n) (w : n ≤ 8) where
         not_is (pos (h - 1 - (v - h))) upper_fits ∙ ap negsuc m ∙ sym (of_upper n v (omega arith) l)
 
 -- under a valid width no byte is missing
-pub never_missing : {X : Type 0} (n : ℕ) (b : List ℕ) → width_good n ≡ true → length b ≡ 8 → number_at b 0 n ≡ Missing → X
+pub never_missing : {X : Type 0} (n : ℕ) (b : List ℕ) → width_good n ≡ true → length b ≡ 8 → number_at b 0 n ≡ None → X
 never_missing n b e l q =
     let w = width_true n e in
     let t = number_there b 0 n w.most (omega (arith, w.most)) in
     let z : ◌≡◌ {A = ℕ} 0 1 = cc in
     absurd (omega arith)
+
+-- without a number the width is not valid
+pub value_none : (n : ℕ) (b : List ℕ) → length b ≡ 8 → number_at b 0 n ≡ None → pos 0 ≡ counter_value n b
+value_none n b l q = go (width_good n) refl
+  where
+    go : (t : Bool) → width_good n ≡ t → pos 0 ≡ counter_value n b
+    go true e = never_missing n b e l q
+    go false e = sym (value_no_width n b e)

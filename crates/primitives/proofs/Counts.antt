@@ -1,9 +1,9 @@
 -- Counts at a place in a list of bytes.
 use Rattle.std.proofs.Common.{◌≡◌, ℕ, ◌+◌, ◌^◌, ◌<◌, ◌≤◌, List, ◌++◌, length, take, drop, sym, refl, ap, ◌∙◌, subst, arith, lit<, length-drop, take-append-drop, length-take-le, drop-drop, take_at, drop_at}
-use native.Mathlib.Nat.{pow-le-pow_right}
+use Rattle.std.proofs.Math.Nat.{pow-le-pow_right}
 use Rattle.primitives.specs.Bytes.{AllBytes}
 use Rattle.primitives.specs.Number.{bytes_of, value_of, count_at, number_at}
-use Rattle.primitives.specs.declared.buffer.Number.TheVariants.{Is, Missing}
+use Rattle.std.specs.Prelude.{Some, None}
 use Rattle.primitives.proofs.ByteLists.{bytes_take, bytes_drop}
 use Rattle.primitives.proofs.Numbers.{length_bytes_of, value_bytes_of, bytes_of_value, value_lt, number_found, number_there, found_lt}
 
@@ -39,13 +39,13 @@ module _ (j : List ℕ) (b : AllBytes j) (at n : ℕ) (room : at + n ≤ length 
 -- ---- a count
 
 module _ (j : List ℕ) (at n : ℕ) (few : n ≤ 4) where
-  pub count_found : {v : ℕ} → AllBytes j → number_at j at n ≡ Is v → (v ≡ count_at j at n) × (v < 4294967296)
+  pub count_found : {v : ℕ} → AllBytes j → number_at j at n ≡ Some v → (v ≡ count_at j at n) × (v < 4294967296)
   unfolding count_at
   count_found b e =
       let f = number_found j at n e in
       (f.is, omega (arith, found_lt b f, pow-le-pow_right {n = 256} (lit< tt) few))
 
-  pub count-missing {ℓ} : {X : Type ℓ} → at + n ≤ length j → number_at j at n ≡ Missing → X
+  pub count-missing {ℓ} : {X : Type ℓ} → at + n ≤ length j → number_at j at n ≡ None → X
   count-missing h e =
       let q = number_there j at n (omega arith) h in
       let z : ◌≡◌ {A = ℕ} 0 1 = cc in

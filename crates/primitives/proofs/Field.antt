@@ -1,6 +1,5 @@
 -- Laws of the field: b times its inverse is 1, doubling is the product by 2, each by one test that is computed at every byte. The last law makes a table of such a test.
-use Rattle.std.proofs.Common.{◌≡◌, ℕ, ◌-◌, ◌*◌, ◌%◌, ◌<◌, ◌≤◌, Bool, true, false, cond, ◌||◌, T, eqb, List, length, replicate, ap, ◌∙◌, arith, eqb→eq, le-ltb, lt-ltb}
-use lib.Bits.{bit_xor}
+use Rattle.std.proofs.Common.{◌≡◌, ℕ, ◌-◌, ◌*◌, ◌%◌, ◌<◌, ◌≤◌, Bool, true, false, cond, ◌||◌, T, eqb, List, length, replicate, ap, ◌∙◌, arith, eqb→eq, le-ltb, lt-ltb, bit_xor}
 use Rattle.primitives.specs.Field.{xtime, times, inverse}
 use Rattle.primitives.specs.Aes.{TableOf}
 use Rattle.primitives.proofs.Table.{at, every, by_rule}

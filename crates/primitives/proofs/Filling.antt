@@ -1,62 +1,14 @@
--- Loops that fill a part of a buffer: a copy from the front, a number's bytes from the end. Also the two answers of a writer.
-use Rattle.std.proofs.Common.{◌≡◌, ℕ, zero, suc, ◌+◌, ◌-◌, ◌<◌, ◌≤◌, Bool, true, false, leb, List, [], ◌∷◌, ◌++◌, length, get_or, take, set, sym, refl, ap, ◌∙◌, append_assoc, append-nil, add-zero, add-one, arith, length-take-le, take_all, take-suc, le-leb, leb-false, leb-true}
-use borrow.Author.Tests.{lt-leb}
+-- A loop that writes a number's digits from the end, and the answer of a writer that has no room.
+use Rattle.std.proofs.Common.{◌≡◌, ℕ, zero, suc, ◌+◌, ◌-◌, ◌<◌, ◌≤◌, List, [], ◌∷◌, ◌++◌, length, set, sym, ap, ◌∙◌, append_assoc, append-nil, add-zero, arith}
 use Rattle.primitives.specs.Place.{overwrite, placed, place_after}
-use Rattle.primitives.proofs.Over.{over_nil, over_snoc, over_cons, length_over, placed_room, placed_full, after_room, after_full}
+use Rattle.primitives.proofs.Over.{over_nil, over_cons, placed_full, after_full}
 
--- ---- the question whether there is room, and the answers
-
--- room for n bytes from a place on, computed without a sum
-pub reach_test : (len at n : ℕ) → at ≤ len → leb n (len - at) ≡ leb (at + n) len
-reach_test len at n h = go (leb n (len - at)) refl
-  where
-    go : (t : Bool) → leb n (len - at) ≡ t → t ≡ leb (at + n) len
-    go true e = sym (le-leb (at + n) len (omega (arith, leb-true n (len - at) e)))
-    go false e = sym (lt-leb (at + n) len (omega (arith, leb-false n (len - at) e)))
-
--- all of a text was written, or nothing
+-- there is no room for a text, so nothing was written
 module _ (out : List ℕ) (at : ℕ) (ys : List ℕ) where
-  pub wrote : {out' : List ℕ} {n : ℕ} → out' ≡ overwrite out at ys → length ys ≡ n → at + n ≤ length out → (at + n ≡ place_after out at ys) × (out' ≡ placed out at ys)
-  wrote {n = n} e l h =
-      let k : at + length ys ≤ length out = omega arith in
-      let m : at + n ≡ at + length ys = omega arith in
-      (m ∙ sym (after_room out at ys k), e ∙ sym (placed_room out at ys k))
-
   pub wrote_nothing : {n : ℕ} → length ys ≡ n → length out < at + n → (at ≡ place_after out at ys) × (out ≡ placed out at ys)
   wrote_nothing l h =
       let k : length out < at + length ys = omega arith in
       (sym (after_full out at ys k), sym (placed_full out at ys k))
-
--- ---- a copy: i bytes of s are written
-
-pub record Copying (out₀ : List ℕ) (at : ℕ) (s out : List ℕ) (i : ℕ) : Type 0 where
-  pub inside : i ≤ length s
-  pub room : at + length s ≤ length out₀
-  pub is : out ≡ overwrite out₀ at (take i s)
-
-pub copy_start : (out₀ : List ℕ) (at : ℕ) (s : List ℕ) → at + length s ≤ length out₀ → Copying out₀ at s out₀ 0
-copy_start out₀ at s h = record { inside = omega arith; room = h; is = sym (over_nil out₀ at) }
-
-module _ {out₀ s out : List ℕ} {at i : ℕ} (p : Copying out₀ at s out i) where
-  taken : length (take i s) ≡ i
-  taken = length-take-le i s p.inside
-
-  pub copy_long : length out ≡ length out₀
-  copy_long = ap length p.is ∙ length_over out₀ at (take i s) (omega (arith, taken, p.inside, p.room))
-
-  pub copy_one : i < length s → Copying out₀ at s (set out (at + i) (get_or s i 0)) (i + 1)
-  copy_one h =
-      record {
-        inside = omega arith;
-        room = p.room;
-        is =
-            (λ j. set (p.is j) (at + sym taken j) (get_or s i 0))
-            ∙ over_snoc out₀ at (take i s) (get_or s i 0) (omega (arith, taken, p.room))
-            ∙ ap (overwrite out₀ at) (sym (take-suc s i 0 h) ∙ ap (λ (k : ℕ). take k s) (sym (add-one i)));
-      }
-
-  pub copy_all : length s ≤ i → out ≡ overwrite out₀ at s
-  copy_all h = p.is ∙ ap (overwrite out₀ at) (take_all i s h)
 
 -- ---- the digits of a number from the end: i of them are left to write, those of the number v
 
@@ -82,9 +34,6 @@ one_less text (suc i) v rest digit done r h =
     ∙ ap (λ (l : List ℕ). l ++ done) (sym (r i))
 
 module _ {text : ℕ → ℕ → List ℕ} {out₀ out : List ℕ} {at n x v i : ℕ} (p : Putting text out₀ at n x out v i) where
-  pub put_long : length out ≡ length out₀
-  put_long = ap length p.is ∙ length_over out₀ (at + i) p.done (omega (arith, p.long, p.room))
-
   -- the lowest digit of v, and the number without it
   pub put_one : (rest digit : ℕ) → ((n : ℕ) → text (suc n) v ≡ text n rest ++ (digit ∷ [])) → 0 < i → Putting text out₀ at n x (set out (at + (i - 1)) digit) rest (i - 1)
   put_one rest digit r h =

@@ -1,6 +1,6 @@
 -- The statements of specs/Laws.antt, each by the laws of the other files.
 use Rattle.std.proofs.Common.{◌≡◌, ℕ, ◌+◌, ◌≤◌, Bool, true, false, cond, leb, List, length, get_or, take, drop, sym, refl, ap, ◌∙◌, arith, leb-true}
-use mathlib.Core.Option.{some}
+use Rattle.std.proofs.Math.Option.{some}
 use Rattle.primitives.specs.Place.{overwrite, room, placed}
 use Rattle.primitives.specs.BaseRule.{read_text}
 use Rattle.primitives.specs.Base64.{decoding}

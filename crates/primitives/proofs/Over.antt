@@ -1,8 +1,8 @@
 -- Laws of writing at a place: `overwrite`, and the writers' answers `placed` and `place_after`.
+use Rattle.std.proofs.lemmas.Bool.{lt-leb}
 use Rattle.std.proofs.Common.{◌≡◌, ℕ, suc, ◌+◌, ◌<◌, ◌≤◌, Bool, true, false, cond, leb, List, [], ◌∷◌, ◌++◌, length, get_or, take, drop, set, sym, refl, ap, ◌∙◌, append_assoc, add-zero, add-one, arith, length-append, length-drop, take-append-drop, length-take-le, drop-cons, take-suc, drop-drop, take_at, drop_at, le-leb, leb-true}
-use native.Mathlib.Numerals.{add-two, add-three}
-use borrow.Author.Tests.{lt-leb}
-use lib.Seq.{set_at, sets, sets-eq}
+use Rattle.std.proofs.Math.Numerals.{add-two, add-three}
+use Rattle.std.proofs.Math.Seq.{set_at, sets, sets-eq}
 use Rattle.primitives.specs.Place.{overwrite, room, placed, place_after}
 
 pub over_nil : (xs : List ℕ) (at : ℕ) → overwrite xs at [] ≡ xs

@@ -1,7 +1,7 @@
 -- Laws of the padding of SHA-256: the last blocks of the padded message, and the digest by them.
-use Rattle.std.proofs.Common.{◌≡◌, ℕ, suc, ◌+◌, ◌-◌, ◌*◌, ◌/◌, ◌%◌, ◌^◌, ◌<◌, ◌≤◌, List, [], ◌∷◌, ◌++◌, length, get_or, take, drop, set, replicate, sym, ap, ◌∙◌, append_assoc, zero-add, add-one, arith, length-append, length-drop, length-take-le, get_or-drop, get_or-take, take-suc, take_at}
-use lib.ListN.{length-replicate, replicate-append-replicate, get_or-append}
-use lib.Seq.{set_at, append_snoc, drop-append-le}
+use Rattle.std.proofs.lemmas.List.{length-replicate, replicate-append-replicate, set_at, drop-append-le}
+use Rattle.std.proofs.Common.{◌≡◌, ℕ, suc, ◌+◌, ◌-◌, ◌*◌, ◌/◌, ◌%◌, ◌^◌, ◌<◌, ◌≤◌, List, ◌∷◌, ◌++◌, length, get_or, take, drop, set, replicate, sym, ap, ◌∙◌, append_assoc, zero-add, arith, length-append, length-drop, get_or-drop, get_or-take, take_at}
+use lib.ListN.{get_or-append}
 use Rattle.primitives.specs.declared.hash.HashValue.{HashValue}
 use Rattle.primitives.specs.Place.{overwrite}
 use Rattle.primitives.specs.Sha256.{pad, zeros, blocks, H⁰, digest, sha256}
@@ -9,23 +9,6 @@ use Rattle.primitives.proofs.Compression.{blocks_then}
 use Rattle.primitives.specs.Number.{bytes_of}
 use Rattle.primitives.proofs.Numbers.{length_bytes_of}
 use Rattle.primitives.proofs.Digest.{take_over_lem}
-
--- one more byte of m copied, from byte k on, into zeros
-pub copy_next : (m b : List ℕ) (k i N : ℕ) → k + i < length m → i < N → b ≡ take i (drop k m) ++ replicate (N - i) 0
-    → set b i (get_or m (k + i) 0) ≡ take (i + 1) (drop k m) ++ replicate (N - (i + 1)) 0
-copy_next m b k i N h j e =
-    let l : List ℕ = drop k m in
-    let len : i < length l = simp length-drop (omega arith) in
-    let low : i ≤ length l = omega arith in
-    let v : ℕ = get_or m (k + i) 0 in
-    let z : List ℕ = replicate (N - (i + 1)) 0 in
-    let one : N - i ≡ suc (N - (i + 1)) = omega arith in
-    ap (λ (x : List ℕ). set x i v) (e ∙ ap (λ (n : ℕ). take i l ++ replicate n 0) one)
-    ∙ set_at (take i l) 0 z v i (length-take-le i l low)
-    ∙ sym (append_snoc (take i l) v z)
-    ∙ ap (λ (x : ℕ). take i l ++ (x ∷ []) ++ z) (sym (get_or-drop k m i 0))
-    ∙ ap (λ (x : List ℕ). x ++ z) (sym (take-suc l i 0 len))
-    ∙ ap (λ (n : ℕ). take n l ++ z) (sym (add-one i))
 
 -- the list l, the byte 0x80 and z zeros, at the front of N bytes
 marked : (l b : List ℕ) (N i z : ℕ) → length l ≡ i → i + 1 + z ≤ N → b ≡ set (l ++ replicate (N - i) 0) i 0x80 → take (i + 1 + z) b ≡ l ++ 0x80 ∷ replicate z 0

@@ -1,6 +1,6 @@
 -- A question that a function answers by a bool, and the branch that was taken on it.
+use Rattle.std.proofs.lemmas.Bool.{not-true, not-false}
 use Rattle.std.proofs.Common.{◌≡◌, ℕ, ◌<◌, ◌≤◌, Bool, true, false, not, leb, sym, ◌∙◌, leb-false, leb-true}
-use borrow.Author.Tests.{not-true, not-false}
 
 -- `if !question(..)`, left or taken
 module _ {q r : Bool} (e : r ≡ q) where

@@ -1,7 +1,7 @@
 -- Laws of digits, over every base and every count of digits.
 use Rattle.std.proofs.Common.{◌≡◌, ℕ, zero, suc, ◌+◌, ◌*◌, ◌/◌, ◌%◌, ◌^◌, ◌<◌, ◌≤◌, List, [], ◌∷◌, ◌++◌, length, sym, refl, ap, ◌∙◌, subst, append_assoc, append-nil, lt_of_lt_of_le, add-zero, add-suc, mul-le-mul_right, mod-lt, mul_assoc, div-lt_iff_lt-mul, add-mul, pow-suc, div-add-mod', zero-add, arith, length-append}
-use native.Mathlib.Nat.{pow-zero, pow-succ'}
-use lib.Arith.{digits_div, digits_mod}
+use Rattle.std.proofs.Math.Nat.{pow-zero, pow-succ'}
+use Rattle.std.proofs.Math.Arith.{digits_div, digits_mod}
 use Rattle.primitives.specs.Number.{digits_of, number_after, number_of}
 use Rattle.primitives.proofs.Each.{Each, none_left, one_more, each_append}
 

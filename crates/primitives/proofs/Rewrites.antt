@@ -1,6 +1,6 @@
 -- Laws of writing over a part of a larger buffer: the parts outside are unchanged, and writes at two places commute.
 use Rattle.std.proofs.Common.{◌≡◌, ℕ, ◌+◌, ◌-◌, ◌<◌, ◌≤◌, List, ◌++◌, length, get_or, take, drop, sym, refl, ap, ◌∙◌, append_assoc, add_assoc, arith, length-drop, take-append-drop, length-take-le, get_or-drop, get_or-take, take-take, take_at, drop_at}
-use lib.Seq.{take-append-le, drop-append-le, take-append-add, drop-append-add}
+use Rattle.std.proofs.Math.Seq.{take-append-le, drop-append-le, take-append-add, drop-append-add}
 use Rattle.primitives.specs.Place.{overwrite}
 use Rattle.primitives.proofs.Over.{length_over, before_over, read_over}
 

@@ -1,6 +1,6 @@
 -- Rows of tests and of questions, as code that returns at the first "no" answers them.
+use Rattle.std.proofs.lemmas.Bool.{not-true, not-false, lt-leb}
 use Rattle.std.proofs.Common.{◌≡◌, ℕ, zero, suc, Bool, true, false, not, ◌&&◌, sym, refl, ◌∙◌, subst, arith, le-ltb, lt-ltb, eq-eqb, ne_eqb, le-leb}
-use borrow.Author.Tests.{not-true, not-false, lt-leb}
 use Rattle.primitives.specs.Questions.{ask, ifZero}
 
 -- ---- a conjunction

@@ -24,19 +24,16 @@ module _ (i : ℕ) (prev back : List ℕ) where
 
 -- the first i of 60 words are those of the schedule
 pub record Filled (key : List ℕ) (w : List (List ℕ)) (i : ℕ) : Type 0 where
-  pub most : i ≤ 60
   pub long : length w ≡ 60
   pub so_far_lem : take i w ≡ words key i
 
 pub fill_none : (key : List ℕ) (w : List (List ℕ)) → length w ≡ 60 → Filled key w 0
 unfolding words
-fill_none key w e = record { most = omega arith; long = e; so_far_lem = refl }
+fill_none key w e = record { long = e; so_far_lem = refl }
 
-pub fill_all : (key : List ℕ) (w : List (List ℕ)) (i : ℕ) → Filled key w i → 60 ≤ i → w ≡ key_schedule key
+pub fill_all : (key : List ℕ) (w : List (List ℕ)) → Filled key w 60 → w ≡ key_schedule key
 unfolding key_schedule
-fill_all key w i f h =
-    let e : i ≡ 60 = omega arith in
-    sym (take_all 60 w (omega arith)) ∙ (rw e at f.so_far_lem)
+fill_all key w f = sym (take_all 60 w (omega arith)) ∙ f.so_far_lem
 
 module _ (key : List ℕ) (w w' : List (List ℕ)) (i : ℕ) (v : List ℕ) (f : Filled key w i) (more : i < 60) (e : w' ≡ set w i v) where
   filled : v ≡ word_after key (words key i) i → Filled key w' (i + 1)
@@ -44,7 +41,6 @@ module _ (key : List ℕ) (w w' : List (List ℕ)) (i : ℕ) (v : List ℕ) (f :
   filled p =
       rw e
       (record {
-        most = omega arith;
         long = length-set w i v ∙ f.long;
         so_far_lem = rw add-one (take-suc-set w i v (omega arith) ∙ (λ j. f.so_far_lem j ++ (p j ∷ [])));
       })
@@ -65,11 +61,6 @@ module _ (w s₀ : List (List ℕ)) (n : ℕ) where
   pub rounds_more : {s k r : List (List ℕ)} → s ≡ rounds_of w s₀ n → k ≡ round_key w (n + 1) → r ≡ round s k → r ≡ rounds_of w s₀ (n + 1)
   unfolding rounds_of
   rounds_more es ek er = rw (add-one n) (er ∙ (λ i. round (es i) (ek i)))
-
-  pub rounds_all : {s : List (List ℕ)} → n ≤ 13 → 13 ≤ n → s ≡ rounds_of w s₀ n → s ≡ rounds_of w s₀ 13
-  rounds_all h g es =
-      let e : n ≡ 13 = omega arith in
-      rw e at es
 
 -- ---- the steps of a round and of the cipher, one after the other
 

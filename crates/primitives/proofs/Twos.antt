@@ -1,9 +1,9 @@
 -- Laws of the counter's bytes: two's complement in n bytes, over every n.
+use Rattle.std.proofs.lemmas.Bool.{lt-leb}
 use Rattle.std.proofs.Common.{◌≡◌, ℕ, zero, suc, ◌+◌, ◌-◌, ◌*◌, ◌%◌, ◌^◌, ◌<◌, ◌≤◌, Bool, true, false, cond, ◌&&◌, T, ltb, leb, List, ◌++◌, length, take, drop, replicate, ℤ, pos, negsuc, ◌-ℤ◌, neg_ℤ, sym, refl, ap, ◌∙◌, subst, mod-eq_of_lt, suc-mul, pow-suc, zero-mul, arith, lit<, length-append, take-append-drop, length-take-le, take_at, pow-add, w64, SFits, of_z, ltb-false, ltb-true, le-ltb, lt-ltb, le-leb, leb-false, leb-true}
-use mathlib.Core.Bool.{and-true}
-use native.Mathlib.Nat.{pow-le-pow_right}
-use borrow.Author.Tests.{lt-leb}
-use lib.ListN.{length-replicate}
+use Rattle.std.proofs.Math.Bool.{and-true}
+use Rattle.std.proofs.Math.Nat.{pow-le-pow_right}
+use Rattle.std.proofs.Math.ListN.{length-replicate}
 use lib.Signed.{mag, le_z, lt_z}
 use Rattle.primitives.specs.Bytes.{AllBytes}
 use Rattle.primitives.specs.Number.{bytes_of, value_of}

@@ -1,7 +1,8 @@
 -- Laws of exclusive or: of numbers, and of the first bytes of a list with a key stream.
-use Rattle.std.proofs.Common.{◌≡◌, ℕ, zero, suc, ◌+◌, ◌*◌, ◌/◌, ◌%◌, ◌<◌, ◌≤◌, List, [], ◌∷◌, ◌++◌, length, get_or, take, drop, set, sym, refl, ap, ◌∙◌, ap₂, append-nil, le_of_suc-le-suc, div-add-mod', add-one, arith, drop_of_length-le, take_all}
-use lib.Arith.{bin_ind}
-use lib.Bits.{bit_xor, differ, xor_step, xor_self, xor_lt, xor_shr}
+use Rattle.std.proofs.lemmas.Nat.{xor_lt, xor_shr}
+use Rattle.std.proofs.Common.{min, Bool, true, false, leb, leb-true, leb-false, ◌≡◌, ℕ, zero, suc, ◌+◌, ◌*◌, ◌/◌, ◌%◌, ◌<◌, ◌≤◌, List, [], ◌∷◌, ◌++◌, length, get_or, take, drop, set, sym, refl, ap, ◌∙◌, ap₂, append-nil, le_of_suc-le-suc, div-add-mod', add-one, arith, drop_of_length-le, take_all, bit_xor}
+use Rattle.std.proofs.Math.Arith.{bin_ind}
+use lib.Bits.{differ, xor_step, xor_self}
 use Rattle.primitives.specs.Bytes.{AllBytes}
 use Rattle.primitives.specs.Counter.{xor_list, xor_first}
 use Rattle.primitives.proofs.ByteLists.{bytes_nil, bytes_cons, bytes_head, bytes_tail, bytes_append, bytes_take, bytes_drop}
@@ -94,3 +95,11 @@ more (suc i) (x ∷ b) (y ∷ k) h l = ap (λ (r : List ℕ). bit_xor x y ∷ r)
 
 pub xor_first_more : {r : List ℕ} (i : ℕ) (b k : List ℕ) → r ≡ xor_first i b k → i < length b → i < length k → set r i (bit_xor (get_or b i 0) (get_or k i 0)) ≡ xor_first (i + 1) b k
 xor_first_more i b k e h l = ap (λ (r : List ℕ). set r i (bit_xor (get_or b i 0) (get_or k i 0))) e ∙ more i b k h l ∙ ap (λ (n : ℕ). xor_first n b k) (sym (add-one i))
+
+-- bytes past the end are none
+pub xor_first_min : (n m : ℕ) (b k : List ℕ) → length b ≤ m → xor_first (min n m) b k ≡ xor_first n b k
+xor_first_min n m b k h = go (leb n m) refl
+  where
+    go : (t : Bool) → leb n m ≡ t → xor_first (min n m) b k ≡ xor_first n b k
+    go true e = let l : n ≤ m = leb-true n m e in ap (λ (i : ℕ). xor_first i b k) (omega arith)
+    go false e = let l : m < n = leb-false n m e in xor_first_all (min n m) n b k (omega arith) (omega arith)

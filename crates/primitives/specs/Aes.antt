@@ -24,7 +24,7 @@ load b = grid (λ r c. slice_index b (r + 4 * c))
 abbrev pub store : List (List ℕ) → List ℕ
 store s = column (λ r. cell s r 0) ++ column (λ r. cell s r 1) ++ column (λ r. cell s r 2) ++ column (λ r. cell s r 3)
 
--- ---- tables of 256 bytes, as the code has them
+-- ---- tables of 256 bytes, as the code has them: `TABLES`
 
 -- a table of f has f k at each byte k
 pub record TableOf (f : ℕ → ℕ) (table : List ℕ) : Type 0 where
@@ -139,11 +139,6 @@ abbrev pub round_key : List (List ℕ) → ℕ → List (List ℕ)
 round_key w n = slice_index_or w (n * 4) [] ∷ slice_index_or w (n * 4 + 1) [] ∷ slice_index_or w (n * 4 + 2) [] ∷ slice_index_or w (n * 4 + 3) [] ∷ []
 
 -- ---- 5.1: Cipher, of 14 rounds
-
--- the tables that a round reads: the substitution, then doubling
-pub record RoundTables (tables : List (List ℕ)) : Type 0 where
-  pub substitution : SBox (slice_index_or tables 0 [])
-  pub doubling : DoublingTable (slice_index_or tables 1 [])
 
 unfoldable pub round : List (List ℕ) → List (List ℕ) → List (List ℕ)
 round s k = add_round_key (mix_columns (shift_rows (sub_bytes s))) k

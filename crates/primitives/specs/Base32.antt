@@ -1,10 +1,10 @@
 -- RFC 4648, section 6: base 32, padded. The rule is that of specs/BaseRule.antt.
-use Rattle.std.specs.Prelude.{◌≡◌, ℕ, ◌+◌, ◌-◌, ◌*◌, ◌/◌, ◌<◌, cond, ◌&&◌, List, nat_le, nat_lt, slice_index}
+use Rattle.std.specs.Prelude.{◌≡◌, ℕ, ◌+◌, ◌-◌, ◌*◌, ◌/◌, ◌<◌, cond, ◌&&◌, List, nat_le, nat_lt, slice_index, Result}
 use Prim.Native.Char.{code}
 use Rattle.std.proofs.Math.Option.{Option}
 use Rattle.primitives.specs.BaseRule.{Base, text_of, read_text}
 use Rattle.primitives.specs.Base64.{answer_of, buffer_of}
-use Rattle.primitives.specs.declared.base64.Decoded.{Decoded}
+use Rattle.primitives.specs.declared.base64.DecodeError.{DecodeError}
 
 -- ---- the alphabet: 'A' to 'Z' and '2' to '7'
 
@@ -34,7 +34,7 @@ unfoldable pub encoded_length32 : ℕ → ℕ
 encoded_length32 n = (n + 4) / 5 * 8
 
 -- the reader's answer, and the buffer after it
-abbrev pub decode_answer32 : List ℕ → List ℕ → ℕ → Decoded
+abbrev pub decode_answer32 : List ℕ → List ℕ → ℕ → Result ℕ DecodeError
 decode_answer32 text out at = answer_of (decoding32 text) out at
 
 abbrev pub decode_buffer32 : List ℕ → List ℕ → ℕ → List ℕ

@@ -1,14 +1,14 @@
 -- RFC 4648: base 64 (section 4, padded) and base 64 for URLs (section 5; without padding, as RFC 7515, section 2, has it).
 -- The reader is strict: sections 3.2 (padding), 3.3 (foreign letters) and 3.5 (unused bits).
-use Rattle.std.specs.Prelude.{◌≡◌, ℕ, ◌+◌, ◌-◌, ◌*◌, ◌/◌, ◌%◌, ◌<◌, Bool, true, false, cond, ◌&&◌, List, [], ◌∷◌, ◌++◌, length, take, replicate, ◌==◌, nat_le, nat_lt, slice_index}
+use Rattle.std.specs.Prelude.{◌≡◌, ℕ, ◌+◌, ◌-◌, ◌*◌, ◌/◌, ◌%◌, ◌<◌, Bool, true, false, cond, ◌&&◌, List, [], ◌∷◌, ◌++◌, length, take, replicate, ◌==◌, nat_le, nat_lt, slice_index, Result, Ok, Err}
 use Prim.Native.Char.{code}
 use Rattle.std.proofs.Math.Option.{Option, none, some}
 use Rattle.primitives.specs.Place.{room, placed}
 use Rattle.primitives.specs.BaseRule.{Base, fill}
 use Rattle.primitives.specs.declared.base64.Alphabet.{Alphabet}
 use Rattle.primitives.specs.declared.base64.Alphabet.TheVariants.{Standard, UrlSafe}
-use Rattle.primitives.specs.declared.base64.Decoded.{Decoded}
-use Rattle.primitives.specs.declared.base64.Decoded.TheVariants.{Upto, Refused, NoRoom}
+use Rattle.primitives.specs.declared.base64.DecodeError.{DecodeError}
+use Rattle.primitives.specs.declared.base64.DecodeError.TheVariants.{Refused, NoRoom}
 
 -- ---- the alphabets: 'A' to 'Z', 'a' to 'z', '0' to '9', and two more letters
 
@@ -137,16 +137,16 @@ accepted a text = whole a (length text) && (ended a (unpadded a text) && known a
 unfoldable pub decoding : Alphabet → List ℕ → Option (List ℕ)
 decoding a text = cond (accepted a text) (some (bytes a (unpadded a text))) none
 
--- the reader's answer, and the buffer after it
-abbrev pub answer_of : Option (List ℕ) → List ℕ → ℕ → Decoded
-answer_of none out at = Refused
-answer_of (some ys) out at = cond (room out at ys) (Upto (at + length ys)) NoRoom
+-- the reader's answer, which is the place after the bytes or why nothing was written, and the buffer after it
+abbrev pub answer_of : Option (List ℕ) → List ℕ → ℕ → Result ℕ DecodeError
+answer_of none out at = Err Refused
+answer_of (some ys) out at = cond (room out at ys) (Ok (at + length ys)) (Err NoRoom)
 
 abbrev pub buffer_of : Option (List ℕ) → List ℕ → ℕ → List ℕ
 buffer_of none out at = out
 buffer_of (some ys) out at = placed out at ys
 
-abbrev pub decode_answer : Alphabet → List ℕ → List ℕ → ℕ → Decoded
+abbrev pub decode_answer : Alphabet → List ℕ → List ℕ → ℕ → Result ℕ DecodeError
 decode_answer a text out at = answer_of (decoding a text) out at
 
 abbrev pub decode_buffer : Alphabet → List ℕ → List ℕ → ℕ → List ℕ

@@ -1,8 +1,6 @@
 -- The counter: "N bytes, big-endian two's complement, combined by exclusive or with the first N bytes" of a key stream. Also the checked sum.
-use Rattle.std.specs.Prelude.{ℕ, suc, ◌-◌, ◌/◌, ◌^◌, Bool, cond, ◌&&◌, List, [], ◌∷◌, ◌++◌, take, drop, replicate, ℤ, pos, negsuc, ◌+ℤ◌, ◌-ℤ◌, neg_ℤ, bit_xor, int_le, int_lt, nat_le, nat_lt}
+use Rattle.std.specs.Prelude.{ℕ, suc, ◌-◌, ◌/◌, ◌^◌, Bool, cond, ◌&&◌, List, [], ◌∷◌, ◌++◌, take, drop, replicate, ℤ, pos, negsuc, ◌+ℤ◌, ◌-ℤ◌, neg_ℤ, bit_xor, int_le, int_lt, nat_le, nat_lt, Option, Some, None}
 use Rattle.primitives.specs.Number.{bytes_of, value_of}
-use Rattle.primitives.specs.declared.counter.Sum.{Sum}
-use Rattle.primitives.specs.declared.counter.Sum.TheVariants.{Is, Over}
 
 -- the widths that a counter may have: 5 to 8 bytes
 unfoldable pub width_good : ℕ → Bool
@@ -48,5 +46,5 @@ unfoldable pub xor_first : ℕ → List ℕ → List ℕ → List ℕ
 xor_first n b k = xor_list (take n b) k ++ drop n b
 
 -- the sum, if it is in the range of eight bytes
-unfoldable pub checked_sum : ℤ → ℤ → Sum
-checked_sum a b = cond (fits_in 8 (a +ℤ b)) (Is (a +ℤ b)) Over
+unfoldable pub checked_sum : ℤ → ℤ → Option ℤ
+checked_sum a b = cond (fits_in 8 (a +ℤ b)) (Some (a +ℤ b)) None

@@ -5,10 +5,12 @@ pub mod Base64
 pub mod BaseRule
 pub mod Bytes
 pub mod Counter
+pub mod Digits
 pub mod Field
 pub mod Laws
 pub mod Number
 pub mod Place
 pub mod Questions
+pub mod Refusals
 pub mod Sha256
 pub mod Text

@@ -1,7 +1,5 @@
 -- Numbers as digits of any base, and so as bytes; the highest digit comes first.
-use Rattle.std.specs.Prelude.{ℕ, zero, suc, ◌+◌, ◌*◌, ◌/◌, ◌%◌, cond, ◌&&◌, List, [], ◌∷◌, ◌++◌, length, take, drop, nat_le}
-use Rattle.primitives.specs.declared.buffer.Number.{Number}
-use Rattle.primitives.specs.declared.buffer.Number.TheVariants.{Is, Missing}
+use Rattle.std.specs.Prelude.{ℕ, zero, suc, ◌+◌, ◌*◌, ◌/◌, ◌%◌, cond, ◌&&◌, List, [], ◌∷◌, ◌++◌, length, take, drop, nat_le, Option, Some, None}
 
 -- ---- in the base b
 
@@ -37,6 +35,6 @@ value_of bs = value_after 0 bs
 unfoldable pub count_at : List ℕ → ℕ → ℕ → ℕ
 count_at s at n = value_of (take n (drop at s))
 
--- the same; missing if n is above 8 or the list ends before the last of them
-unfoldable pub number_at : List ℕ → ℕ → ℕ → Number
-number_at s at n = cond (nat_le n 8 && nat_le (at + n) (length s)) (Is (value_of (take n (drop at s)))) Missing
+-- the same; none if n is above 8 or the list ends before the last of them
+unfoldable pub number_at : List ℕ → ℕ → ℕ → Option ℕ
+number_at s at n = cond (nat_le n 8 && nat_le (at + n) (length s)) (Some (value_of (take n (drop at s)))) None

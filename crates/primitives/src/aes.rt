@@ -1,10 +1,26 @@
 // AES-256 encryption (FIPS 197). A block is handled as four columns of four bytes.
 ghost use Rattle.std.specs.Prelude.{◌≡◌, ◌<◌};
 ghost use Rattle.primitives.specs.Field.{xtime};
-ghost use Rattle.primitives.specs.Aes.{load, store, sub, SBox, DoublingTable, RoundTables, sub_column, sub_bytes, shift_rows, mix_byte, mix_column, mix_columns, add_column, add_round_key, rot_word, rcon, next_word, key_word, key_schedule, round_key, round, last_round, rounds_of, cipher, aes256};
+ghost use Rattle.primitives.specs.Aes.{load, store, sub, sub_column, sub_bytes, shift_rows, mix_byte, mix_column, mix_columns, add_column, add_round_key, rot_word, rcon, next_word, key_word, key_schedule, round_key, round, last_round, rounds_of, cipher, aes256};
 
-// The substitution of each byte: its inverse in the field, then the affine map.
-const SBOX: [u8; 256] = *b"\
+use std::array;
+
+// A word of the key schedule, or a column of the state.
+type Word = [u8; 4];
+
+type State = [Word; 4];
+
+type Schedule = [Word; 60];
+
+// The tables that a round reads. They stand in one value: two addresses would take a register more, in which a round is slower.
+struct Tables {
+    substitution: [u8; 256],
+    doubling: [u8; 256],
+}
+
+static TABLES: Tables = Tables {
+    // The substitution of each byte: its inverse in the field, then the affine map.
+    substitution: *b"\
     \x63\x7c\x77\x7b\xf2\x6b\x6f\xc5\x30\x01\x67\x2b\xfe\xd7\xab\x76\
     \xca\x82\xc9\x7d\xfa\x59\x47\xf0\xad\xd4\xa2\xaf\x9c\xa4\x72\xc0\
     \xb7\xfd\x93\x26\x36\x3f\xf7\xcc\x34\xa5\xe5\xf1\x71\xd8\x31\x15\
@@ -21,10 +37,9 @@ const SBOX: [u8; 256] = *b"\
     \x70\x3e\xb5\x66\x48\x03\xf6\x0e\x61\x35\x57\xb9\x86\xc1\x1d\x9e\
     \xe1\xf8\x98\x11\x69\xd9\x8e\x94\x9b\x1e\x87\xe9\xce\x55\x28\xdf\
     \x8c\xa1\x89\x0d\xbf\xe6\x42\x68\x41\x99\x2d\x0f\xb0\x54\xbb\x16\
-";
-
-// The double of each byte in the field: a shift to the left, and for bytes from 0x80 on an exclusive or with 0x1b.
-const DOUBLE: [u8; 256] = *b"\
+",
+    // The double of each byte in the field: a shift to the left, and for bytes from 0x80 on an exclusive or with 0x1b.
+    doubling: *b"\
     \x00\x02\x04\x06\x08\x0a\x0c\x0e\x10\x12\x14\x16\x18\x1a\x1c\x1e\
     \x20\x22\x24\x26\x28\x2a\x2c\x2e\x30\x32\x34\x36\x38\x3a\x3c\x3e\
     \x40\x42\x44\x46\x48\x4a\x4c\x4e\x50\x52\x54\x56\x58\x5a\x5c\x5e\
@@ -41,66 +56,31 @@ const DOUBLE: [u8; 256] = *b"\
     \xbb\xb9\xbf\xbd\xb3\xb1\xb7\xb5\xab\xa9\xaf\xad\xa3\xa1\xa7\xa5\
     \xdb\xd9\xdf\xdd\xd3\xd1\xd7\xd5\xcb\xc9\xcf\xcd\xc3\xc1\xc7\xc5\
     \xfb\xf9\xff\xfd\xf3\xf1\xf7\xf5\xeb\xe9\xef\xed\xe3\xe1\xe7\xe5\
-";
+",
+};
 
-// A table is built once per call and then lent: an indexed constant is rebuilt on the stack at each evaluation.
-fn sbox() -> [u8; 256]
-    ensures { SBox result }
-{
-    SBOX
-}
-
-fn doubling_table() -> [u8; 256]
-    ensures { DoublingTable result }
-{
-    DOUBLE
-}
-
-// The two tables that a round reads, lent as one value: the substitution, then doubling.
-fn round_tables() -> [[u8; 256]; 2]
-    ensures { RoundTables result }
-{
-    [sbox(), doubling_table()]
-}
-
-fn sub_byte(t: &[u8; 256], x: u8) -> u8
-    requires { SBox t.now }
+fn sub_byte(x: u8) -> u8
     ensures { result ≡ sub x }
 {
-    t[x as usize]
+    TABLES.substitution[x as usize]
 }
 
-fn sub_column(t: &[u8; 256], a: [u8; 4]) -> [u8; 4]
-    requires { SBox t.now }
+fn sub_column(a: Word) -> Word
     ensures { result ≡ sub_column a }
 {
-    [
-        sub_byte(t, a[0]),
-        sub_byte(t, a[1]),
-        sub_byte(t, a[2]),
-        sub_byte(t, a[3]),
-    ]
+    a.map(sub_byte)
 }
 
-fn sub_bytes(t: &[u8; 256], s: [[u8; 4]; 4]) -> [[u8; 4]; 4]
-    requires { SBox t.now }
+fn sub_bytes(s: State) -> State
     ensures { result ≡ sub_bytes s }
 {
-    [
-        sub_column(t, s[0]),
-        sub_column(t, s[1]),
-        sub_column(t, s[2]),
-        sub_column(t, s[3]),
-    ]
+    s.map(sub_column)
 }
 
-fn shift_rows(s: [[u8; 4]; 4]) -> [[u8; 4]; 4]
+fn shift_rows(s: State) -> State
     ensures { result ≡ shift_rows s }
 {
-    let a = s[0];
-    let b = s[1];
-    let c = s[2];
-    let d = s[3];
+    let [a, b, c, d] = s;
     [
         [a[0], b[1], c[2], d[3]],
         [b[0], c[1], d[2], a[3]],
@@ -110,58 +90,47 @@ fn shift_rows(s: [[u8; 4]; 4]) -> [[u8; 4]; 4]
 }
 
 // The double of a byte in the field.
-fn double(t: &[u8; 256], x: u8) -> u8
-    requires { DoublingTable t.now }
+fn double(x: u8) -> u8
     ensures { result ≡ xtime x }
 {
-    t[x as usize]
+    TABLES.doubling[x as usize]
 }
 
 // One byte of a mixed column, from the bytes of the column, its own row first.
-fn mix_byte(t: &[u8; 256], a: u8, b: u8, c: u8, d: u8) -> u8
-    requires { DoublingTable t.now }
+fn mix_byte(a: u8, b: u8, c: u8, d: u8) -> u8
     ensures { result ≡ mix_byte a b c d }
 {
-    double(t, a) ^ (double(t, b) ^ b) ^ c ^ d
+    double(a) ^ (double(b) ^ b) ^ c ^ d
 }
 
-fn mix_column(t: &[u8; 256], a: [u8; 4]) -> [u8; 4]
-    requires { DoublingTable t.now }
+fn mix_column(a: Word) -> Word
     ensures { result ≡ mix_column a }
 {
-    let a0 = a[0];
-    let a1 = a[1];
-    let a2 = a[2];
-    let a3 = a[3];
+    let [a0, a1, a2, a3] = a;
     [
-        mix_byte(t, a0, a1, a2, a3),
-        mix_byte(t, a1, a2, a3, a0),
-        mix_byte(t, a2, a3, a0, a1),
-        mix_byte(t, a3, a0, a1, a2),
+        mix_byte(a0, a1, a2, a3),
+        mix_byte(a1, a2, a3, a0),
+        mix_byte(a2, a3, a0, a1),
+        mix_byte(a3, a0, a1, a2),
     ]
 }
 
-fn mix_columns(t: &[u8; 256], s: [[u8; 4]; 4]) -> [[u8; 4]; 4]
-    requires { DoublingTable t.now }
+fn mix_columns(s: State) -> State
     ensures { result ≡ mix_columns s }
 {
-    [
-        mix_column(t, s[0]),
-        mix_column(t, s[1]),
-        mix_column(t, s[2]),
-        mix_column(t, s[3]),
-    ]
+    s.map(mix_column)
 }
 
-fn add_column(a: [u8; 4], b: [u8; 4]) -> [u8; 4]
+fn add_column(a: Word, b: Word) -> Word
     ensures { result ≡ add_column a b }
 {
-    [a[0] ^ b[0], a[1] ^ b[1], a[2] ^ b[2], a[3] ^ b[3]]
+    array::from_fn(|r| a[r] ^ b[r])
 }
 
-fn add_round_key(s: [[u8; 4]; 4], k: [[u8; 4]; 4]) -> [[u8; 4]; 4]
+fn add_round_key(s: State, k: State) -> State
     ensures { result ≡ add_round_key s k }
 {
+    // Four calls: with `array::from_fn` over columns the proof did not close.
     [
         add_column(s[0], k[0]),
         add_column(s[1], k[1]),
@@ -170,8 +139,8 @@ fn add_round_key(s: [[u8; 4]; 4], k: [[u8; 4]; 4]) -> [[u8; 4]; 4]
     ]
 }
 
-// The round constants from 1 on; entry 0 is not used. Eight bytes that are read seven times per key, so this table is indexed and not lent.
-const RCON: [u8; 8] = [1, 1, 2, 4, 8, 16, 32, 64];
+// The round constants from 1 on; entry 0 is not used.
+static RCON: [u8; 8] = [1, 1, 2, 4, 8, 16, 32, 64];
 
 fn round_constant(j: usize) -> u8
     requires { j < 8 }
@@ -180,31 +149,26 @@ fn round_constant(j: usize) -> u8
     RCON[j]
 }
 
-fn rot_word(a: [u8; 4]) -> [u8; 4]
+fn rot_word(a: Word) -> Word
     ensures { result ≡ rot_word a }
 {
     [a[1], a[2], a[3], a[0]]
 }
 
 // Word i of the schedule, from the word before it and the word eight places before it.
-fn next_word(t: &[u8; 256], i: usize, prev: [u8; 4], back: [u8; 4]) -> [u8; 4]
-    requires sbox { SBox t.now }
-    requires i_bound { i < 64 }
+fn next_word(i: usize, prev: Word, back: Word) -> Word
+    requires { i < 64 }
     ensures { result ≡ next_word i prev back }
 {
-    let m = i % 8;
-    if m == 0 {
-        let c = round_constant(i / 8);
-        let u = add_column(sub_column(t, rot_word(prev)), [c, 0, 0, 0]);
-        return add_column(back, u);
-    }
-    if m == 4 {
-        return add_column(back, sub_column(t, prev));
-    }
-    add_column(back, prev)
+    let turned = match i % 8 {
+        0 => add_column(sub_column(rot_word(prev)), [round_constant(i / 8), 0, 0, 0]),
+        4 => sub_column(prev),
+        _ => prev,
+    };
+    add_column(back, turned)
 }
 
-fn key_word(key: [u8; 32], i: usize) -> [u8; 4]
+fn key_word(key: [u8; 32], i: usize) -> Word
     requires { i < 8 }
     ensures { result ≡ key_word key i }
 {
@@ -216,21 +180,17 @@ fn key_word(key: [u8; 32], i: usize) -> [u8; 4]
 pub fn expand_key(key: [u8; 32]) -> [[u8; 4]; 60]
     ensures { result ≡ key_schedule key }
 {
-    let t = sbox();
-    let mut w = [[0u8; 4]; 60];
-    let mut i = 0;
-    while i < 60 {
-        if i < 8 {
-            w[i] = key_word(key, i);
-        } else {
-            w[i] = next_word(&t, i, w[i - 1], w[i - 8]);
-        }
-        i += 1;
+    let mut w = [[0; 4]; 60];
+    for i in 0..8 {
+        w[i] = key_word(key, i);
+    }
+    for i in 8..60 {
+        w[i] = next_word(i, w[i - 1], w[i - 8]);
     }
     w
 }
 
-fn round_key(w: &[[u8; 4]; 60], n: usize) -> [[u8; 4]; 4]
+fn round_key(w: &Schedule, n: usize) -> State
     requires { n < 15 }
     ensures { result ≡ round_key w.now n }
 {
@@ -238,7 +198,7 @@ fn round_key(w: &[[u8; 4]; 60], n: usize) -> [[u8; 4]; 4]
     [w[at], w[at + 1], w[at + 2], w[at + 3]]
 }
 
-fn load_block(b: [u8; 16]) -> [[u8; 4]; 4]
+fn load_block(b: [u8; 16]) -> State
     ensures { result ≡ load b }
 {
     [
@@ -249,56 +209,44 @@ fn load_block(b: [u8; 16]) -> [[u8; 4]; 4]
     ]
 }
 
-fn store_block(s: [[u8; 4]; 4]) -> [u8; 16]
+fn store_block(s: State) -> [u8; 16]
     ensures { result ≡ store s }
 {
-    let a = s[0];
-    let b = s[1];
-    let c = s[2];
-    let d = s[3];
+    let [a, b, c, d] = s;
     [
         a[0], a[1], a[2], a[3], b[0], b[1], b[2], b[3], c[0], c[1], c[2], c[3], d[0], d[1], d[2],
         d[3],
     ]
 }
 
-fn full_round(tables: &[[u8; 256]; 2], s: [[u8; 4]; 4], k: [[u8; 4]; 4]) -> [[u8; 4]; 4]
-    requires { RoundTables tables.now }
+fn full_round(s: State, k: State) -> State
     ensures { result ≡ round s k }
 {
-    add_round_key(
-        mix_columns(&tables[1], shift_rows(sub_bytes(&tables[0], s))),
-        k,
-    )
+    add_round_key(mix_columns(shift_rows(sub_bytes(s))), k)
 }
 
 // Round 14, which mixes no columns.
-fn last_round(t: &[u8; 256], w: &[[u8; 4]; 60], s: [[u8; 4]; 4]) -> [[u8; 4]; 4]
-    requires { SBox t.now }
+fn last_round(w: &Schedule, s: State) -> State
     ensures { result ≡ last_round s (round_key w.now 14) }
 {
-    add_round_key(shift_rows(sub_bytes(t, s)), round_key(w, 14))
+    add_round_key(shift_rows(sub_bytes(s)), round_key(w, 14))
 }
 
 // The block as columns, with the first round key added.
-fn start(w: &[[u8; 4]; 60], block: [u8; 16]) -> [[u8; 4]; 4]
+fn start(w: &Schedule, block: [u8; 16]) -> State
     ensures { result ≡ add_round_key (load block) (round_key w.now 0) }
 {
     add_round_key(load_block(block), round_key(w, 0))
 }
 
 // Rounds 1 to 13.
-fn rounds(tables: &[[u8; 256]; 2], w: &[[u8; 4]; 60], first: [[u8; 4]; 4]) -> [[u8; 4]; 4]
-    requires { RoundTables tables.now }
+fn rounds(w: &Schedule, first: State) -> State
     ensures { result ≡ rounds_of w.now first 13 }
 {
     let mut s = first;
-    let mut n = 0;
-    while n < 13 {
-        let k = round_key(w, n + 1);
-        let next = full_round(tables, s, k);
+    for n in 0..13 {
+        let next = full_round(s, round_key(w, n + 1));
         s = next;
-        n += 1;
     }
     s
 }
@@ -307,15 +255,13 @@ fn rounds(tables: &[[u8; 256]; 2], w: &[[u8; 4]; 60], first: [[u8; 4]; 4]) -> [[
 pub fn encrypt_block(schedule: &[[u8; 4]; 60], block: [u8; 16]) -> [u8; 16]
     ensures { result ≡ cipher schedule.now block }
 {
-    let tables = round_tables();
-    let s = rounds(&tables, schedule, start(schedule, block));
-    store_block(last_round(&tables[0], schedule, s))
+    let s = rounds(schedule, start(schedule, block));
+    store_block(last_round(schedule, s))
 }
 
 // Encrypts one block under a key.
 pub fn aes256(key: [u8; 32], block: [u8; 16]) -> [u8; 16]
     ensures { result ≡ aes256 key block }
 {
-    let w = expand_key(key);
-    encrypt_block(&w, block)
+    encrypt_block(&expand_key(key), block)
 }

@@ -1,20 +1,16 @@
 // The counter: a signed number as bytes, exclusive or with a key stream, and a checked sum.
 ghost use Rattle.std.specs.Prelude.{◌≡◌, ◌^◌, ◌<◌, ◌≤◌, true, length, unsigned_abs};
 ghost use Rattle.std.specs.Int.Signed.{mag};
-ghost use Rattle.std.specs.Int.{w64};
-ghost use Rattle.std.proofs.Common.{of_z};
 ghost use Rattle.primitives.specs.Counter.{width_good, half, counter_fits, of_twos, counter_bytes, counter_value, xor_first, checked_sum};
 
-use crate::buffer::{Number, number_at, put_number};
+use crate::buffer::{number_at, put_number};
 
 // The widths that a counter may have: 5 to 8 bytes.
+#[tactic(auto, unfolding(crate::specs::Counter::width_good))]
 pub fn width_good(n: usize) -> bool
     ensures { result ≡ width_good n }
 {
-    if n < 5 {
-        return false;
-    }
-    n <= 8
+    (5..=8).contains(&n)
 }
 
 // Maps both k and -(k + 1) to k. A number is in the range of n bytes exactly when this is below half of 256^n.
@@ -28,16 +24,7 @@ fn folded(z: i64) -> u64
 pub fn absolute(z: i64) -> u64
     ensures { result ≡ unsigned_abs z }
 {
-    let m = folded(z);
-    if z < 0 { m + 1 } else { m }
-}
-
-// The 64 bits of a signed number.
-fn bits_of(z: i64) -> u64
-    ensures { result ≡ of_z w64 z }
-{
-    let m = folded(z);
-    if z < 0 { !m } else { m }
+    z.unsigned_abs()
 }
 
 // Half of 256^n.
@@ -52,11 +39,7 @@ fn half_of(n: usize) -> u64
 pub fn counter_fits(n: usize, z: i64) -> bool
     ensures { result ≡ counter_fits n z }
 {
-    if !width_good(n) {
-        return false;
-    }
-    let m = folded(z);
-    m < half_of(n)
+    width_good(n) && folded(z) < half_of(n)
 }
 
 // The n bytes of a number in big-endian two's complement, then zeros up to eight bytes.
@@ -64,12 +47,10 @@ pub fn counter_fits(n: usize, z: i64) -> bool
 pub fn counter_bytes(n: usize, z: i64) -> [u8; 8]
     ensures { result ≡ counter_bytes n z }
 {
-    let mut b = [0u8; 8];
-    if !counter_fits(n, z) {
-        return b;
+    let mut b = [0; 8];
+    if counter_fits(n, z) {
+        put_number(&mut b, 0, n, z.cast_unsigned());
     }
-    let v = bits_of(z);
-    let _ = put_number(&mut b, 0, n, v);
     b
 }
 
@@ -80,19 +61,9 @@ fn signed(n: usize, v: u64) -> i64
 {
     let h = half_of(n);
     if v < h {
-        return v as i64;
-    }
-    !((h - 1 - (v - h)) as i64)
-}
-
-// The signed value of the first n of eight bytes.
-fn first_value(n: usize, s: &[u8]) -> i64
-    requires { (width_good n ≡ true) × (length s.now ≡ 8) }
-    ensures { result ≡ counter_value n s.now }
-{
-    match number_at(s, 0, n) {
-        Number::Is(v) => signed(n, v),
-        Number::Missing => 0,
+        v as i64
+    } else {
+        !((h - 1 - (v - h)) as i64)
     }
 }
 
@@ -100,10 +71,10 @@ fn first_value(n: usize, s: &[u8]) -> i64
 pub fn counter_value(n: usize, b: [u8; 8]) -> i64
     ensures { result ≡ counter_value n b }
 {
-    if !width_good(n) {
-        return 0;
+    match number_at(&b, 0, n) {
+        Some(v) if width_good(n) => signed(n, v),
+        _ => 0,
     }
-    first_value(n, &b)
 }
 
 // Combines the first n bytes with those of the key stream by exclusive or; the bytes after them stay as they are.
@@ -113,39 +84,15 @@ pub fn xor_first(n: usize, b: [u8; 8], stream: [u8; 16]) -> [u8; 8]
     ensures { result ≡ xor_first n b stream }
 {
     let mut r = b;
-    let mut i: usize = 0;
-    while i < 8 {
-        if n <= i {
-            return r;
-        }
+    for i in 0..n.min(8) {
         r[i] = b[i] ^ stream[i];
-        i += 1;
     }
     r
 }
 
-// A sum that may be out of range.
-#[derive(Clone, Copy)]
-pub enum Sum {
-    Is(i64),
-    Over,
-}
-
 // The sum, if it is in the range of 64 bits.
-pub fn checked_add(a: i64, b: i64) -> Sum
+pub fn checked_add(a: i64, b: i64) -> Option<i64>
     ensures { result ≡ checked_sum a b }
 {
-    if b < 0 {
-        if a < -9223372036854775808 - b {
-            Sum::Over
-        } else {
-            Sum::Is(a + b)
-        }
-    } else {
-        if 9223372036854775807 - b < a {
-            Sum::Over
-        } else {
-            Sum::Is(a + b)
-        }
-    }
+    a.checked_add(b)
 }

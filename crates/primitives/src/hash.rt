@@ -3,10 +3,9 @@ ghost use Rattle.std.specs.Prelude.{◌≡◌, ◌+◌, ◌-◌, ◌*◌, ◌<�
 ghost use Rattle.primitives.specs.Sha256 as S;
 
 use super::buffer::put_be;
-use std::num::wrapping_add_u32;
 
 // The round constants (4.2.2).
-const K: [u32; 64] = [
+static K: [u32; 64] = [
     0x428a2f98, 0x71374491, 0xb5c0fbcf, 0xe9b5dba5, 0x3956c25b, 0x59f111f1, 0x923f82a4, 0xab1c5ed5,
     0xd807aa98, 0x12835b01, 0x243185be, 0x550c7dc3, 0x72be5d74, 0x80deb1fe, 0x9bdc06a7, 0xc19bf174,
     0xe49b69c1, 0xefbe4786, 0x0fc19dc6, 0x240ca1cc, 0x2de92c6f, 0x4a7484aa, 0x5cb0a9dc, 0x76f988da,
@@ -46,32 +45,25 @@ fn maj(x: u32, y: u32, z: u32) -> u32
 fn big_sigma0(x: u32) -> u32
     ensures { result ≡ S.Σ₀ x }
 {
-    (x >> 2 | x << 30) ^ (x >> 13 | x << 19) ^ (x >> 22 | x << 10)
+    x.rotate_right(2) ^ x.rotate_right(13) ^ x.rotate_right(22)
 }
 
 fn big_sigma1(x: u32) -> u32
     ensures { result ≡ S.Σ₁ x }
 {
-    (x >> 6 | x << 26) ^ (x >> 11 | x << 21) ^ (x >> 25 | x << 7)
+    x.rotate_right(6) ^ x.rotate_right(11) ^ x.rotate_right(25)
 }
 
 fn small_sigma0(x: u32) -> u32
     ensures { result ≡ S.σ₀ x }
 {
-    (x >> 7 | x << 25) ^ (x >> 18 | x << 14) ^ (x >> 3)
+    x.rotate_right(7) ^ x.rotate_right(18) ^ (x >> 3)
 }
 
 fn small_sigma1(x: u32) -> u32
     ensures { result ≡ S.σ₁ x }
 {
-    (x >> 17 | x << 15) ^ (x >> 19 | x << 13) ^ (x >> 10)
-}
-
-// The word of four bytes, the highest first.
-fn word(a: u8, b: u8, c: u8, d: u8) -> u32
-    ensures { result ≡ S.word a b c d }
-{
-    (a as u32) * 0x100_0000 + (b as u32) * 0x1_0000 + (c as u32) * 0x100 + (d as u32)
+    x.rotate_right(17) ^ x.rotate_right(19) ^ (x >> 10)
 }
 
 // The word that starts at byte k (5.2.1).
@@ -79,7 +71,7 @@ fn word_at(m: &[u8], k: usize) -> u32
     requires { k + 4 ≤ length m.now }
     ensures { result ≡ S.word_at m.now k }
 {
-    word(m[k], m[k + 1], m[k + 2], m[k + 3])
+    u32::from_be_bytes([m[k], m[k + 1], m[k + 2], m[k + 3]])
 }
 
 // The sixteen words of the block at byte k, in the first sixteen places.
@@ -87,11 +79,9 @@ fn block_words(m: &[u8], k: usize) -> [u32; 64]
     requires { k + 64 ≤ length m.now }
     ensures { take 16 result ≡ S.words m.now k 16 }
 {
-    let mut w = [0u32; 64];
-    let mut t = 0;
-    while t < 16 {
+    let mut w = [0; 64];
+    for t in 0..16 {
         w[t] = word_at(m, k + 4 * t);
-        t += 1;
     }
     w
 }
@@ -101,13 +91,10 @@ fn next_word(w: &[u32; 64], t: usize) -> u32
     requires { (16 ≤ t) × (t < 64) }
     ensures { result ≡ S.next_word w.now t }
 {
-    let w2 = w[t - 2];
-    let w7 = w[t - 7];
-    let w15 = w[t - 15];
-    let w16 = w[t - 16];
-    let x = wrapping_add_u32(small_sigma1(w2), w7);
-    let y = wrapping_add_u32(x, small_sigma0(w15));
-    wrapping_add_u32(y, w16)
+    small_sigma1(w[t - 2])
+        .wrapping_add(w[t - 7])
+        .wrapping_add(small_sigma0(w[t - 15]))
+        .wrapping_add(w[t - 16])
 }
 
 // The message schedule of the block at byte k.
@@ -116,11 +103,8 @@ fn schedule(m: &[u8], k: usize) -> [u32; 64]
     ensures { result ≡ S.schedule (S.words m.now k 16) 48 }
 {
     let mut w = block_words(m, k);
-    let mut t = 16;
-    while t < 64 {
-        let x = next_word(&w, t);
-        w[t] = x;
-        t += 1;
+    for t in 16..64 {
+        w[t] = next_word(&w, t);
     }
     w
 }
@@ -129,57 +113,44 @@ fn schedule(m: &[u8], k: usize) -> [u32; 64]
 fn round(v: HashValue, k: u32, w: u32) -> HashValue
     ensures { result ≡ S.round v k w }
 {
-    let x = wrapping_add_u32(v.h, big_sigma1(v.e));
-    let y = wrapping_add_u32(x, ch(v.e, v.f, v.g));
-    let t1 = wrapping_add_u32(wrapping_add_u32(y, k), w);
-    let t2 = wrapping_add_u32(big_sigma0(v.a), maj(v.a, v.b, v.c));
+    let t1 = v
+        .h
+        .wrapping_add(big_sigma1(v.e))
+        .wrapping_add(ch(v.e, v.f, v.g))
+        .wrapping_add(k)
+        .wrapping_add(w);
+    let t2 = big_sigma0(v.a).wrapping_add(maj(v.a, v.b, v.c));
     HashValue {
-        a: wrapping_add_u32(t1, t2),
+        a: t1.wrapping_add(t2),
         b: v.a,
         c: v.b,
         d: v.c,
-        e: wrapping_add_u32(v.d, t1),
+        e: v.d.wrapping_add(t1),
         f: v.e,
         g: v.f,
         h: v.g,
     }
 }
 
-// Round t: reads its constant and its word of the schedule.
-fn round_at(v: HashValue, w: &[u32; 64], k: &[u32; 64], t: usize) -> HashValue
-    requires { (k.now ≡ S.K) × (t < 64) }
-    ensures { result ≡ S.rounds v w.now t 1 }
-{
-    let kt = k[t];
-    let wt = w[t];
-    round(v, kt, wt)
-}
-
-// Eight rounds, from round t on.
-fn eight_rounds(v: HashValue, w: &[u32; 64], k: &[u32; 64], t: usize) -> HashValue
-    requires { (k.now ≡ S.K) × (t + 8 ≤ 64) }
+// Eight rounds, from round t on. One loop over all 64 is not unrolled, and takes a fifth more instructions.
+fn eight_rounds(v: HashValue, w: &[u32; 64], t: usize) -> HashValue
+    requires { t + 8 ≤ 64 }
     ensures { result ≡ S.rounds v w.now t 8 }
 {
-    let v1 = round_at(v, w, k, t);
-    let v2 = round_at(v1, w, k, t + 1);
-    let v3 = round_at(v2, w, k, t + 2);
-    let v4 = round_at(v3, w, k, t + 3);
-    let v5 = round_at(v4, w, k, t + 4);
-    let v6 = round_at(v5, w, k, t + 5);
-    let v7 = round_at(v6, w, k, t + 6);
-    round_at(v7, w, k, t + 7)
+    let mut u = v;
+    for i in 0..8 {
+        u = round(u, K[t + i], w[t + i]);
+    }
+    u
 }
 
 // All 64 rounds.
-fn rounds(v: HashValue, w: &[u32; 64], k: &[u32; 64]) -> HashValue
-    requires { k.now ≡ S.K }
+fn rounds(v: HashValue, w: &[u32; 64]) -> HashValue
     ensures { result ≡ S.rounds v w.now 0 64 }
 {
     let mut u = v;
-    let mut t = 0;
-    while t < 64 {
-        u = eight_rounds(u, w, k, t);
-        t += 8;
+    for i in 0..8 {
+        u = eight_rounds(u, w, 8 * i);
     }
     u
 }
@@ -189,36 +160,33 @@ fn sums(v: HashValue, s: HashValue) -> HashValue
     ensures { result ≡ S.sums v s }
 {
     HashValue {
-        a: wrapping_add_u32(v.a, s.a),
-        b: wrapping_add_u32(v.b, s.b),
-        c: wrapping_add_u32(v.c, s.c),
-        d: wrapping_add_u32(v.d, s.d),
-        e: wrapping_add_u32(v.e, s.e),
-        f: wrapping_add_u32(v.f, s.f),
-        g: wrapping_add_u32(v.g, s.g),
-        h: wrapping_add_u32(v.h, s.h),
+        a: v.a.wrapping_add(s.a),
+        b: v.b.wrapping_add(s.b),
+        c: v.c.wrapping_add(s.c),
+        d: v.d.wrapping_add(s.d),
+        e: v.e.wrapping_add(s.e),
+        f: v.f.wrapping_add(s.f),
+        g: v.g.wrapping_add(s.g),
+        h: v.h.wrapping_add(s.h),
     }
 }
 
 // The hash value after the block at byte j of m.
-fn compress(s: HashValue, m: &[u8], j: usize, k: &[u32; 64]) -> HashValue
-    requires { (k.now ≡ S.K) × (j + 64 ≤ length m.now) }
+fn compress(s: HashValue, m: &[u8], j: usize) -> HashValue
+    requires { j + 64 ≤ length m.now }
     ensures { result ≡ S.compress s m.now j }
 {
-    let w = schedule(m, j);
-    sums(rounds(s, &w, k), s)
+    sums(rounds(s, &schedule(m, j)), s)
 }
 
 // The hash value after the first n blocks of m, from s on.
-fn blocks(s: HashValue, m: &[u8], n: usize, k: &[u32; 64]) -> HashValue
-    requires { (k.now ≡ S.K) × (n * 64 ≤ length m.now) }
+fn blocks(s: HashValue, m: &[u8], n: usize) -> HashValue
+    requires { n * 64 ≤ length m.now }
     ensures { result ≡ S.blocks s m.now n }
 {
     let mut v = s;
-    let mut i = 0;
-    while i < n {
-        v = compress(v, m, i * 64, k);
-        i += 1;
+    for i in 0..n {
+        v = compress(v, m, i * 64);
     }
     v
 }
@@ -244,13 +212,8 @@ fn rest(m: &[u8], k: usize) -> [u8; 128]
     requires { (k ≤ length m.now) × (length m.now < k + 64) }
     ensures { result ≡ drop k m.now ++ replicate (128 - (length m.now - k)) 0 }
 {
-    let mut b = [0u8; 128];
-    let n = m.len() - k;
-    let mut i = 0;
-    while i < n {
-        b[i] = m[k + i];
-        i += 1;
-    }
+    let mut b = [0; 128];
+    b[..m.len() - k].copy_from_slice(&m[k..]);
     b
 }
 
@@ -277,32 +240,19 @@ fn words_of(s: HashValue) -> [u32; 8]
 fn digest(s: HashValue) -> [u8; 32]
     ensures { result ≡ S.digest s }
 {
-    let w = words_of(s);
-    let mut d = [0u8; 32];
-    let mut i = 0;
-    while i < 8 {
-        let x = w[i] as u64;
-        put_be(&mut d, 4 * i, 4, x);
-        i += 1;
+    let mut d = [0; 32];
+    for (i, w) in words_of(s).iter().enumerate() {
+        put_be(&mut d, 4 * i, 4, u64::from(*w));
     }
     d
-}
-
-// The round constants, built once per call and lent to the rounds: an indexed constant is rebuilt on the stack at each evaluation.
-fn constants() -> [u32; 64]
-    ensures { result ≡ S.K }
-{
-    K
 }
 
 // The message digest of m: over its whole blocks, then over the one or two blocks that end with the padding.
 pub fn sha256(m: &[u8]) -> [u8; 32]
     ensures { result ≡ S.sha256 m.now }
 {
-    let k = constants();
     let q = m.len() / 64;
     let n = (m.len() % 64 + 72) / 64;
     let b = padded_end(m, q * 64, n * 64);
-    let v = blocks(initial(), m, q, &k);
-    digest(blocks(v, &b, n, &k))
+    digest(blocks(blocks(initial(), m, q), &b, n))
 }

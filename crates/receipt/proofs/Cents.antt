@@ -1,19 +1,9 @@
 -- Amounts: writing them, and reading what was written.
-use mathlib.Core.Path.{◌≡◌, refl, sym, ap, ◌∙◌}
-use mathlib.Core.Bool.{Bool, true, false, cond}
-use mathlib.Core.List.{List, [], ◌∷◌, ◌++◌, append_assoc}
-use Prim.Native.Nat.{ℕ, zero, suc, ◌+◌, ◌-◌, ◌*◌, ◌/◌, ◌%◌, ◌^◌, ◌<◌, ◌≤◌}
-use native.Mathlib.Omega.{arith}
-use borrow.Author.Tests.{leb-true, ltb-true, ltb-false, eq-eqb, ne_eqb}
-use lib.Dec.{ltb}
-use lib.IntN.{ℤ, pos, negsuc, nat_abs, neg_ℤ, ◌-ℤ◌}
+use Rattle.std.proofs.Common.{◌≡◌, refl, sym, ap, ◌∙◌, Bool, true, false, cond, ◌&&◌, List, [], ◌∷◌, ◌++◌, append_assoc, ℕ, zero, suc, ◌+◌, ◌-◌, ◌*◌, ◌/◌, ◌%◌, ◌^◌, ◌<◌, ◌≤◌, arith, leb-true, ltb-true, ltb-false, eq-eqb, ne_eqb, eqb-true, ltb, eqb, ℤ, pos, negsuc, nat_abs, neg_ℤ, ◌-ℤ◌, length, get_or, length-append, w64, SFits, to_z, of_z, to_z-of_z}
+use Rattle.std.proofs.lemmas.Bool.{eqb-false}
+use Rattle.std.specs.List.{starts_with}
 use lib.Signed.{lt_z}
-use lib.ListN.{length, drop, get_or, length-append, get_or-eq_default}
-use lib.Seq.{get_or-drop}
-use native.Mathlib.Nat.{add-zero}
-use mir.Syntax.{w64}
-use mir.Val.{SFits, to_z, of_z}
-use mir.Facts.{to_z-of_z, to_z_pos}
+use mir.Facts.{to_z_pos}
 use Rattle.primitives.specs.Place.{overwrite}
 use Rattle.receipt.specs.Decimal.{fixed_onto, fixed, digits, read_limit, value_from, value_of}
 use Rattle.receipt.specs.Exact.{AmountIsShort}
@@ -117,6 +107,14 @@ negative_fits : (m : ℕ) → m < read_limit → SFits w64 (neg_ℤ (pos m))
 negative_fits zero h = record { sfits = omega arith }
 negative_fits (suc m) h = record { sfits = omega arith }
 
+begins : (bs : List ℕ) → starts_with eqb bs (45 ∷ []) ≡ eqb (get_or bs 0 0) 45
+begins [] = refl
+begins (b ∷ bs) = go (eqb 45 b) refl
+  where
+    go : (t : Bool) → eqb 45 b ≡ t → t && true ≡ eqb b 45
+    go true e = sym (eq-eqb b 45 (sym (eqb-true 45 b e)))
+    go false e = sym (ne_eqb b 45 (λ q. eqb-false 45 b e (sym q)))
+
 module _ {m : ℕ} (h : m < read_limit) where
   positive : to_z w64 m ≡ pos m
   positive = let l : m < 2 ^ 63 = omega arith in to_z_pos w64 l
@@ -127,17 +125,12 @@ module _ {m : ℕ} (h : m < read_limit) where
   pub below_fits : SFits w64 (pos 0 -ℤ to_z w64 m)
   below_fits = rw machine (negative_fits m h)
 
-  module _ (text : List ℕ) (at : ℕ) (e : m ≡ value_of (drop at text)) where
-    first : get_or (drop at text) 0 0 ≡ get_or text at 0
-    first = get_or-drop at text 0 0 ∙ ap (λ (k : ℕ). get_or text k 0) (add-zero at)
-
-    pub read_below : get_or text at 0 ≡ 45 → to_z w64 (of_z w64 (pos 0 -ℤ to_z w64 m)) ≡ read_amount (drop at text)
+  -- a text of this value that begins with '-', and one that does not
+  module _ (bs : List ℕ) (e : m ≡ value_of bs) where
+    pub read_below : starts_with eqb bs (45 ∷ []) ≡ true → to_z w64 (of_z w64 (pos 0 -ℤ to_z w64 m)) ≡ read_amount bs
     unfolding read_amount
-    read_below q = rw (machine, eq-eqb _ 45 (first ∙ q), ← e) (to_z-of_z (negative_fits m h))
+    read_below q = rw (machine, sym (begins bs) ∙ q, ← e) (to_z-of_z (negative_fits m h))
 
-    pub read_from : (get_or text at 0 ≡ 45 → ⊥) → to_z w64 m ≡ read_amount (drop at text)
+    pub read_from : starts_with eqb bs (45 ∷ []) ≡ false → to_z w64 m ≡ read_amount bs
     unfolding read_amount
-    read_from q = rw (ne_eqb _ 45 (λ p. q (sym first ∙ p)), ← e) positive
-
-    pub read_none : length text ≤ at → to_z w64 m ≡ read_amount (drop at text)
-    read_none l = read_from (λ q. let z = get_or-eq_default text 0 l in omega arith)
+    read_from q = rw (sym (begins bs) ∙ q, ← e) positive

@@ -1,15 +1,6 @@
 -- The chain value and the encrypted counter: the code's steps, and what is known of them.
-use Prim.Native.Nat.{ℕ, ◌+◌, ◌-◌, ◌<◌, ◌≤◌, ◌^◌, min}
-use mathlib.Core.Path.{◌≡◌, sym, ap, ◌∙◌}
-use mathlib.Core.Bool.{true}
-use mathlib.Core.List.{List}
-use native.Mathlib.Omega.{arith}
-use lib.IntN.{ℤ}
-use lib.ListN.{length, take, drop, replicate, length-append, length-replicate}
-use lib.Seq.{length-take-le, drop-append_seam}
-use mir.Syntax.{w64}
-use mir.Val.{SFits, to_z, of_z}
-use mir.Facts.{to_z-of_z}
+use Rattle.std.proofs.Common.{ℕ, ◌+◌, ◌-◌, ◌<◌, ◌≤◌, ◌^◌, ◌≡◌, sym, ap, ◌∙◌, true, List, arith, ℤ, length, take, drop, replicate, length-append, length-take-le}
+use lib.Seq.{drop-append_seam}
 use Rattle.primitives.specs.Place.{overwrite, placed, place_after}
 use Rattle.primitives.specs.Bytes.{AllBytes}
 use Rattle.primitives.specs.Sha256.{sha256}
@@ -24,20 +15,9 @@ use Rattle.receipt.specs.Decimal.{digits}
 use Rattle.receipt.specs.Settings.{name_text}
 use Rattle.receipt.specs.Chain.{chain_value, hash_input, iv, key_stream, encrypted_counter, NothingToEncrypt, decrypted_counter, DecryptionUndoesEncryption, OneHashInput}
 use Rattle.receipt.specs.declared.settings.Name.{Name}
-use Rattle.receipt.proofs.Missing.{filled, after_counter, after_xor_first}
+use Rattle.receipt.proofs.Missing.{after_counter, after_xor_first}
 use Rattle.receipt.proofs.Digits.{length_digits, width_short, digits_same}
-use Rattle.receipt.proofs.Names.{text_short, take_lesser}
-
--- ---- the first bytes of a digest, copied
-
-first : (n : ℕ) (m : List ℕ) {h b : List ℕ} → n ≤ 32 → h ≡ sha256 m → b ≡ placed (replicate n 0) 0 (take n h) → b ≡ take n (sha256 m)
-first n m l e q =
-    q ∙ ap (λ (h : List ℕ). placed (replicate n 0) 0 (take n h)) e
-    ∙ filled (replicate n 0) (take n (sha256 m)) (length-replicate n 0 ∙ sym (length-take-le n (sha256 m) (omega (arith, length_sha256 m))))
-
-pub chain_first : (m : List ℕ) {h b : List ℕ} → h ≡ sha256 m → b ≡ placed (replicate 8 0) 0 (take 8 h) → b ≡ chain_value m
-unfolding chain_value
-chain_first m e q = first 8 m (omega arith) e q
+use Rattle.receipt.proofs.Names.{text_short}
 
 -- ---- the input of the hash
 
@@ -49,52 +29,34 @@ pub input_short : (id : Name) (number : ℕ) → length id.bytes ≡ 32 → numb
 unfolding hash_input
 input_short id number l k = omega (arith, length-append (name_text id) (digits number), text_short id l, number_short number k)
 
-module _ (id : Name) (number : ℕ) (out : List ℕ) {n p : ℕ} {out₁ : List ℕ} (l : length id.bytes ≡ 32) (k : number < 2 ^ 32)
-    (room : 42 ≤ length out) (e : n ≡ min id.len 32) (q : p ≡ place_after out 0 (take (n - 0) id.bytes))
-    (w : out₁ ≡ placed out 0 (take (n - 0) id.bytes)) where
-  -- what is copied is the name's text
-  copied : take (n - 0) id.bytes ≡ name_text id
-  unfolding name_text
-  copied = take_lesser id.len id.bytes (e ∙ ap (min id.len) (sym l))
-
+-- the input, written to a buffer and lent from it: the name's text t, then the number m
+module _ (id : Name) (number : ℕ) (out : List ℕ) {t : List ℕ} {p m : ℕ} {out₁ : List ℕ} (l : length id.bytes ≡ 32) (k : number < 2 ^ 32)
+    (room : length out ≡ 42) (e : t ≡ name_text id) (q : p ≡ place_after out 0 t) (w : out₁ ≡ placed out 0 t) (n : m ≡ number) where
   fits : 0 + length (name_text id) ≤ length out
   fits = omega (arith, text_short id l)
 
   place : p ≡ 0 + length (name_text id)
-  place = q ∙ ap (place_after out 0) copied ∙ after_room out 0 (name_text id) fits
+  place = q ∙ ap (place_after out 0) e ∙ after_room out 0 (name_text id) fits
 
   written : out₁ ≡ overwrite out 0 (name_text id)
-  written = w ∙ ap (placed out 0) copied ∙ placed_room out 0 (name_text id) fits
+  written = w ∙ ap (placed out 0) e ∙ placed_room out 0 (name_text id) fits
 
-  pub input_room : p + length (digits number) ≤ length out₁
-  input_room = omega (arith, ap length written, length_over out 0 (name_text id) fits, place, text_short id l, number_short number k)
+  pub input_room : p + length (digits m) ≤ length out₁
+  input_room = rw n (omega (arith, ap length written, length_over out 0 (name_text id) fits, place, text_short id l, number_short number k))
 
-  pub input_put : {r : ℕ} {out₂ : List ℕ} → r ≡ p + length (digits number) → out₂ ≡ overwrite out₁ p (digits number)
-      → (r ≡ length (hash_input id number)) × (out₂ ≡ overwrite out 0 (hash_input id number))
-  unfolding hash_input
-  input_put f g = (omega (arith, place, length-append (name_text id) (digits number)), then out (name_text id) (digits number) 0 p written g place fits)
+  module _ {end : ℕ} {out₂ : List ℕ} (f : end ≡ p + length (digits m)) (g : out₂ ≡ overwrite out₁ p (digits m)) where
+    input_end : end ≡ length (hash_input id number)
+    unfolding hash_input
+    input_end = f ∙ rw n (omega (arith, place, length-append (name_text id) (digits number)))
 
--- the input, lent from the buffer
-pub input_lent : (id : Name) (number : ℕ) (out : List ℕ) {n : ℕ} {b : List ℕ} → length (hash_input id number) ≤ length out → n ≡ length (hash_input id number)
-    → b ≡ overwrite out 0 (hash_input id number) → take (n - 0) b ≡ hash_input id number
-input_lent id number out {n} {b} h e q =
-    let s : n - 0 ≡ length (hash_input id number) = omega arith in
-    (λ i. take (s i) (q i)) ∙ read_over out 0 (hash_input id number) (omega arith)
+    pub input_within : end ≤ 42
+    input_within = omega (arith, input_end, input_short id number l k)
 
-pub iv_first : (id : Name) (number : ℕ) {m h b : List ℕ} → m ≡ hash_input id number → h ≡ sha256 m → b ≡ placed (replicate 16 0) 0 (take 16 h) → b ≡ iv id number
-unfolding iv
-iv_first id number s e q = first 16 (hash_input id number) (omega arith) (e ∙ ap sha256 s) q
-
--- ---- the counter's way there and back
-
-module _ (schedule : List (List ℕ)) (id : Name) (number n : ℕ) {stream : List ℕ} (s : stream ≡ key_stream schedule id number) where
-  pub encrypted : (z : ℤ) {b r : List ℕ} → SFits w64 z → b ≡ counter_bytes n (to_z w64 (of_z w64 z)) → r ≡ xor_first n b stream → r ≡ encrypted_counter schedule id number n z
-  unfolding encrypted_counter
-  encrypted z f e q = q ∙ (λ i. xor_first n ((e ∙ ap (counter_bytes n) (to_z-of_z f)) i) (s i))
-
-  pub decrypted : (bytes : List ℕ) {b : List ℕ} {v : ℤ} → SFits w64 v → b ≡ xor_first n bytes stream → v ≡ counter_value n b → to_z w64 (of_z w64 v) ≡ decrypted_counter schedule id number n bytes
-  unfolding decrypted_counter
-  decrypted bytes f e q = to_z-of_z f ∙ q ∙ ap (counter_value n) (e ∙ ap (xor_first n bytes) s)
+    pub input_lent : take end out₂ ≡ hash_input id number
+    unfolding hash_input
+    input_lent =
+        (λ i. take (input_end i) (then out (name_text id) (digits number) 0 p written (g ∙ ap (λ (j : ℕ). overwrite out₁ p (digits j)) n) place fits i))
+        ∙ read_over out 0 (hash_input id number) (omega (arith, input_short id number l k))
 
 -- ---- what is known of the chain value
 

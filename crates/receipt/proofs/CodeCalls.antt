@@ -1,34 +1,23 @@
 -- What the functions of the code show at their returns, over plain lists.
-use Prim.Native.Nat.{ℕ, ◌+◌, ◌-◌, ◌≤◌, ◌<◌}
-use mathlib.Core.Path.{◌≡◌, refl, sym, ap, ◌∙◌}
-use mathlib.Core.Bool.{Bool, true, false, not, ◌&&◌}
-use mathlib.Core.List.{List, [], ◌∷◌, ◌++◌}
-use mathlib.Core.Option.{none, some}
-use native.Mathlib.Nat.{add_comm}
-use native.Mathlib.Omega.{arith}
-use borrow.Author.Tests.{lt-ltb, le-ltb, leb-true, leb-false}
-use lib.Dec.{ltb, leb}
-use lib.ListN.{length, take, drop, length-append}
-use lib.Seq.{length-take-le}
+use Rattle.std.proofs.Common.{ℕ, ◌+◌, ◌≤◌, ◌<◌, ◌≡◌, refl, sym, ap, ◌∙◌, Bool, true, false, List, [], ◌∷◌, ◌++◌, add_comm, arith, lt-ltb, le-ltb, leb-true, leb-false, ltb, leb, length, take, drop, length-append, length-take}
+use mathlib.Core.Bool.{and-false}
+use mathlib.Core.Option.{Option, none, some}
 use Rattle.primitives.specs.Place.{overwrite, placed, place_after}
 use Rattle.primitives.specs.Base64.{encoding, decoding}
 use Rattle.primitives.specs.declared.base64.Alphabet.TheVariants.{Standard}
 use Rattle.primitives.proofs.Over.{placed_room, placed_full, after_room, after_full}
-use Rattle.primitives.proofs.Questions.{yes, no}
-use Rattle.primitives.specs.declared.answer.Answer.{Answer}
+use Rattle.primitives.specs.Answers.{Answer}
 use Rattle.receipt.specs.declared.machine_code.Part.{Part}
-use Rattle.receipt.specs.declared.form.Reading.{Reading}
-use Rattle.receipt.specs.Form.{next_at, part, further, parts, payload_good, signature_good, parts_good, signed_form, parts_of_form}
+use Rattle.receipt.specs.Form.{next_at, part, further, Parts, parts, good_parts, signed_form, parts_of_form}
 use Rattle.receipt.specs.Code.{last_at, code_text, parts_of_code, code_answer, code_buffer, uncode_answer, uncode_buffer, id_start, id_end, id_there, nowhere, id_place, id_field}
 use Rattle.primitives.specs.Answers.{written}
-use Rattle.receipt.specs.Payload.{longest_payload}
-use Rattle.receipt.specs.FormReading.{short, found}
+use Rattle.receipt.specs.FormReading.{fitting}
 use Rattle.primitives.proofs.Answers.{written_room, written_full}
-use Rattle.receipt.proofs.Finding.{next_most}
-use Rattle.receipt.proofs.CodeTexts.{good_payload, good_signature, read_signed}
-use Rattle.receipt.proofs.Forms.{length_form}
-use Rattle.receipt.proofs.Codes.{code_good}
-use Rattle.receipt.proofs.FormCalls.{lent_front, signature_read, found_none, found_some, put_next}
+use Rattle.receipt.proofs.Finding.{next_from}
+use Rattle.receipt.proofs.CodeTexts.{good_signature, fit_signature}
+use Rattle.receipt.proofs.Forms.{length_form, form_good}
+use Rattle.receipt.proofs.Codes.{code_good, code_payload}
+use Rattle.receipt.proofs.FormCalls.{put_next}
 
 -- ---- reading a code
 
@@ -36,24 +25,13 @@ pub code_none : (code : List ℕ) → length code ≤ last_at 95 code → none �
 unfolding parts_of_code
 code_none code h = rw (le-ltb (last_at 95 code) (length code) h)
 
-module _ (code sig₀ sig : List ℕ) (n m : ℕ) (lb : length sig₀ ≡ 64) (is : n ≡ last_at 95 code) (h : n < length code)
-    (py : (m ≤ length sig₀) × (take m sig ≡ short (length sig₀) (decoding Standard (take (length code - (n + 1)) (drop (n + 1) code))))) where
-  code_found : found (payload_good (take n code) && signature_good (take m sig)) (take n code) (take m sig) ≡ parts_of_code code
-  unfolding parts_of_code
-  code_found =
-      rw (sym is, lt-ltb n (length code) h, signature_read Standard code sig₀ sig (n + 1) m lb py)
-      (read_signed (take n code) (decoding Standard (drop (n + 1) code)))
-
-  pub code_bad : {g : Bool} → g ≡ payload_good (take (n - 0) code) → not g ≡ true → none ≡ parts_of_code code
-  unfolding found
-  code_bad q t = rw (sym (lent_front code n), no q t) at code_found
-
-  pub code_read : {g r : Bool} → g ≡ payload_good (take (n - 0) code) → not g ≡ false → r ≡ signature_good (take (m - 0) sig)
-      → (n ≤ length code) × (m ≤ 64) × (found r (take n code) (take m sig) ≡ parts_of_code code)
-  code_read {g} {r} q t w =
-      let a : payload_good (take n code) ≡ true = ap payload_good (sym (lent_front code n)) ∙ yes q t in
-      let b : signature_good (take m sig) ≡ r = ap signature_good (sym (lent_front sig m)) ∙ sym w in
-      (omega arith, omega (arith, py.0), rw (a, b) at code_found)
+-- the payload, and a signature that is read into a buffer of 64 bytes
+pub code_parts : (code x y : List ℕ) → last_at 95 code < length code → x ≡ take (last_at 95 code) code → y ≡ drop (last_at 95 code + 1) code → {b : ℕ} → b ≡ 64
+    → {o : Option (List ℕ)} → o ≡ fitting b (decoding Standard y) → good_parts (some x) o ≡ parts_of_code code
+unfolding parts_of_code
+code_parts code x y h p q lb e =
+    (λ i. good_parts (some (p i)) (e i)) ∙ (λ i. good_parts (some (take (last_at 95 code) code)) (fitting (lb i) (decoding Standard (q i))))
+    ∙ fit_signature (some (take (last_at 95 code) code)) (decoding Standard (drop (last_at 95 code + 1) code)) ∙ rw (lt-ltb (last_at 95 code) (length code) h)
 
 -- ---- writing
 
@@ -107,118 +85,69 @@ module _ (out text : List ℕ) (n : ℕ) (is : n ≡ place_after out 0 text) whe
 
 -- ---- the calls
 
-module _ (form out pay sig : List ℕ) (r : Reading) (e : found r.good (take r.payload pay) (take r.signature sig) ≡ parts_of_form form) where
-  pub code_refused : not r.good ≡ true → (record { number = 22; length = 0 } ≡ code_answer form out) × (out ≡ code_buffer form out)
-  unfolding code_answer code_buffer
-  code_refused t = let q : none ≡ parts_of_form form = found_none r.good (take r.payload pay) (take r.signature sig) e t in (rw (sym q), rw (sym q))
+-- the signature of an accepted text is short
+pub form_signature : (form : List ℕ) {p : Parts} → some p ≡ parts_of_form form → length p.signature ≤ 64
+form_signature form {p} e = good_signature p (form_good form p (sym e))
 
-  pub code_accepted : {a : Answer} {out' : List ℕ} → not r.good ≡ false
-      → (a ≡ written out (code_text (parts (take (r.payload - 0) pay) (take (r.signature - 0) sig)))) × (out' ≡ placed out 0 (code_text (parts (take (r.payload - 0) pay) (take (r.signature - 0) sig))))
+pub code_signature : (code : List ℕ) {p : Parts} → some p ≡ parts_of_code code → length p.signature ≤ 64
+code_signature code {p} e = good_signature p (code_good code p (sym e))
+
+module _ (form out : List ℕ) where
+  pub code_refused : none ≡ parts_of_form form → (record { number = 22; length = 0 } ≡ code_answer form out) × (out ≡ code_buffer form out)
+  unfolding code_answer code_buffer
+  code_refused e = (rw (sym e), rw (sym e))
+
+  pub code_accepted : {p : Parts} {a : Answer} {out' : List ℕ} → some p ≡ parts_of_form form → (a ≡ written out (code_text p)) × (out' ≡ placed out 0 (code_text p))
       → (a ≡ code_answer form out) × (out' ≡ code_buffer form out)
   unfolding code_answer code_buffer
-  code_accepted t h =
-      let q : some (parts (take r.payload pay) (take r.signature sig)) ≡ parts_of_form form = found_some r.good (take r.payload pay) (take r.signature sig) e t in
-      (rw (sym q, sym (lent_front pay r.payload), sym (lent_front sig r.signature)) h.0, rw (sym q, sym (lent_front pay r.payload), sym (lent_front sig r.signature)) h.1)
+  code_accepted e h = (rw (sym e) h.0, rw (sym e) h.1)
 
-module _ (code sig : List ℕ) (r : Reading) (e : found r.good (take r.payload code) (take r.signature sig) ≡ parts_of_code code) where
-  -- the parts of an accepted code are short
-  pub code_lengths : not r.good ≡ false → (length (take (r.payload - 0) code) ≤ longest_payload) × (length (take (r.signature - 0) sig) ≤ 64)
-  code_lengths t =
-      let q : parts_of_code code ≡ some (parts (take r.payload code) (take r.signature sig)) = sym (found_some r.good (take r.payload code) (take r.signature sig) e t) in
-      let k : parts_good (parts (take r.payload code) (take r.signature sig)) ≡ true = code_good code (parts (take r.payload code) (take r.signature sig)) q in
-      rw (lent_front code r.payload, lent_front sig r.signature)
-      (good_payload (parts (take r.payload code) (take r.signature sig)) k, good_signature (parts (take r.payload code) (take r.signature sig)) k)
-
-module _ (code out sig : List ℕ) (r : Reading) (e : found r.good (take r.payload code) (take r.signature sig) ≡ parts_of_code code) where
-  pub uncode_refused : not r.good ≡ true → (record { number = 24; length = 0 } ≡ uncode_answer code out) × (out ≡ uncode_buffer code out)
+module _ (code out : List ℕ) where
+  pub uncode_refused : none ≡ parts_of_code code → (record { number = 24; length = 0 } ≡ uncode_answer code out) × (out ≡ uncode_buffer code out)
   unfolding uncode_answer uncode_buffer
-  uncode_refused t = let q : none ≡ parts_of_code code = found_none r.good (take r.payload code) (take r.signature sig) e t in (rw (sym q), rw (sym q))
+  uncode_refused e = (rw (sym e), rw (sym e))
 
-  module _ {a : ℕ} {out' : List ℕ} (t : not r.good ≡ false)
-      (h : (a ≡ place_after out 0 (signed_form (parts (take (r.payload - 0) code) (take (r.signature - 0) sig)))) × (out' ≡ placed out 0 (signed_form (parts (take (r.payload - 0) code) (take (r.signature - 0) sig))))) where
-    taken : some (parts (take (r.payload - 0) code) (take (r.signature - 0) sig)) ≡ parts_of_code code
-    taken = rw (lent_front code r.payload, lent_front sig r.signature) (found_some r.good (take r.payload code) (take r.signature sig) e t)
-
-    made : List ℕ
-    made = signed_form (parts (take (r.payload - 0) code) (take (r.signature - 0) sig))
-
+  module _ {p : Parts} {a : ℕ} {out' : List ℕ} (e : some p ≡ parts_of_code code) (h : (a ≡ place_after out 0 (signed_form p)) × (out' ≡ placed out 0 (signed_form p))) where
     pub uncode_full : a ≡ 0 → (record { number = 23; length = 0 } ≡ uncode_answer code out) × (out' ≡ uncode_buffer code out)
-    unfolding uncode_answer uncode_buffer made
+    unfolding uncode_answer uncode_buffer
     uncode_full z =
-        let l : 1 ≤ length made = omega (arith, length_form (parts (take (r.payload - 0) code) (take (r.signature - 0) sig))) in
-        (rw (sym taken) (wrote_none out made a h.0 z l), rw (sym taken) h.1)
+        let l : 1 ≤ length (signed_form p) = omega (arith, length_form p) in
+        (rw (sym e) (wrote_none out (signed_form p) a h.0 z l), rw (sym e) h.1)
 
     pub uncode_written : (a ≡ 0 → ⊥) → (record { number = 0; length = a } ≡ uncode_answer code out) × (out' ≡ uncode_buffer code out)
-    unfolding uncode_answer uncode_buffer made
-    uncode_written z = (rw (sym taken) (wrote_some out made a h.0 z), rw (sym taken) h.1)
+    unfolding uncode_answer uncode_buffer
+    uncode_written z = (rw (sym e) (wrote_some out (signed_form p) a h.0 z), rw (sym e) h.1)
 
 -- ---- the ID field
 
--- the place of the ID field of a code
-abbrev pub Placed : List ℕ → Part → Type 0
-Placed code x = (x ≡ id_place code) × (x.start ≤ x.end) × (x.end ≤ length code)
+pub no_id : (code : List ℕ) → none ≡ parts_of_code code → id_place code ≡ nowhere
+unfolding id_place
+no_id code e = rw (sym e)
 
--- `nowhere` is right if there is no field
-none_placed : (code : List ℕ) {x : Part} → x ≡ nowhere → nowhere ≡ id_place code → Placed code x
-none_placed code h k = rw (h) (k, omega arith, omega arith)
+module _ (code : List ℕ) {p : Parts} (e : some p ≡ parts_of_code code) where
+  -- the payload lies in the code
+  pub payload_within : length p.payload ≤ length code
+  payload_within = omega (arith, ap length (code_payload code p (sym e)), length-take (last_at 95 code) code)
 
-module _ (code sig : List ℕ) (r : Reading) (e : found r.good (take r.payload code) (take r.signature sig) ≡ parts_of_code code) where
-  pub no_id : {x : Part} → x ≡ nowhere → not r.good ≡ true → Placed code x
-  unfolding id_place
-  no_id h t =
-      let q : none ≡ parts_of_code code = found_none r.good (take r.payload code) (take r.signature sig) e t in
-      none_placed code h (rw (sym q))
+  pub no_second : length p.payload ≤ next_at 95 p.payload 1 → id_place code ≡ nowhere
+  unfolding id_place id_there id_start id_end
+  no_second h =
+      let k : length p.payload ≤ next_at 95 p.payload (next_at 95 p.payload 1 + 1) = omega (arith, next_from 95 p.payload (next_at 95 p.payload 1 + 1)) in
+      rw (sym e, le-ltb (next_at 95 p.payload (next_at 95 p.payload 1 + 1)) (length p.payload) k)
 
-  module _ (t : not r.good ≡ false) {f : ℕ} (er : f ≡ next_at 95 (take (r.payload - 0) code) 1) where
-    p : List ℕ
-    p = take r.payload code
+  module _ {a : ℕ} (is : next_at 95 p.payload 1 ≡ a) where
+    pub no_third : length p.payload ≤ next_at 95 p.payload (a + 1) → id_place code ≡ nowhere
+    unfolding id_place id_there id_start id_end
+    no_third h = rw (sym e, is, le-ltb (next_at 95 p.payload (a + 1)) (length p.payload) h)
 
-    start_is : f + 1 ≡ id_start p
-    unfolding id_start p
-    start_is = ap (λ (k : ℕ). k + 1) (er ∙ ap (λ (l : List ℕ). next_at 95 l 1) (lent_front code r.payload))
+    module _ {k : ℕ} (ends : next_at 95 p.payload (a + 1) ≡ k) where
+      pub nothing_between : k ≤ a + 1 → id_place code ≡ nowhere
+      unfolding id_place id_there id_start id_end
+      nothing_between h = rw (sym e, is, ends, le-ltb (a + 1) k h, and-false (ltb k (length p.payload)))
 
-    -- the second mark stands in the payload, or at its end
-    pub second_small : f ≤ longest_payload + 1
-    second_small = omega (arith, er, next_most 95 (take (r.payload - 0) code) 1, (code_lengths code sig r e t).0)
-
-    module _ {k : ℕ} (ek : k ≡ next_at 95 (take (r.payload - 0) code) (f + 1)) (within : r.payload ≤ length code) where
-      end_is : k ≡ id_end p
-      unfolding id_end p
-      end_is = ek ∙ (λ i. next_at 95 (lent_front code r.payload i) (start_is i))
-
-      long : length p ≡ r.payload
-      unfolding p
-      long = length-take-le r.payload code within
-
-      q : some (parts p (take r.signature sig)) ≡ parts_of_code code
-      unfolding p
-      q = found_some r.good (take r.payload code) (take r.signature sig) e t
-
-      -- no third mark, or nothing before it
-      missing : {x : Part} → x ≡ nowhere → id_there p ≡ false → Placed code x
-      unfolding id_place
-      missing h w = none_placed code h (rw (sym q, w))
-
-      pub id_unended : {x : Part} → x ≡ nowhere → r.payload ≤ k → Placed code x
-      unfolding id_there
-      id_unended h l = missing h (rw (le-ltb (id_end p) (length p) (omega (arith, long, end_is))))
-
-      module _ (h : k < r.payload) where
-        ended : ltb (id_end p) (length p) ≡ true
-        ended = lt-ltb (id_end p) (length p) (omega (arith, long, end_is))
-
-        pub id_empty : {x : Part} → x ≡ nowhere → k ≤ f + 1 → Placed code x
-        unfolding id_there
-        id_empty g l = missing g (rw (ended, le-ltb (id_start p) (id_end p) (omega (arith, start_is, end_is))))
-
-        pub id_there_lem : f + 1 < k → Placed code (record { start = f + 1; end = k })
-        unfolding id_place id_there p
-        id_there_lem l =
-            let w : ltb (id_start p) (id_end p) ≡ true = lt-ltb (id_start p) (id_end p) (omega (arith, start_is, end_is)) in (
-              rw (start_is, end_is, sym q, ended, w),
-              omega arith,
-              omega arith,
-            )
+      pub id_found : k < length p.payload → a + 1 < k → record { start = a + 1; end = k } ≡ id_place code
+      unfolding id_place id_there id_start id_end
+      id_found h l = rw (sym e, is, ends, lt-ltb k (length p.payload) h, lt-ltb (a + 1) k l)
 
 -- the part at the place that was found, and where it lies
 pub field_at : (m : ℕ × ℕ) (code : List ℕ) {x : Part} → x ≡ id_place code

@@ -1,22 +1,19 @@
 -- Good parts of compact form and code.
-use Prim.Native.Nat.{ℕ, ◌≤◌, ◌<◌}
-use mathlib.Core.Path.{◌≡◌, refl, sym, ap, ◌∙◌}
-use mathlib.Core.Bool.{Bool, true, false, cond, ◌&&◌, ◌||◌, and-false}
-use mathlib.Core.List.{List, []}
+use Rattle.std.proofs.lemmas.Bool.{lt-leb}
+use Rattle.std.proofs.Common.{ℕ, ◌≤◌, ◌<◌, ◌≡◌, refl, sym, ap, ◌∙◌, Bool, true, false, cond, ◌&&◌, ◌||◌, List, arith, le-leb, leb-true, leb-false, eq-eqb, ne_eqb, eqb-true, leb, eqb, length, take, length-take}
+use mathlib.Core.Bool.{and-false}
 use mathlib.Core.Option.{Option, none, some}
-use native.Mathlib.Omega.{arith}
-use borrow.Author.Tests.{le-leb, lt-leb, leb-true, leb-false, eq-eqb, ne_eqb, eqb-true}
-use lib.Dec.{leb, eqb}
-use lib.ListN.{length, take}
+use Rattle.std.specs.Cmp.Lexicographic.{pointwise}
 use Rattle.primitives.specs.Bytes.{same}
 use Rattle.primitives.proofs.ByteLists.{same_true, same_length}
 use Rattle.primitives.proofs.Rows.{both}
 use Rattle.receipt.specs.Payload.{longest_payload}
 use Rattle.receipt.specs.Texts.{beginning}
 use Rattle.receipt.specs.Form.{Parts, parts, payload_good, signature_good, parts_good, good_parts, failure_text}
-use Rattle.receipt.specs.FormReading.{short, found}
+use Rattle.receipt.specs.FormReading.{fitting}
 use Rattle.receipt.specs.CodeLaws.{MadeOf, Exactly}
-use Rattle.receipt.proofs.Texts.{failure_long}
+use Rattle.receipt.proofs.Texts.{beginning_long, failure_long}
+use Rattle.receipt.proofs.Worded.{same_is, same_turned}
 
 -- ---- the payload
 
@@ -32,6 +29,16 @@ module _ (p : List ℕ) where
   pub payload_mark : {r : Bool} {mark : List ℕ} → 4 ≤ length p → length p ≤ longest_payload → r ≡ same (take 4 p) mark → mark ≡ beginning → r ≡ payload_good p
   unfolding payload_good
   payload_mark h k e b = rw (le-leb 4 (length p) h, le-leb (length p) longest_payload k) (e ∙ ap (same (take 4 p)) b)
+
+  pub payload_begins : {r : Bool} {mark : List ℕ} → length p ≤ longest_payload → mark ≡ beginning → r ≡ pointwise eqb mark (take (length mark) p) → r ≡ payload_good p
+  unfolding payload_good
+  payload_begins k b e =
+      e ∙ (λ i. pointwise eqb (b i) (take (length (b i)) p)) ∙ (λ i. pointwise eqb beginning (take (beginning_long i) p))
+      ∙ same_is beginning (take 4 p) ∙ same_turned beginning (take 4 p) ∙ go (leb 4 (length p)) refl
+    where
+      go : (t : Bool) → leb 4 (length p) ≡ t → same (take 4 p) beginning ≡ t && (leb (length p) longest_payload && same (take 4 p) beginning)
+      go true q = rw (le-leb (length p) longest_payload k)
+      go false q = same_length (take 4 p) beginning (λ f. omega (arith, f, beginning_long, length-take 4 p, leb-false 4 (length p) q))
 
   pub payload_most : payload_good p ≡ true → length p ≤ longest_payload
   unfolding payload_good
@@ -52,9 +59,9 @@ module _ (s : List ℕ) where
   unfolding signature_good
   signature_whole e = rw (eq-eqb (length s) 64 e)
 
-  pub signature_text_lem : {r : Bool} {text : List ℕ} → (length s ≡ 64 → ⊥) → r ≡ same s text → text ≡ failure_text → r ≡ signature_good s
+  pub signature_text_lem : {r : Bool} {text : List ℕ} → (length s ≡ 64 → ⊥) → text ≡ failure_text → r ≡ pointwise eqb s text → r ≡ signature_good s
   unfolding signature_good
-  signature_text_lem n e t = rw (ne_eqb (length s) 64 n) (e ∙ ap (same s) t)
+  signature_text_lem n t e = rw (ne_eqb (length s) 64 n) (e ∙ same_is s _ ∙ ap (same s) t)
 
   pub signature_other : (length s ≡ 64 → ⊥) → (length s ≡ 34 → ⊥) → false ≡ signature_good s
   unfolding signature_good
@@ -98,37 +105,38 @@ good_inverted (some x) (some y) p e = go (parts_good (parts x y)) refl e
         record { payload = ap (λ (r : Parts). some r.payload) d; signature = ap (λ (r : Parts). some r.signature) d; good = ap parts_good (sym d) ∙ q }
     go false q f = let z : ◌≡◌ {A = ℕ} 0 1 = cc in absurd (omega arith)
 
--- reading into a buffer of 64 bytes and one of the longest payload, and then asking, gives the good parts
+-- reading into a buffer of the longest payload and one of 64 bytes, and then asking, gives the good parts
 
-no_signature : false ≡ signature_good []
-no_signature = signature_other [] (λ e. absurd (omega arith)) (λ e. absurd (omega arith))
-
-no_payload : false ≡ payload_good []
-no_payload = payload_short [] (omega arith)
-
-pub read_signed : (p : List ℕ) (o : Option (List ℕ)) → found (payload_good p && signature_good (short 64 o)) p (short 64 o) ≡ good_parts (some p) o
-unfolding good_parts found
-read_signed p none = rw (sym no_signature, and-false (payload_good p))
-read_signed p (some s) = go (leb (length s) 64) refl
+unsigned : (p : List ℕ) (o : Option (List ℕ)) → good_parts (some p) (fitting 64 o) ≡ good_parts (some p) o
+unfolding good_parts
+unsigned p none = refl
+unsigned p (some s) = go (leb (length s) 64) refl
   where
-    go : (t : Bool) → leb (length s) 64 ≡ t → found (payload_good p && signature_good (cond t s [])) p (cond t s []) ≡ cond (payload_good p && signature_good s) (some (parts p s)) none
+    go : (t : Bool) → leb (length s) 64 ≡ t → good_parts (some p) (cond t (some s) none) ≡ cond (payload_good p && signature_good s) (some (parts p s)) none
     go true e = refl
     go false e =
         let h : 64 < length s = leb-false (length s) 64 e in
-        rw (sym no_signature, sym (signature_other s (λ q. absurd (omega arith)) (λ q. absurd (omega arith))), and-false (payload_good p))
+        rw (sym (signature_other s (λ q. absurd (omega arith)) (λ q. absurd (omega arith))), and-false (payload_good p))
 
-pub read_parts : (o₁ o₂ : Option (List ℕ)) → found (payload_good (short longest_payload o₁) && signature_good (short 64 o₂)) (short longest_payload o₁) (short 64 o₂) ≡ good_parts o₁ o₂
-unfolding good_parts found
-read_parts none o₂ = rw (sym no_payload)
-read_parts (some p) o₂ = go (leb (length p) longest_payload) refl
+-- only a signature of 64 bytes or fewer is good
+pub fit_signature : (o₁ o₂ : Option (List ℕ)) → good_parts o₁ (fitting 64 o₂) ≡ good_parts o₁ o₂
+unfolding good_parts
+fit_signature none o₂ = refl
+fit_signature (some p) o₂ = unsigned p o₂
+
+-- and only a payload of the longest or less
+pub fit_parts : (o₁ o₂ : Option (List ℕ)) → good_parts (fitting longest_payload o₁) (fitting 64 o₂) ≡ good_parts o₁ o₂
+unfolding good_parts
+fit_parts none o₂ = refl
+fit_parts (some p) o₂ = go (leb (length p) longest_payload) refl
   where
     dropped : (o : Option (List ℕ)) → false ≡ payload_good p → none ≡ good_parts (some p) o
     dropped none e = refl
     dropped (some s) e = rw (sym e)
 
-    go : (t : Bool) → leb (length p) longest_payload ≡ t → found (payload_good (cond t p []) && signature_good (short 64 o₂)) (cond t p []) (short 64 o₂) ≡ good_parts (some p) o₂
-    go true e = read_signed p o₂
-    go false e = rw (sym no_payload) (dropped o₂ (payload_long p (leb-false (length p) longest_payload e)))
+    go : (t : Bool) → leb (length p) longest_payload ≡ t → good_parts (cond t (some p) none) (fitting 64 o₂) ≡ good_parts (some p) o₂
+    go true e = unsigned p o₂
+    go false e = dropped o₂ (payload_long p (leb-false (length p) longest_payload e))
 
 -- ---- exact readers
 

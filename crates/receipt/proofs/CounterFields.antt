@@ -1,14 +1,8 @@
 -- The counter field and the chain field: reading what was spelled.
-use mathlib.Core.Path.{◌≡◌, refl, sym, ap, ◌∙◌, subst}
-use mathlib.Core.Bool.{Bool, true, false, cond}
-use mathlib.Core.List.{List, ◌∷◌, ◌++◌, append-nil}
+use Rattle.std.proofs.lemmas.List.Edits.{sets-eq}
+use Rattle.std.proofs.Common.{◌≡◌, refl, sym, ap, ◌∙◌, subst, Bool, true, false, cond, List, ◌∷◌, ◌++◌, append-nil, ℕ, zero, suc, ◌+◌, ◌-◌, ◌*◌, ◌/◌, ◌<◌, ◌≤◌, arith, ne_eqb, leb-true, leb-false, leb, length, take, drop, replicate, length-drop, take-append-drop, take_at, length-take-le}
 use mathlib.Core.Option.{Option, none, some}
-use Prim.Native.Nat.{ℕ, zero, suc, ◌+◌, ◌-◌, ◌*◌, ◌/◌, ◌<◌, ◌≤◌}
-use native.Mathlib.Omega.{arith}
-use borrow.Author.Tests.{ne_eqb, leb-true, leb-false}
-use lib.Dec.{leb}
-use lib.ListN.{length, take, drop, replicate, length-drop, take-append-drop, get_or-append}
-use lib.Seq.{take_at, length-take-le, sets-eq}
+use lib.ListN.{get_or-append}
 use Rattle.primitives.specs.Place.{overwrite, placed}
 use Rattle.primitives.specs.Bytes.{AllBytes}
 use Rattle.primitives.specs.Counter.{width_good}

@@ -1,28 +1,16 @@
 -- The counter after a receipt: the sum of its amounts, and what fits.
-use Prim.Native.Nat.{ℕ, suc, ◌+◌, ◌-◌, ◌*◌, ◌<◌, ◌≤◌}
-use mathlib.Core.Path.{◌≡◌, refl, sym, ap, ◌∙◌}
-use mathlib.Core.Bool.{Bool, true, false, cond, ◌&&◌}
-use mathlib.Core.List.{List, [], ◌∷◌}
-use native.Mathlib.Omega.{arith}
-use borrow.Author.Tests.{ltb-true, eqb-true, eq-eqb, ne_eqb}
-use lib.Dec.{ltb, eqb}
-use lib.IntN.{ℤ, pos, negsuc, nat_abs, sub_ℕ, ◌+ℤ◌, +ℤ_assoc, +ℤ_idl, +ℤ_idr}
+use Rattle.std.proofs.Common.{ℕ, suc, ◌+◌, ◌-◌, ◌*◌, ◌<◌, ◌≤◌, ◌≡◌, refl, sym, ap, ◌∙◌, Bool, true, false, cond, ◌&&◌, List, [], ◌∷◌, arith, ltb-true, eqb-true, ne_eqb, ltb, eqb, ℤ, pos, negsuc, nat_abs, ◌+ℤ◌, length, get_or, drop, replicate, drop_of_length-le, w64, SFits, to_z, of_z, to_z-of_z, Some, None, rules, tests}
+use lib.IntN.{sub_ℕ, +ℤ_assoc, +ℤ_idr}
 use lib.Signed.{mag}
-use lib.ListN.{length, get_or, drop, drop_of_length-le}
-use mir.Syntax.{w64}
-use mir.Val.{SFits, to_z, of_z}
-use mir.Facts.{to_z-of_z}
-use Rattle.primitives.specs.Counter.{counter_fits, checked_sum}
+use lib.Pointwise.{pointwise}
+use Rattle.std.specs.Ordering.{int_eq}
+use Rattle.primitives.specs.Counter.{counter_fits}
 use Rattle.receipt.specs.Amount.{amount_limit, within_limit}
-use Rattle.primitives.specs.declared.counter.Sum.{Sum}
-use Rattle.primitives.specs.declared.counter.Sum.TheVariants.{Is, Over}
-use Rattle.primitives.proofs.Adding.{sum_fits, summed}
 use Rattle.primitives.proofs.Twos.{counted_64}
-use Rattle.receipt.specs.Details.{amounts_good, all_zero, standard, start_good, total, counted_of, counted, counter_after}
+use Rattle.receipt.specs.Details.{amounts_good, all_zero, standard, start_good, total, counted_of, counted, After, counter_after, as_after, AfterDeterminesAnswer}
 use Rattle.receipt.specs.declared.details.Kind.{Kind}
 use Rattle.receipt.specs.declared.details.Kind.TheVariants.{Standard, Cancellation, Training}
 use Rattle.receipt.specs.declared.details.Details.{Details}
-use Rattle.receipt.specs.declared.details.After.{After}
 use Rattle.primitives.proofs.Rows.{both, true-is-not-false}
 use Rattle.receipt.proofs.Cents.{within_most}
 use Rattle.receipt.proofs.Joined.{drop_here, ok_here}
@@ -53,9 +41,6 @@ pub record Summing (zs : List ℤ) (sum : ℤ) (i : ℕ) : Type 0 where
   pub within : i ≤ 5
   pub good : amounts_good (drop i zs) ≡ true
   pub left : sum +ℤ total (drop i zs) ≡ total zs
-
-pub summing_start : (zs : List ℤ) → amounts_good zs ≡ true → Summing zs (pos 0) 0
-summing_start zs e = record { small = omega arith; within = omega arith; good = e; left = +ℤ_idl (total zs) }
 
 module _ {zs : List ℤ} {sum : ℤ} {i : ℕ} (s : Summing zs sum i) where
   module _ (l : length zs ≡ 5) (h : i < 5) where
@@ -101,29 +86,18 @@ module _ {zs : List ℤ} {sum : ℤ} {i : ℕ} (s : Summing zs sum i) where
 
 -- ---- zeros
 
-zero_here : (zs : List ℤ) (i : ℕ) → i < length zs → all_zero (drop i zs) ≡ (eqb (nat_abs (get_or zs i (pos 0))) 0 && all_zero (drop (i + 1) zs))
+zero_is : (z : ℤ) → int_eq z (pos 0) ≡ eqb (nat_abs z) 0
+zero_is (pos n) = search (rules, tests)
+zero_is (negsuc n) = sym (ne_eqb (suc n) 0 (λ e. omega arith))
+
+-- a list that is equal to as many zeros
+zeros_many : (zs : List ℤ) → pointwise int_eq zs (replicate (length zs) (pos 0)) ≡ all_zero zs
 unfolding all_zero
-zero_here zs i h = ap all_zero (drop_here zs i h)
+zeros_many [] = refl
+zeros_many (z ∷ zs) = λ i. zero_is z i && zeros_many zs i
 
--- a test of the bits is one of the number
-bits_some : (z : ℤ) → (of_z w64 z ≡ 0 → ⊥) → eqb (nat_abs z) 0 ≡ false
-bits_some (pos n) h = ne_eqb n 0 h
-bits_some (negsuc n) h = ne_eqb (suc n) 0 (λ e. omega arith)
-
-bits_none : (z : ℤ) → SFits w64 z → of_z w64 z ≡ 0 → eqb (nat_abs z) 0 ≡ true
-bits_none (pos n) f e = eq-eqb n 0 e
-bits_none (negsuc n) f e = absurd (omega (arith, f.sfits))
-
-module _ (zs : List ℤ) (i : ℕ) where
-  pub zero_no : i < length zs → (of_z w64 (get_or zs i (pos 0)) ≡ 0 → ⊥) → all_zero (drop i zs) ≡ false
-  zero_no h e = zero_here zs i h ∙ rw (bits_some (get_or zs i (pos 0)) e)
-
-  pub zero_yes : i < length zs → SFits w64 (get_or zs i (pos 0)) → of_z w64 (get_or zs i (pos 0)) ≡ 0 → all_zero (drop i zs) ≡ all_zero (drop (i + 1) zs)
-  zero_yes h f e = zero_here zs i h ∙ rw (bits_none (get_or zs i (pos 0)) f e)
-
-  pub zero_end : length zs ≤ i → all_zero (drop i zs) ≡ true
-  unfolding all_zero
-  zero_end h = ap all_zero (drop_of_length-le zs h)
+pub zeros_are : (zs : List ℤ) → length zs ≡ 5 → pointwise int_eq zs (replicate 5 (pos 0)) ≡ all_zero zs
+zeros_are zs e = ap (λ (n : ℕ). pointwise int_eq zs (replicate n (pos 0))) (sym e) ∙ zeros_many zs
 
 -- ---- the counter after a receipt
 
@@ -151,10 +125,6 @@ start_both d e = go d.kind refl e
     go Cancellation p q = true-is-not-false q
     go Training p q = true-is-not-false q
 
--- what a refused receipt leaves
-abbrev as_before : ℤ → After
-as_before z = record { fits = false; counter = z }
-
 pub record Added (n : ℕ) (z : ℤ) (d : Details) : Type 0 where
   pub good : amounts_good d.amounts ≡ true
   pub fits : counter_fits n (z +ℤ counted d) ≡ true
@@ -180,45 +150,40 @@ module _ (n : ℕ) (z : ℤ) (d : Details) where
   after_fits e = go (amounts_good d.amounts) (counter_fits n (z +ℤ counted d)) refl refl e
     where
       go : (g f : Bool) → amounts_good d.amounts ≡ g → counter_fits n (z +ℤ counted d) ≡ f
-          → (cond {A = After} (g && f) (record { fits = true; counter = z +ℤ counted d }) (as_before z)).fits ≡ true → Added n z d
+          → (cond {A = After} (g && f) (record { fits = true; counter = z +ℤ counted d }) (as_after z None)).fits ≡ true → Added n z d
       go true true p q e = record { good = p; fits = q; is = after_yes p q }
       go true false p q e = true-is-not-false e
       go false f p q e = true-is-not-false e
 
   -- the code's steps, whose signed numbers stand as their bits
-  module _ (fz : SFits w64 z) where
-    pub refused_beyond : amounts_good d.amounts ≡ false → as_before (to_z w64 (of_z w64 z)) ≡ counter_after n z d
-    refused_beyond e = ap as_before (to_z-of_z fz) ∙ sym (after_beyond e)
+  pub refused_beyond : amounts_good d.amounts ≡ false → as_after z None ≡ counter_after n z d
+  refused_beyond e = sym (after_beyond e)
 
-    module _ (g : amounts_good d.amounts ≡ true) {x : ℤ} {r : Sum} (fx : SFits w64 x) (e : x ≡ counted d)
-        (q : r ≡ checked_sum (to_z w64 (of_z w64 z)) (to_z w64 (of_z w64 x))) where
-      is : r ≡ checked_sum z (counted d)
-      is = q ∙ (λ i. checked_sum (to_z-of_z fz i) ((to_z-of_z fx ∙ e) i))
+  module _ (fz : SFits w64 z) (g : amounts_good d.amounts ≡ true) {x : ℤ} (fx : SFits w64 x) (e : x ≡ counted d) where
+    sum : to_z w64 (of_z w64 z) +ℤ to_z w64 (of_z w64 x) ≡ z +ℤ counted d
+    sum = λ i. to_z-of_z fz i +ℤ (to_z-of_z fx ∙ e) i
 
-      -- a sum beyond 64 bits fits no width
-      too_large : r ≡ Over → counter_fits n (z +ℤ counted d) ≡ false
-      too_large o = go (counter_fits n (z +ℤ counted d)) refl
-        where
-          go : (t : Bool) → counter_fits n (z +ℤ counted d) ≡ t → t ≡ false
-          go true p =
-              let s = sum_fits z (counted d) (counted_64 n (z +ℤ counted d) p) in
-              let i : r ≡ checked_sum z (counted d) = is in
-              let c : ◌≡◌ {A = ℕ} 0 1 = cc in
-              absurd (omega arith)
-          go false p = refl
+    -- a sum beyond 64 bits fits no width
+    pub refused_over : (SFits w64 (to_z w64 (of_z w64 z) +ℤ to_z w64 (of_z w64 x)) → ⊥) → as_after z None ≡ counter_after n z d
+    refused_over o = go (counter_fits n (z +ℤ counted d)) refl
+      where
+        go : (t : Bool) → counter_fits n (z +ℤ counted d) ≡ t → as_after z None ≡ counter_after n z d
+        go true p = absurd (o (rw sum (counted_64 n (z +ℤ counted d) p)))
+        go false p = sym (after_no g p)
 
-      pub refused_over : r ≡ Over → as_before (to_z w64 (of_z w64 z)) ≡ counter_after n z d
-      refused_over o = ap as_before (to_z-of_z fz) ∙ sym (after_no g (too_large o))
+    module _ {v : ℤ} (s : SFits w64 (to_z w64 (of_z w64 z) +ℤ to_z w64 (of_z w64 x)) × (v ≡ to_z w64 (of_z w64 z) +ℤ to_z w64 (of_z w64 x))) where
+      plain_sum : to_z w64 (of_z w64 v) ≡ z +ℤ counted d
+      plain_sum = ap (λ (u : ℤ). to_z w64 (of_z w64 u)) s.1 ∙ to_z-of_z s.0 ∙ sum
 
-      module _ {v : ℤ} (p : r ≡ Is v) where
-        sum_is : (v ≡ z +ℤ counted d) × SFits w64 v
-        sum_is = summed z (counted d) (sym is ∙ p)
+      pub refused_fit : counter_fits n (to_z w64 (of_z w64 v)) ≡ false → as_after z None ≡ counter_after n z d
+      refused_fit f = sym (after_no g (ap (counter_fits n) (sym plain_sum) ∙ f))
 
-        fit : counter_fits n (to_z w64 (of_z w64 v)) ≡ counter_fits n (z +ℤ counted d)
-        fit = ap (counter_fits n) (to_z-of_z sum_is.1 ∙ sum_is.0)
+      pub accepted_fit : counter_fits n (to_z w64 (of_z w64 v)) ≡ true → as_after z (Some (to_z w64 (of_z w64 v))) ≡ counter_after n z d
+      accepted_fit f = ap (λ (u : ℤ). as_after z (Some u)) plain_sum ∙ sym (after_yes g (ap (counter_fits n) (sym plain_sum) ∙ f))
 
-        pub refused_fit : counter_fits n (to_z w64 (of_z w64 v)) ≡ false → as_before (to_z w64 (of_z w64 z)) ≡ counter_after n z d
-        refused_fit f = ap as_before (to_z-of_z fz) ∙ sym (after_no g (sym fit ∙ f))
-
-        pub accepted_fit : counter_fits n (to_z w64 (of_z w64 v)) ≡ true → ◌≡◌ {A = After} (record { fits = true; counter = to_z w64 (of_z w64 v) }) (counter_after n z d)
-        accepted_fit f = (λ i. record { fits = true; counter = (to_z-of_z sum_is.1 ∙ sum_is.0) i }) ∙ sym (after_yes g (sym fit ∙ f))
+-- the view tells every two answers apart
+pub as_after_same : AfterDeterminesAnswer
+as_after_same z None None e = refl
+as_after_same z None (Some b) e = let x = ap (λ (a : After). a.fits) e in cc
+as_after_same z (Some a) None e = let x = ap (λ (a : After). a.fits) e in cc
+as_after_same z (Some a) (Some b) e = ap (λ (a : After). Some a.counter) e

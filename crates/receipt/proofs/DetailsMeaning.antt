@@ -1,14 +1,7 @@
 -- Good details in the paper's words, what a receipt adds to the counter, and its counter field.
-use Prim.Native.Nat.{ℕ, zero, suc, ◌%◌, ◌<◌, ◌≤◌}
-use mathlib.Core.Path.{◌≡◌, refl, sym, ap, ◌∙◌}
-use mathlib.Core.Bool.{Bool, true, false, cond, ◌&&◌}
-use mathlib.Core.List.{List, [], ◌∷◌}
-use mathlib.Core.Logic.{inl, inr}
-use native.Mathlib.Omega.{arith}
-use borrow.Author.Tests.{le-leb, leb-true, eqb-true, eqb-false, eq-eqb, ne_eqb}
-use lib.Dec.{leb, eqb}
-use lib.IntN.{ℤ, pos, negsuc, nat_abs, ◌+ℤ◌, +ℤ_assoc, +ℤ_idr}
-use lib.ListN.{length, get_or}
+use Rattle.std.proofs.Common.{ℕ, zero, suc, ◌%◌, ◌<◌, ◌≤◌, ◌≡◌, refl, sym, ap, ◌∙◌, Bool, true, false, cond, ◌&&◌, List, [], ◌∷◌, inl, inr, arith, le-leb, leb-true, eqb-true, eq-eqb, ne_eqb, leb, eqb, ℤ, pos, negsuc, nat_abs, ◌+ℤ◌, length, get_or}
+use Rattle.std.proofs.lemmas.Bool.{eqb-false}
+use lib.IntN.{+ℤ_assoc, +ℤ_idr}
 use Rattle.primitives.proofs.Rows.{both, true-is-not-false}
 use Rattle.receipt.specs.Amount.{amount_limit, within}
 use Rattle.receipt.specs.DateTime.{leap, days_in, day_good, time_good, date_good}

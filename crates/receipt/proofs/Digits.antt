@@ -1,17 +1,8 @@
 -- Numbers in decimal: writing them, and reading what was written.
-use mathlib.Core.Path.{◌≡◌, refl, sym, ap, ◌∙◌}
-use mathlib.Core.Bool.{Bool, true, false, cond}
-use mathlib.Core.List.{List, [], ◌∷◌, ◌++◌}
-use Prim.Native.Nat.{ℕ, zero, suc, ◌+◌, ◌-◌, ◌*◌, ◌/◌, ◌%◌, ◌^◌, ◌<◌, ◌≤◌}
-use native.Mathlib.Nat.{pow-suc}
-use native.Mathlib.Numerals.{add-one}
-use native.Mathlib.Omega.{arith}
-use borrow.Author.Tests.{lt-ltb, le-ltb, ne_eqb, ltb-true}
-use lib.Dec.{ltb}
-use lib.ListN.{length, drop, get_or, set, drop_of_length-le}
-use lib.Seq.{drop-cons}
+use Rattle.std.proofs.Common.{◌≡◌, refl, sym, ap, ◌∙◌, Bool, true, false, cond, List, [], ◌∷◌, ◌++◌, ℕ, zero, suc, ◌+◌, ◌-◌, ◌*◌, ◌/◌, ◌%◌, ◌^◌, ◌<◌, ◌≤◌, pow-suc, add-one, arith, lt-ltb, le-ltb, ne_eqb, ltb-true, ltb-false, lit<, Option, Some, None, unwrap_or, IfNone, IfSome, ltb, length, drop, get_or, set, drop_of_length-le, drop-cons}
+use Rattle.std.proofs.Math.Nat.{pow-le-pow_right}
 use Rattle.primitives.specs.Place.{overwrite}
-use Rattle.primitives.proofs.Over.{over_cons, over_nil, length_over}
+use Rattle.primitives.proofs.Over.{over_cons, over_nil}
 use Rattle.receipt.specs.Decimal.{fixed_onto, fixed, width_up, width, digits, read_limit, more, value_from, value_of}
 
 -- ---- lengths
@@ -48,9 +39,6 @@ one_less zero v acc h = absurd (omega arith)
 one_less (suc i) v acc h = let e : suc i - 1 ≡ i = omega arith in ap (λ (k : ℕ). fixed_onto k (v / 10) ((48 + v % 10) ∷ acc)) e
 
 module _ {out₀ out : List ℕ} {at w n v i : ℕ} (p : Putting out₀ at w n out v i) where
-  pub put_long : length out ≡ length out₀
-  put_long = ap length p.is ∙ length_over out₀ (at + i) p.done (omega (arith, p.long, p.room))
-
   pub put_one : 0 < i → Putting out₀ at w n (set out (at + (i - 1)) (48 + v % 10)) (v / 10) (i - 1)
   put_one h =
       record {
@@ -72,37 +60,7 @@ module _ {out₀ out : List ℕ} {at w n v i : ℕ} (p : Putting out₀ at w n o
       let a : at + i ≡ at = omega arith in
       p.is ∙ (λ j. overwrite out₀ (a j) p.done) ∙ ap (overwrite out₀ at) (sym (ap (λ (k : ℕ). fixed_onto k v p.done) e) ∙ p.left)
 
--- ---- the count of digits: w are counted, and v is what is left
-
-pub record Counting (n v w : ℕ) : Type 0 where
-  pub left : ℕ
-  pub count : w + left ≡ 20
-  pub is : w + width_up left v ≡ 1 + width n
-  pub small : v < 10 ^ suc left
-
-pub counting_start : (n : ℕ) → n < 2 ^ 64 → Counting n n 1
-unfolding width
-counting_start n h = record { left = 19; count = refl; is = refl; small = omega arith }
-
-width_up_one : (k v : ℕ) → v ≤ 9 → width_up k v ≡ 1
-unfolding width_up
-width_up_one zero v h = refl
-width_up_one (suc k) v h = rw (lt-ltb v 10 (omega arith))
-
-width_up_more : (k v : ℕ) → 9 < v → width_up (suc k) v ≡ suc (width_up k (v / 10))
-unfolding width_up
-width_up_more k v h = rw (le-ltb v 10 h)
-
-pub counting_more : {n v w : ℕ} → Counting n v w → 9 < v → Counting n (v / 10) (w + 1)
-counting_more {n} {v} {w} c h = go c.left c.count c.is c.small
-  where
-    go : (k : ℕ) → w + k ≡ 20 → w + width_up k v ≡ 1 + width n → v < 10 ^ suc k → Counting n (v / 10) (w + 1)
-    go zero q e s = absurd (omega arith)
-    go (suc k) q e s =
-        record { left = k; count = omega arith; is = omega (arith, width_up_more k v h); small = omega (arith, pow-suc 10 (suc k)) }
-
-pub counting_end : {n v w : ℕ} → Counting n v w → v ≤ 9 → w ≡ width n
-counting_end {n} {v} {w} c h = omega (arith, c.is, width_up_one c.left v h)
+-- ---- the number of digits
 
 -- a number has at most k + 1 digits where it is below 10 ^ (k + 1), and at least one
 width_up_short : (k m n : ℕ) → n < 10 ^ suc k → width_up m n ≤ suc k
@@ -140,6 +98,27 @@ width_up_holds (suc k) n h = go (ltb n 10) refl (width_up_holds k (n / 10) (omeg
 pub width_holds : (n : ℕ) → n < 10 ^ 20 → n < 10 ^ width n
 unfolding width
 width_holds n h = width_up_holds 19 n h
+
+-- the largest power of ten within a number tells their count
+pub width_is : (k n : ℕ) → n < 10 ^ 20 → 10 ^ k ≤ n → n < 10 * 10 ^ k → k + 1 ≡ width n
+width_is k n h l u = omega (arith, width_short k n (omega (arith, pow-suc 10 k)), more)
+  where
+    more : k < width n
+    more = go (ltb k (width n)) refl
+      where
+        go : (t : Bool) → ltb k (width n) ≡ t → k < width n
+        go true e = ltb-true k (width n) e
+        go false e =
+            let w : width n ≤ k = ltb-false k (width n) e in
+            let p : 10 ^ width n ≤ 10 ^ k = pow-le-pow_right (lit< tt) w in
+            absurd (omega (arith, width_holds n h))
+
+-- and 0 has one digit
+pub width_from : (n : ℕ) (log : Option ℕ) → n < 10 ^ 20 → IfNone log (n ≡ 0) → IfSome log (λ k. 10 ^ k ≤ n) → IfSome log (λ k. n < 10 * 10 ^ k)
+    → unwrap_or log 0 + 1 ≡ width n
+unfolding width width_up
+width_from n None h e l u = rw e
+width_from n (Some k) h e l u = width_is k n h l u
 
 -- ---- reading
 
@@ -215,32 +194,30 @@ first_digits n rest e = first_onto (width n) n rest (width_some n) (rw (onto_app
 pub digits_same : (m n : ℕ) → m < read_limit → n < read_limit → digits m ≡ digits n → m ≡ n
 digits_same m n hm hn e = sym (value_digits m [] hm) ∙ ap (λ (l : List ℕ). value_of (l ++ (95 ∷ []))) e ∙ value_digits n [] hn
 
--- ---- the loop that reads: the whole from v₀ is the rest from v
+-- ---- the loop that reads: after i bytes the number is v
 
-pub record Reading (text : List ℕ) (at v i : ℕ) : Type 0 where
-  pub is : value_of (drop at text) ≡ value_from v (drop i text)
+pub record Reading (bs : List ℕ) (v i : ℕ) : Type 0 where
+  pub is : value_of bs ≡ value_from v (drop i bs)
   pub below : v < read_limit
-  pub within : i ≤ length text
 
-pub reading_start : (text : List ℕ) (at : ℕ) → at ≤ length text → Reading text at 0 at
+pub reading_start : (bs : List ℕ) → Reading bs 0 0
 unfolding value_of
-reading_start text at h = record { is = refl; below = omega arith; within = h }
+reading_start bs = record { is = refl; below = omega arith }
 
-module _ {text : List ℕ} {at v i : ℕ} (r : Reading text at v i) where
-  pub reading_mark : i < length text → get_or text i 0 ≡ 95 → v ≡ value_of (drop at text)
-  reading_mark h e = sym (r.is ∙ rw (drop-cons text i 0 h, e) (from_mark v (drop (suc i) text)))
+module _ {bs : List ℕ} {v i : ℕ} (r : Reading bs v i) where
+  pub reading_mark : i < length bs → get_or bs i 0 ≡ 95 → v ≡ value_of bs
+  reading_mark h e = sym (r.is ∙ rw (drop-cons bs i 0 h, e) (from_mark v (drop (suc i) bs)))
 
-  pub reading_more : {v' : ℕ} → i < length text → (get_or text i 0 ≡ 95 → ⊥) → v' ≡ more v (get_or text i 0) → Reading text at v' (i + 1)
+  pub reading_more : {v' : ℕ} → i < length bs → (get_or bs i 0 ≡ 95 → ⊥) → v' ≡ more v (get_or bs i 0) → Reading bs v' (i + 1)
   reading_more h n e =
       record {
-        is = r.is ∙ rw (drop-cons text i 0 h, add-one i, e) (from_other v (get_or text i 0) (drop (suc i) text) n);
-        below = rw e (more_below v (get_or text i 0) r.below);
-        within = omega arith;
+        is = r.is ∙ rw (drop-cons bs i 0 h, add-one i, e) (from_other v (get_or bs i 0) (drop (suc i) bs) n);
+        below = rw e (more_below v (get_or bs i 0) r.below);
       }
 
-  pub reading_end : length text ≤ i → v ≡ value_of (drop at text)
+  pub reading_end : length bs ≤ i → v ≡ value_of bs
   unfolding value_from
-  reading_end h = sym (r.is ∙ ap (value_from v) (drop_of_length-le text h))
+  reading_end h = sym (r.is ∙ ap (value_from v) (drop_of_length-le bs h))
 
 -- ---- the contract of the writer, from those that it calls
 

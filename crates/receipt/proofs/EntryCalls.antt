@@ -1,34 +1,25 @@
 -- What the functions of an entry show at their returns, over plain variables.
-use Prim.Native.Nat.{ℕ, ◌+◌, ◌-◌, ◌≤◌, ◌<◌}
-use mathlib.Core.Path.{◌≡◌, refl, sym, ap, ◌∙◌}
-use mathlib.Core.Bool.{Bool, true, false, cond, not, ◌&&◌, and-false}
-use mathlib.Core.List.{List, []}
-use mathlib.Core.Option.{some, none}
-use native.Mathlib.Omega.{arith}
-use borrow.Author.Tests.{leb-true, leb-false, eq-eqb, ne_eqb}
-use lib.Dec.{leb}
-use lib.ListN.{length, take, replicate}
-use lib.Seq.{take_all, length-take-le}
+use Rattle.std.proofs.Common.{ℕ, ◌+◌, ◌≤◌, ◌<◌, ◌≡◌, refl, sym, ap, ◌∙◌, Bool, true, false, cond, ◌&&◌, List, [], arith, leb-true, leb-false, leb, eqb, length, take}
+use mathlib.Core.Bool.{and-false}
+use mathlib.Core.Option.{Option, some, none}
+use Rattle.std.specs.Cmp.Lexicographic.{pointwise}
 use Rattle.primitives.specs.Place.{overwrite, placed, place_after}
 use Rattle.primitives.specs.Bytes.{same}
 use Rattle.primitives.specs.Counter.{width_good}
 use Rattle.primitives.proofs.Over.{over_nil, read_over, placed_room, placed_full, after_room, after_full}
-use Rattle.receipt.specs.Settings.{every, sized, SettingsLengths}
-use Rattle.receipt.specs.Payload.{payload, longest_payload, fields_good}
-use Rattle.receipt.specs.PayloadReading.{read_fields}
-use Rattle.receipt.specs.Form.{parts, signed_input, signed_form, parts_of_form, failure_text}
-use Rattle.receipt.specs.FormReading.{found}
-use Rattle.receipt.specs.Compact.{signature_text, compact, signing_input, signature_zero, preparable, preparable_within, spellable, spellable_within, prepared, spelled, signature_of, spells, no_entry, entry_of, read_entry}
+use Rattle.receipt.specs.Settings.{sized, SettingsLengths}
+use Rattle.receipt.specs.Payload.{payload, longest_payload, fields_good, fields_within}
+use Rattle.receipt.specs.PayloadReading.{blank, read_fields}
+use Rattle.receipt.specs.Form.{Parts, parts, signed_input, signed_form, parts_of_form, failure_text}
+use Rattle.receipt.specs.Compact.{signature_text, compact, signing_input, signature_zero, preparable, preparable_within, spellable, spellable_within, prepared, spelled, signature_of, spells, Found, no_entry, entry_of, read_entry, FoundDeterminesEntry}
 use Rattle.receipt.specs.declared.settings.Settings.{Settings}
-use Rattle.receipt.specs.declared.settings.Letters.TheVariants.{Zero}
-use Rattle.receipt.specs.declared.form.Reading.{Reading}
 use Rattle.receipt.specs.declared.payload.PayloadFields.{PayloadFields}
 use Rattle.receipt.specs.declared.entry.Signature.{Signature}
 use Rattle.receipt.specs.declared.entry.Entry.{Entry}
-use Rattle.primitives.proofs.Rows.{both}
+use Rattle.std.specs.Prelude.{Some, None}
+use Rattle.primitives.proofs.Rows.{both, true-is-not-false}
 use Rattle.receipt.proofs.Written.{Sizes, payload_most}
-use Rattle.receipt.proofs.PayloadBytes.{payload_long}
-use Rattle.receipt.proofs.FormCalls.{lent_front, found_none, found_some}
+use Rattle.receipt.proofs.Worded.{same_is}
 
 -- ---- which entries have a compact form
 
@@ -78,47 +69,40 @@ spells_is s n f text = refl
 
 -- ---- the payload, in a buffer of the longest payload
 
+-- the payload that fields have
+abbrev pub payload_of : Settings → ℕ → PayloadFields → Option (List ℕ)
+payload_of s n f = cond (preparable s n f) (some (payload s n f)) none
+
 module _ (s : Settings) (n : ℕ) (f : PayloadFields) where
-  pub payload_none : preparable s n f ≡ false → (0 ≤ longest_payload) × (◌≡◌ {A = List ℕ} [] (cond (preparable s n f) (payload s n f) []))
-  payload_none e = (omega arith, rw e)
+  pub payload_none : preparable s n f ≡ false → none ≡ payload_of s n f
+  payload_none e = rw e
 
   module _ (ts : SettingsLengths s) (tf : Sizes f) (out : List ℕ) (long : length out ≡ longest_payload) (e : preparable s n f ≡ true) where
-    fits : 0 + length (payload s n f) ≤ length out
-    fits =
+    pub payload_room : 0 + length (payload s n f) ≤ length out
+    payload_room =
         let p = preparable_true s n f e in
         omega (arith, payload_most s n f ts p.sized tf p.fields)
 
-    pub payload_room : (sized s ≡ true) × (width_good n ≡ true) × (0 + length (payload s n f) ≤ length out)
-    payload_room = let p = preparable_true s n f e in (p.sized, p.width, fits)
-
     pub payload_some : {r : ℕ} {out₁ : List ℕ} → (r ≡ 0 + length (payload s n f)) × (out₁ ≡ overwrite out 0 (payload s n f))
-        → (r ≤ longest_payload) × (take r out₁ ≡ cond (preparable s n f) (payload s n f) [])
+        → (r ≤ length out) × (some (take r out₁) ≡ payload_of s n f)
     payload_some {r} h =
         let q : r ≡ length (payload s n f) = omega (arith, h.0) in
-        (omega (arith, fits), rw e ((λ i. take (q i) (h.1 i)) ∙ read_over out 0 (payload s n f) fits))
+        (omega (arith, payload_room), rw e (ap some ((λ i. take (q i) (h.1 i)) ∙ read_over out 0 (payload s n f) payload_room)))
 
   -- what is known after that
-  module _ (m : ℕ) (pay : List ℕ) (long : length pay ≡ longest_payload) (h : (m ≤ longest_payload) × (take m pay ≡ cond (preparable s n f) (payload s n f) [])) where
-    pub unprepared : m ≡ 0 → preparable s n f ≡ false
-    unprepared z = go (preparable s n f) refl
-      where
-        go : (t : Bool) → preparable s n f ≡ t → t ≡ false
-        go true e =
-            let k : take m pay ≡ payload s n f = rw e at h.1 in
-            absurd (omega (arith, ap length k, length-take-le m pay (omega (arith, h.0)), payload_long s n f))
-        go false e = refl
+  pub unprepared : none ≡ payload_of s n f → preparable s n f ≡ false
+  unprepared h = go (preparable s n f) h
+    where
+      go : (t : Bool) → none ≡ cond t (some (payload s n f)) none → t ≡ false
+      go true e = let z : ◌≡◌ {A = ℕ} 0 1 = cc in absurd (omega arith)
+      go false e = refl
 
-    pub is_prepared : (m ≡ 0 → ⊥) → preparable s n f ≡ true
-    is_prepared z = go (preparable s n f) refl
-      where
-        go : (t : Bool) → preparable s n f ≡ t → t ≡ true
-        go true e = refl
-        go false e =
-            let k : take m pay ≡ [] = rw e at h.1 in
-            absurd (z (sym (length-take-le m pay (omega (arith, h.0))) ∙ ap length k))
-
-    pub payload_is : (m ≡ 0 → ⊥) → take (m - 0) pay ≡ payload s n f
-    payload_is z = lent_front pay m ∙ (rw (is_prepared z) at h.1)
+  pub is_prepared : {p : List ℕ} → some p ≡ payload_of s n f → (preparable s n f ≡ true) × (p ≡ payload s n f)
+  is_prepared {p} h = go (preparable s n f) h
+    where
+      go : (t : Bool) → some p ≡ cond t (some (payload s n f)) none → (t ≡ true) × (p ≡ payload s n f)
+      go true e = (refl, cc)
+      go false e = let z : ◌≡◌ {A = ℕ} 0 1 = cc in absurd (omega arith)
 
 -- ---- writing
 
@@ -169,14 +153,6 @@ module _ (out : List ℕ) (at : ℕ) where
 -- ---- the signature
 
 module _ (g : Signature) where
-  pub zero_whole : g.failed ≡ false → true ≡ signature_zero g
-  unfolding signature_zero
-  zero_whole e = rw e
-
-  pub zero_failed : {r : Bool} → g.failed ≡ true → r ≡ every Zero g.bytes → r ≡ signature_zero g
-  unfolding signature_zero
-  zero_failed e q = rw e q
-
   pub text_whole : g.failed ≡ false → g.bytes ≡ signature_text g
   unfolding signature_text
   text_whole e = rw e
@@ -190,40 +166,43 @@ module _ (p out : List ℕ) (at : ℕ) {t u : List ℕ} (e : t ≡ u) {r : ℕ} 
       → (r ≡ place_after out at (signed_form (parts p u))) × (out₁ ≡ placed out at (signed_form (parts p u)))
   signed_as h = rw (sym e) h
 
-module _ (bytes : List ℕ) (m : ℕ) (long : length bytes ≡ 64) where
-  pub whole_signature : m ≡ 64 → record { failed = false; bytes = bytes } ≡ signature_of (take m bytes)
-  unfolding signature_of
-  whole_signature e =
-      let t : take m bytes ≡ bytes = take_all m bytes (omega arith) in
-      rw (t, eq-eqb (length bytes) 64 long)
-
-  pub failed_signature : m ≤ 64 → (m ≡ 64 → ⊥) → record { failed = true; bytes = replicate 64 0 } ≡ signature_of (take m bytes)
-  unfolding signature_of
-  failed_signature h ne = rw (ne_eqb (length (take m bytes)) 64 (λ q. ne (sym (length-take-le m bytes (omega arith)) ∙ q)))
-
 -- ---- reading
 
 module _ (s : Settings) (n : ℕ) (f : PayloadFields) (text : List ℕ) where
   pub spells_none : preparable s n f ≡ false → false ≡ spells s n f text
   spells_none e = sym (spells_is s n f text ∙ ap (λ (t : Bool). t && same (payload s n f) text) e)
 
-  pub spells_some : {r : Bool} {p : List ℕ} → preparable s n f ≡ true → p ≡ payload s n f → r ≡ same p text → r ≡ spells s n f text
-  spells_some e q h = h ∙ (λ i. same (q i) text) ∙ sym (spells_is s n f text ∙ ap (λ (t : Bool). t && same (payload s n f) text) e)
+  pub spells_some : {r : Bool} {p : List ℕ} → preparable s n f ≡ true → p ≡ payload s n f → r ≡ pointwise eqb p text → r ≡ spells s n f text
+  spells_some e q h =
+      h ∙ same_is _ text ∙ (λ i. same (q i) text) ∙ sym (spells_is s n f text ∙ ap (λ (t : Bool). t && same (payload s n f) text) e)
 
-module _ (s : Settings) (n : ℕ) (text pay sig : List ℕ) (r : Reading) (e : found r.good (take r.payload pay) (take r.signature sig) ≡ parts_of_form text) where
-  pub read_refused : not r.good ≡ true → no_entry ≡ read_entry s n text
-  unfolding read_entry
-  read_refused t = let q : none ≡ parts_of_form text = found_none r.good (take r.payload pay) (take r.signature sig) e t in rw (sym q)
+-- no text is the payload of blank fields
+blank_unspelled : (s : Settings) (n : ℕ) (text : List ℕ) → spells s n blank text ≡ false
+unfolding spells preparable_within fields_within blank
+blank_unspelled s n text = rw (and-false (width_good n), and-false (sized s))
 
-  module _ (t : not r.good ≡ false) (f : PayloadFields) (fs : f ≡ read_fields s n (take (r.payload - 0) pay)) where
-    taken : some (parts (take (r.payload - 0) pay) (take r.signature sig)) ≡ parts_of_form text
-    taken = rw (lent_front pay r.payload) (found_some r.good (take r.payload pay) (take r.signature sig) e t)
+pub read_refused : (s : Settings) (n : ℕ) (text : List ℕ) → none ≡ parts_of_form text → no_entry ≡ read_entry s n text
+unfolding read_entry
+read_refused s n text e = rw (sym e)
 
-    pub read_other : spells s n f (take (r.payload - 0) pay) ≡ false → no_entry ≡ read_entry s n text
+module _ (s : Settings) (n : ℕ) (text : List ℕ) {p : Parts} (e : some p ≡ parts_of_form text) where
+  pub read_short : read_fields s n p.payload ≡ blank → no_entry ≡ read_entry s n text
+  unfolding read_entry entry_of
+  read_short h = rw (sym e, h, blank_unspelled s n p.payload)
+
+  module _ {f : PayloadFields} (fs : f ≡ read_fields s n p.payload) where
+    pub read_other : spells s n f p.payload ≡ false → no_entry ≡ read_entry s n text
     unfolding read_entry entry_of
-    read_other q = rw (sym taken, sym fs, q)
+    read_other q = rw (sym e, sym fs, q)
 
-    pub read_found : {g : Signature} → spells s n f (take (r.payload - 0) pay) ≡ true → g ≡ signature_of (take r.signature sig)
+    pub read_found : {g : Signature} → spells s n f p.payload ≡ true → g ≡ signature_of p.signature
         → record { ok = true; entry = record { fields = f; signature = g } } ≡ read_entry s n text
     unfolding read_entry entry_of
-    read_found q h = rw (sym taken, sym fs, q, h)
+    read_found q h = rw (sym e, sym fs, q, h)
+
+pub found_determines_entry : FoundDeterminesEntry
+unfolding no_entry
+found_determines_entry None None e = refl
+found_determines_entry None (Some y) e = let z : false ≡ true = ap (λ (f : Found). f.ok) e in absurd (true-is-not-false z)
+found_determines_entry (Some x) None e = let z : false ≡ true = sym (ap (λ (f : Found). f.ok) e) in absurd (true-is-not-false z)
+found_determines_entry (Some x) (Some y) e = ap Some (ap (λ (f : Found). f.entry) e)

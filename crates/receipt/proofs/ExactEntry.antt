@@ -1,14 +1,6 @@
 -- The reader of entries is exact: it accepts the compact forms of entries, finds the entry, and accepts no other text.
-use Prim.Native.Nat.{ℕ, ◌+◌, ◌≤◌, ◌<◌}
-use mathlib.Core.Path.{◌≡◌, refl, sym, ap, ◌∙◌}
-use mathlib.Core.Bool.{Bool, true, false, cond, not, ◌||◌}
-use mathlib.Core.List.{List, [], ◌∷◌, ◌++◌, append_assoc}
+use Rattle.std.proofs.Common.{ℕ, ◌+◌, ◌≤◌, ◌<◌, ◌≡◌, refl, sym, ap, ◌∙◌, Bool, true, false, cond, not, ◌||◌, List, [], ◌∷◌, ◌++◌, append_assoc, arith, eq-eqb, ne_eqb, eqb-true, eqb, length, take, replicate, length-append, take_at}
 use mathlib.Core.Option.{Option, none, some}
-use native.Mathlib.Omega.{arith}
-use borrow.Author.Tests.{eq-eqb, ne_eqb, eqb-true}
-use lib.Dec.{eqb}
-use lib.ListN.{length, take, replicate, length-append}
-use lib.Seq.{take_at}
 use Rattle.primitives.specs.Bytes.{AllBytes, same}
 use Rattle.primitives.specs.Base64.{encoding}
 use Rattle.primitives.specs.declared.base64.Alphabet.TheVariants.{UrlSafe}
@@ -19,13 +11,12 @@ use Rattle.receipt.specs.Payload.{payload, longest_payload}
 use Rattle.receipt.specs.PayloadReading.{read_fields}
 use Rattle.receipt.specs.Form.{Parts, parts, parts_good, PartsOfBytes, signed_input, signed_form, signature_good, payload_good, second_dot, parts_of_form, header, first_element, failure_text}
 use Rattle.receipt.specs.Texts.{beginning}
-use Rattle.receipt.specs.Compact.{signature_text, compact, signing_input, longest_compact, signature_zero, preparable, spellable, signature_of, spells, no_entry, entry_of, entry_of_parts, read_entry, TypedEntry}
+use Rattle.receipt.specs.Compact.{signature_text, compact, signing_input, longest_compact, signature_zero, preparable, spellable, signature_of, spells, Found, no_entry, entry_of, entry_of_parts, read_entry, TypedEntry}
 use Rattle.receipt.specs.Exact.{Exact, EntryIsReadBack, OneSpelling, CompactIsShort, CompactIsLong, CompactIsBytes, CompactIsSigned, InputBeforeDot, FoundIsTyped, PayloadIsShort}
 use Rattle.receipt.specs.declared.settings.Settings.{Settings}
 use Rattle.receipt.specs.declared.payload.PayloadFields.{PayloadFields}
 use Rattle.receipt.specs.declared.entry.Signature.{Signature}
 use Rattle.receipt.specs.declared.entry.Entry.{Entry}
-use Rattle.receipt.specs.declared.entry.Found.{Found}
 use Rattle.primitives.proofs.Rows.{both, true-is-not-false}
 use Rattle.receipt.proofs.Written.{payload_short}
 use Rattle.receipt.proofs.PayloadBytes.{payload_bytes_lem, payload_begins, payload_long}

@@ -1,41 +1,11 @@
 -- Laws of finding a byte: the first from a place on, and the last.
-use Prim.Native.Nat.{ℕ, zero, suc, ◌+◌, ◌-◌, ◌≤◌, ◌<◌}
-use mathlib.Core.Path.{◌≡◌, refl, sym, ap, ◌∙◌}
-use mathlib.Core.Bool.{Bool, true, false, cond}
-use mathlib.Core.List.{List, [], ◌∷◌, ◌++◌}
-use native.Mathlib.Nat.{add-zero}
-use native.Mathlib.Numerals.{add-one}
-use native.Mathlib.Omega.{arith}
-use borrow.Author.Tests.{ltb-true, ltb-false, eq-eqb, ne_eqb, eqb-true, eqb-false}
-use lib.Dec.{ltb, eqb}
-use lib.ListN.{length, get_or, take, drop, length-append, length-take, length-drop, take-append-drop, drop_of_length-le}
-use lib.Seq.{drop-cons, drop_at, take-append-le, drop-append-le, length-take-le, get_or-append-add, get_or_at, get_or-take, get_or-drop}
+use Rattle.std.proofs.lemmas.List.{take-append-le, drop-append-le, get_or_at}
+use Rattle.std.proofs.lemmas.Bool.{eqb-false}
+use Rattle.std.proofs.Common.{ℕ, zero, suc, ◌+◌, ◌-◌, ◌≤◌, ◌<◌, ◌≡◌, refl, sym, ap, ◌∙◌, Bool, true, false, cond, List, [], ◌∷◌, ◌++◌, add-zero, arith, ltb-true, ltb-false, eq-eqb, ne_eqb, eqb-true, ltb, eqb, length, get_or, take, drop, length-append, length-take, length-drop, take-append-drop, drop_at, length-take-le, get_or-append-add, get_or-take, get_or-drop}
 use Rattle.receipt.specs.Form.{first_at, next_at, part, Without}
 use Rattle.receipt.specs.Code.{last_before, last_at}
 
 -- ---- the first
-
-module _ (b : ℕ) (s : List ℕ) (i : ℕ) where
-  pub next_found : i < length s → get_or s i 0 ≡ b → next_at b s i ≡ i
-  unfolding next_at first_at
-  next_found h e = rw (drop-cons s i 0 h, eq-eqb (get_or s i 0) b e) (add-zero i)
-
-  pub next_more : i < length s → (get_or s i 0 ≡ b → ⊥) → next_at b s i ≡ next_at b s (i + 1)
-  unfolding next_at first_at
-  next_more h n = rw (drop-cons s i 0 h, ne_eqb (get_or s i 0) b n, add-one i) (omega arith)
-
-  pub next_end : length s ≤ i → next_at b s i ≡ i
-  unfolding next_at first_at
-  next_end h = rw (drop_of_length-le s h) (add-zero i)
-
-first_most : (b : ℕ) (s : List ℕ) → first_at b s ≤ length s
-unfolding first_at
-first_most b [] = omega arith
-first_most b (x ∷ s) = go (first_most b s) (eqb x b)
-  where
-    go : first_at b s ≤ length s → (t : Bool) → cond t 0 (suc (first_at b s)) ≤ suc (length s)
-    go h true = omega arith
-    go h false = omega arith
 
 first_is : (b : ℕ) (s : List ℕ) → first_at b s < length s → get_or s (first_at b s) 0 ≡ b
 unfolding first_at
@@ -51,10 +21,6 @@ module _ (b : ℕ) (s : List ℕ) (from : ℕ) where
   pub next_from : from ≤ next_at b s from
   unfolding next_at
   next_from = omega arith
-
-  pub next_most : next_at b s from ≤ from + length s
-  unfolding next_at
-  next_most = omega (arith, first_most b (drop from s), length-drop from s)
 
   -- where there is one, it stands there
   pub next_is : next_at b s from < length s → get_or s (next_at b s from) 0 ≡ b
@@ -92,6 +58,33 @@ first_before b (x ∷ s) i h q = go (first_before b s) (eqb x b) refl i h q
     go f false e zero k q = eqb-false x b e q
     go f false e (suc i) k q = f i (omega arith) q
 
+module _ (b : ℕ) (s : List ℕ) (from : ℕ) where
+  -- a place where it stands is the next, if it does not stand before it
+  pub next_here : (i : ℕ) → from ≤ i → i < length s → get_or s i 0 ≡ b → ((k : ℕ) → from ≤ k → k < i → get_or s k 0 ≡ b → ⊥) → next_at b s from ≡ i
+  unfolding next_at
+  next_here i h l e n = go (ltb (first_at b (drop from s)) (i - from)) refl (ltb (i - from) (first_at b (drop from s))) refl
+    where
+      go : (u : Bool) → ltb (first_at b (drop from s)) (i - from) ≡ u → (v : Bool) → ltb (i - from) (first_at b (drop from s)) ≡ v → from + first_at b (drop from s) ≡ i
+      go true p v q =
+          let f : first_at b (drop from s) < i - from = ltb-true (first_at b (drop from s)) (i - from) p in
+          let w : get_or (drop from s) (first_at b (drop from s)) 0 ≡ b = first_is b (drop from s) (omega (arith, length-drop from s)) in
+          absurd (n (from + first_at b (drop from s)) (omega arith) (omega arith) (sym (get_or-drop from s (first_at b (drop from s)) 0) ∙ w))
+      go false p true q =
+          let m : from + (i - from) ≡ i = omega arith in
+          let w : get_or (drop from s) (i - from) 0 ≡ b = get_or-drop from s (i - from) 0 ∙ ap (λ (k : ℕ). get_or s k 0) m ∙ e in
+          absurd (first_before b (drop from s) (i - from) (ltb-true (i - from) (first_at b (drop from s)) q) w)
+      go false p false q = omega (arith, ltb-false (first_at b (drop from s)) (i - from) p, ltb-false (i - from) (first_at b (drop from s)) q)
+
+  -- there is no next
+  pub next_nowhere : ((k : ℕ) → from ≤ k → k < length s → get_or s k 0 ≡ b → ⊥) → length s ≤ next_at b s from
+  next_nowhere n = go (ltb (next_at b s from) (length s)) refl
+    where
+      go : (u : Bool) → ltb (next_at b s from) (length s) ≡ u → length s ≤ next_at b s from
+      go true p =
+          let h : next_at b s from < length s = ltb-true (next_at b s from) (length s) p in
+          absurd (n (next_at b s from) (next_from b s from) h (next_is b s from h))
+      go false p = ltb-false (next_at b s from) (length s) p
+
 -- nor from a place on up to the next
 pub part_without : (b : ℕ) (s : List ℕ) (from : ℕ) → Without b (part from (next_at b s from) s)
 unfolding next_at
@@ -109,26 +102,6 @@ next_without b front xs ys from e w = rw (drop_at front (xs ++ (b ∷ ys)) from 
 -- ---- the last
 
 module _ (b : ℕ) (s : List ℕ) where
-  step : (i : ℕ) → 0 < i → last_before b s i ≡ cond (eqb (get_or s (i - 1) 0) b) (i - 1) (last_before b s (i - 1))
-  unfolding last_before
-  step zero h = absurd (omega arith)
-  step (suc n) h = let e : suc n - 1 ≡ n = omega arith in rw e
-
-  module _ (i : ℕ) (h : 0 < i) where
-    pub last_found : get_or s (i - 1) 0 ≡ b → last_before b s i ≡ i - 1
-    last_found e = rw (step i h, eq-eqb (get_or s (i - 1) 0) b e)
-
-    pub last_more : (get_or s (i - 1) 0 ≡ b → ⊥) → last_before b s i ≡ last_before b s (i - 1)
-    last_more n = rw (step i h, ne_eqb (get_or s (i - 1) 0) b n)
-
-  pub last_start : last_before b s (length s) ≡ last_at b s
-  unfolding last_at
-  last_start = refl
-
-  pub last_end : (i : ℕ) → i ≤ 0 → last_before b s i ≡ length s
-  unfolding last_before
-  last_end i h = let e : i ≡ 0 = omega arith in rw e
-
   before_is : (n : ℕ) → last_before b s n < length s → get_or s (last_before b s n) 0 ≡ b
   unfolding last_before
   before_is zero h = absurd (omega arith)
@@ -143,15 +116,6 @@ module _ (b : ℕ) (s : List ℕ) where
   pub last_is : last_at b s < length s → get_or s (last_at b s) 0 ≡ b
   unfolding last_at
   last_is h = before_is (length s) h
-
-  before_most : (n : ℕ) → n ≤ length s → last_before b s n ≤ length s
-  unfolding last_before
-  before_most zero h = omega arith
-  before_most (suc n) h = go (before_most n (omega arith)) (eqb (get_or s n 0) b)
-    where
-      go : last_before b s n ≤ length s → (t : Bool) → cond t n (last_before b s n) ≤ length s
-      go k true = omega arith
-      go k false = k
 
   -- none stands after it
   before_after : (n j : ℕ) → last_before b s n < j → j < n → get_or s j 0 ≡ b → ⊥
@@ -170,9 +134,46 @@ module _ (b : ℕ) (s : List ℕ) where
   unfolding last_at
   last_after j h k q = before_after (length s) j h k q
 
-  pub last_most : last_at b s ≤ length s
+  -- where there is one, the last is found
+  before_within : (n i : ℕ) → i < n → get_or s i 0 ≡ b → last_before b s n < n
+  unfolding last_before
+  before_within zero i h e = absurd (omega arith)
+  before_within (suc n) i h e = go (before_within n i) (eqb (get_or s n 0) b) refl
+    where
+      go : (i < n → get_or s i 0 ≡ b → last_before b s n < n) → (t : Bool) → eqb (get_or s n 0) b ≡ t → cond t n (last_before b s n) < suc n
+      go f true q = omega arith
+      go f false q = below (ltb i n) refl
+        where
+          below : (u : Bool) → ltb i n ≡ u → last_before b s n < suc n
+          below true p = let k : last_before b s n < n = f (ltb-true i n p) e in omega arith
+          below false p =
+              let w : i ≡ n = omega (arith, ltb-false i n p) in
+              absurd (eqb-false (get_or s n 0) b q (ap (λ (k : ℕ). get_or s k 0) (sym w) ∙ e))
+
+  last_within : (i : ℕ) → i < length s → get_or s i 0 ≡ b → last_at b s < length s
   unfolding last_at
-  last_most = before_most (length s) (omega arith)
+  last_within i h e = before_within (length s) i h e
+
+  -- a place where it stands is the last, if it does not stand after it
+  pub last_here : (i : ℕ) → i < length s → get_or s i 0 ≡ b → ((k : ℕ) → i < k → k < length s → get_or s k 0 ≡ b → ⊥) → last_at b s ≡ i
+  last_here i h e n = go (ltb (last_at b s) i) refl (ltb i (last_at b s)) refl
+    where
+      go : (t : Bool) → ltb (last_at b s) i ≡ t → (u : Bool) → ltb i (last_at b s) ≡ u → last_at b s ≡ i
+      go true p u q = absurd (last_after i (ltb-true (last_at b s) i p) h e)
+      go false p true q =
+          let w : last_at b s < length s = last_within i h e in
+          absurd (n (last_at b s) (ltb-true i (last_at b s) q) w (last_is w))
+      go false p false q = omega (arith, ltb-false (last_at b s) i p, ltb-false i (last_at b s) q)
+
+  -- there is none
+  pub last_nowhere : ((k : ℕ) → k < length s → get_or s k 0 ≡ b → ⊥) → length s ≤ last_at b s
+  last_nowhere n = go (ltb (last_at b s) (length s)) refl
+    where
+      go : (t : Bool) → ltb (last_at b s) (length s) ≡ t → length s ≤ last_at b s
+      go true q =
+          let h : last_at b s < length s = ltb-true (last_at b s) (length s) q in
+          absurd (n (last_at b s) h (last_is h))
+      go false q = ltb-false (last_at b s) (length s) q
 
 -- the last b is followed by a list without it
 module _ (b : ℕ) (xs ys : List ℕ) (w : Without b ys) where

@@ -1,159 +1,90 @@
 -- What the functions of the compact form show at their returns, over plain lists.
-use Prim.Native.Nat.{ℕ, ◌+◌, ◌-◌, ◌*◌, ◌/◌, ◌≤◌, ◌<◌}
-use mathlib.Core.Path.{◌≡◌, refl, sym, ap, ◌∙◌}
-use mathlib.Core.Bool.{Bool, true, false, cond, not, ◌&&◌}
-use mathlib.Core.List.{List, [], ◌∷◌, ◌++◌, append_assoc}
+use Rattle.std.proofs.Common.{ℕ, ◌+◌, ◌*◌, ◌/◌, ◌≤◌, ◌<◌, ◌≡◌, refl, sym, ap, ◌∙◌, Bool, true, false, cond, List, [], ◌∷◌, ◌++◌, append_assoc, arith, lt-ltb, le-ltb, leb-true, leb-false, leb, eqb, length, take, drop, length-append}
 use mathlib.Core.Option.{Option, none, some}
-use native.Mathlib.Omega.{arith}
-use borrow.Author.Tests.{lt-ltb, le-ltb, leb-true, leb-false, not-true, not-false}
-use lib.Dec.{leb}
-use lib.ListN.{length, take, drop, length-append, length-drop}
-use lib.Seq.{take_all}
-use Rattle.primitives.specs.Place.{overwrite, placed, room, place_after}
+use Rattle.primitives.specs.Place.{overwrite, placed, place_after}
 use Rattle.primitives.specs.Bytes.{same}
 use Rattle.primitives.specs.Base64.{answer_of, buffer_of, encoding, decoding}
-use Rattle.primitives.specs.declared.base64.Decoded.TheVariants.{Upto, Refused, NoRoom}
-use Rattle.primitives.specs.declared.base64.Alphabet.{Alphabet}
+use Rattle.std.specs.Prelude as Rust
+use Rattle.std.specs.Prelude.{Result, Some, None}
+use Rattle.std.specs.Result.{result_ok}
+use Rattle.std.specs.Cmp.Lexicographic.{pointwise}
+use Rattle.primitives.specs.declared.base64.DecodeError.{DecodeError}
 use Rattle.primitives.specs.declared.base64.Alphabet.TheVariants.{UrlSafe}
 use Rattle.primitives.proofs.Over.{placed_room, after_room, room_true, room_false, length_placed, length_over, read_over, then}
-use Rattle.primitives.proofs.ByteLists.{same_length}
-use Rattle.primitives.proofs.Questions.{yes, no}
 use Rattle.primitives.proofs.Base64Lengths.{length_encoding}
-use Rattle.receipt.specs.declared.form.Reading.{Reading}
-use Rattle.receipt.specs.Form.{next_at, part, Parts, parts, payload_good, signature_good, signed_input, signed_form, second_dot, parts_of_form, first_element}
+use Rattle.receipt.specs.Form.{next_at, part, parts, good_parts, signed_input, signed_form, second_dot, parts_of_form, first_element}
 use Rattle.receipt.specs.Payload.{longest_payload}
-use Rattle.receipt.specs.FormReading.{short, nothing, found}
-use Rattle.receipt.proofs.Finding.{next_from}
+use Rattle.receipt.specs.FormReading.{fitting}
 use Rattle.receipt.proofs.Texts.{first_long}
-use Rattle.receipt.proofs.CodeTexts.{read_parts}
-use Rattle.receipt.proofs.Forms.{dot_inverted, length_form}
+use Rattle.receipt.proofs.CodeTexts.{fit_parts}
+use Rattle.receipt.proofs.Forms.{length_form}
+use Rattle.receipt.proofs.Worded.{same_is, same_turned}
 
--- a part that is lent from the start, and one up to the end
-pub lent_front : (s : List ℕ) (n : ℕ) → take (n - 0) s ≡ take n s
-lent_front s n = let e : n - 0 ≡ n = omega arith in ap (λ (k : ℕ). take k s) e
+-- ---- reading BASE64 to the start of a buffer
 
-pub lent_rest : (s : List ℕ) (a : ℕ) → take (length s - a) (drop a s) ≡ drop a s
-lent_rest s a = take_all (length s - a) (drop a s) (omega (arith, length-drop a s))
-
--- ---- reading BASE64 into a buffer
-
-module _ (o : Option (List ℕ)) (out : List ℕ) where
-  pub decoded_upto : {n : ℕ} {out' : List ℕ} → Upto n ≡ answer_of o out 0 → out' ≡ buffer_of o out 0 → (n ≤ length out) × (take n out' ≡ short (length out) o)
-  decoded_upto {n} {out'} = cases o
+module _ (o : Option (List ℕ)) (out : List ℕ) {d : Result ℕ DecodeError} {r : Rust.Option ℕ} (is : d ≡ answer_of o out 0) (told : r ≡ result_ok d) where
+  pub decoded_upto : {n : ℕ} {out' : List ℕ} → r ≡ Some n → out' ≡ buffer_of o out 0 → (n ≤ length out) × (some (take n out') ≡ fitting (length out) o)
+  decoded_upto {n} {out'} u b = cases o (sym u ∙ told ∙ ap result_ok is) b
     where
-      cases : (q : Option (List ℕ)) → Upto n ≡ answer_of q out 0 → out' ≡ buffer_of q out 0 → (n ≤ length out) × (take n out' ≡ short (length out) q)
+      cases : (q : Option (List ℕ)) → Some n ≡ result_ok (answer_of q out 0) → out' ≡ buffer_of q out 0 → (n ≤ length out) × (some (take n out') ≡ fitting (length out) q)
       cases none e b = let z : ◌≡◌ {A = ℕ} 0 1 = cc in absurd (omega arith)
       cases (some ys) e b = fits (leb (length ys) (length out)) refl
         where
-          fits : (t : Bool) → leb (length ys) (length out) ≡ t → (n ≤ length out) × (take n out' ≡ cond t ys [])
+          fits : (t : Bool) → leb (length ys) (length out) ≡ t → (n ≤ length out) × (some (take n out') ≡ cond t (some ys) none)
           fits true q =
               let h : 0 + length ys ≤ length out = omega (arith, leb-true (length ys) (length out) q) in
-              let k : Upto n ≡ Upto (0 + length ys) = rw (room_true out 0 ys h) at e in
+              let k : Some n ≡ Some (0 + length ys) = rw (room_true out 0 ys h) at e in
               let m : n ≡ 0 + length ys = cc in
               let m₁ : n ≡ length ys = omega arith in
-              (omega arith, (λ i. take (m₁ i) ((b ∙ placed_room out 0 ys h) i)) ∙ read_over out 0 ys h)
+              (omega arith, (λ i. some (take (m₁ i) ((b ∙ placed_room out 0 ys h) i))) ∙ ap some (read_over out 0 ys h))
           fits false q =
               let h : length out < 0 + length ys = omega (arith, leb-false (length ys) (length out) q) in
-              let k : Upto n ≡ NoRoom = rw (room_false out 0 ys h) at e in
+              let k : Some n ≡ None = rw (room_false out 0 ys h) at e in
               let z : ◌≡◌ {A = ℕ} 0 1 = cc in
               absurd (omega arith)
 
-  pub decoded_refused : Refused ≡ answer_of o out 0 → [] ≡ short (length out) o
-  decoded_refused = cases o
+  pub decoded_not : r ≡ None → none ≡ fitting (length out) o
+  decoded_not u = cases o (sym u ∙ told ∙ ap result_ok is)
     where
-      cases : (q : Option (List ℕ)) → Refused ≡ answer_of q out 0 → [] ≡ short (length out) q
-      cases none e = refl
-      cases (some ys) e = fits (room out 0 ys) e
-        where
-          fits : (t : Bool) → Refused ≡ cond t (Upto (0 + length ys)) NoRoom → [] ≡ short (length out) (some ys)
-          fits true k = let z : ◌≡◌ {A = ℕ} 0 1 = cc in absurd (omega arith)
-          fits false k = let z : ◌≡◌ {A = ℕ} 0 1 = cc in absurd (omega arith)
-
-  pub decoded_full : NoRoom ≡ answer_of o out 0 → [] ≡ short (length out) o
-  decoded_full = cases o
-    where
-      cases : (q : Option (List ℕ)) → NoRoom ≡ answer_of q out 0 → [] ≡ short (length out) q
+      cases : (q : Option (List ℕ)) → None ≡ result_ok (answer_of q out 0) → none ≡ fitting (length out) q
       cases none e = refl
       cases (some ys) e = fits (leb (length ys) (length out)) refl
         where
-          fits : (t : Bool) → leb (length ys) (length out) ≡ t → [] ≡ cond t ys []
+          fits : (t : Bool) → leb (length ys) (length out) ≡ t → none ≡ cond t (some ys) none
           fits true q =
               let h : 0 + length ys ≤ length out = omega (arith, leb-true (length ys) (length out) q) in
-              let k : NoRoom ≡ Upto (0 + length ys) = rw (room_true out 0 ys h) at e in
+              let k : None ≡ Some (0 + length ys) = rw (room_true out 0 ys h) at e in
               let z : ◌≡◌ {A = ℕ} 0 1 = cc in
               absurd (omega arith)
           fits false q = refl
 
 -- ---- reading a compact form
 
-module _ (form : List ℕ) where
-  -- too short for the first element and its "."
-  pub dot_short : length form < 21 → length form ≡ second_dot form
+module _ (form : List ℕ) {first : List ℕ} (is : first ≡ first_element) {r : Bool} (begins : r ≡ pointwise eqb first (take (length first) form)) where
+  begins_with : r ≡ same (take 21 form) first_element
+  begins_with =
+      begins ∙ (λ i. pointwise eqb (is i) (take (length (is i)) form)) ∙ (λ i. pointwise eqb first_element (take (first_long i) form))
+      ∙ same_is first_element (take 21 form) ∙ same_turned first_element (take 21 form)
+
+  pub dot_other : r ≡ false → length form ≤ second_dot form
   unfolding second_dot
-  dot_short h =
-      let n : length (take 21 form) ≡ length first_element → ⊥ =
-      λ e. omega (arith, e, ap length (take_all 21 form (omega arith)), first_long) in
-      rw (same_length (take 21 form) first_element n)
+  dot_other t = rw (sym begins_with ∙ t) (omega arith)
 
-  pub dot_other : {first : List ℕ} → first ≡ first_element → same (take 21 form) first ≡ false → length form ≡ second_dot form
+  pub dot_next : r ≡ true → second_dot form ≡ next_at 46 form 21
   unfolding second_dot
-  dot_other f e = rw (ap (same (take 21 form)) (sym f) ∙ e)
+  dot_next t = rw (sym begins_with ∙ t)
 
-  pub dot_next : {first : List ℕ} → first ≡ first_element → same (take 21 form) first ≡ true → next_at 46 form 21 ≡ second_dot form
-  unfolding second_dot
-  dot_next f e = rw (ap (same (take 21 form)) (sym f) ∙ e)
+-- the parts of two elements, read into a buffer of the longest payload and one of 64 bytes
+pub form_parts : (form x y : List ℕ) → second_dot form < length form → x ≡ part 21 (second_dot form) form → y ≡ drop (second_dot form + 1) form → {a b : ℕ} → a ≡ longest_payload
+    → b ≡ 64 → {o₁ o₂ : Option (List ℕ)} → o₁ ≡ fitting a (decoding UrlSafe x) → o₂ ≡ fitting b (decoding UrlSafe y) → good_parts o₁ o₂ ≡ parts_of_form form
+unfolding parts_of_form
+form_parts form x y h p q la lb e₁ e₂ =
+    (λ i. good_parts (e₁ i) (e₂ i)) ∙ (λ i. good_parts (fitting (la i) (decoding UrlSafe (p i))) (fitting (lb i) (decoding UrlSafe (q i))))
+    ∙ fit_parts (decoding UrlSafe (part 21 (second_dot form) form)) (decoding UrlSafe (drop (second_dot form + 1) form)) ∙ rw (lt-ltb (second_dot form) (length form) h)
 
-  -- the second element starts at 21
-  pub dot_from : {e : ℕ} → e ≡ second_dot form → e < length form → 21 ≤ e
-  dot_from is h = omega (arith, is, (dot_inverted form (omega arith)).1, next_from 46 form 21)
-
-  pub form_none : length form ≤ second_dot form → none ≡ parts_of_form form
-  unfolding parts_of_form
-  form_none h = rw (le-ltb (second_dot form) (length form) h)
-
--- what a reader answers where there are no good parts
-pub nothing_read : {r : Reading} {o : Option Parts} (x y : List ℕ) (a : ℕ) → r ≡ nothing → none ≡ o
-    → (r.payload ≤ a) × (r.signature ≤ 64) × (found r.good (take r.payload x) (take r.signature y) ≡ o)
-unfolding found
-nothing_read x y a e n = rw e (omega arith, omega arith, n)
-
--- the signature is read from a place on into a buffer of 64 bytes
-module _ (alphabet : Alphabet) (text sig₀ sig : List ℕ) (from m : ℕ) (lb : length sig₀ ≡ 64)
-    (py : (m ≤ length sig₀) × (take m sig ≡ short (length sig₀) (decoding alphabet (take (length text - from) (drop from text))))) where
-  pub signature_read : take m sig ≡ short 64 (decoding alphabet (drop from text))
-  signature_read = py.1 ∙ (λ i. short (lb i) (decoding alphabet (lent_rest text from i)))
-
--- the two elements of a compact form, read into buffers
-module _ (form pay₀ sig₀ pay sig : List ℕ) (e n m : ℕ) (la : length pay₀ ≡ longest_payload) (lb : length sig₀ ≡ 64) (is : e ≡ second_dot form) (h : e < length form)
-    (px : (n ≤ length pay₀) × (take n pay ≡ short (length pay₀) (decoding UrlSafe (part 21 e form))))
-    (py : (m ≤ length sig₀) × (take m sig ≡ short (length sig₀) (decoding UrlSafe (take (length form - (e + 1)) (drop (e + 1) form))))) where
-  form_found : found (payload_good (take n pay) && signature_good (take m sig)) (take n pay) (take m sig) ≡ parts_of_form form
-  unfolding parts_of_form
-  form_found =
-      rw (sym is, lt-ltb e (length form) h, px.1 ∙ ap (λ (k : ℕ). short k (decoding UrlSafe (part 21 e form))) la, signature_read UrlSafe form sig₀ sig (e + 1) m lb py)
-      (read_parts (decoding UrlSafe (part 21 e form)) (decoding UrlSafe (drop (e + 1) form)))
-
-  pub form_bad : {g : Bool} → g ≡ payload_good (take (n - 0) pay) → not g ≡ true → none ≡ parts_of_form form
-  unfolding found
-  form_bad q t = rw (sym (lent_front pay n), no q t) at form_found
-
-  pub form_read : {g r : Bool} → g ≡ payload_good (take (n - 0) pay) → not g ≡ false → r ≡ signature_good (take (m - 0) sig)
-      → (n ≤ longest_payload) × (m ≤ 64) × (found r (take n pay) (take m sig) ≡ parts_of_form form)
-  form_read {g} {r} q t w =
-      let a : payload_good (take n pay) ≡ true = ap payload_good (sym (lent_front pay n)) ∙ yes q t in
-      let b : signature_good (take m sig) ≡ r = ap signature_good (sym (lent_front sig m)) ∙ sym w in
-      (omega (arith, px.0), omega (arith, py.0), rw (a, b) at form_found)
-
--- ---- what a reader's answer tells its caller
-
-module _ (g : Bool) (x y : List ℕ) {o : Option Parts} (e : found g x y ≡ o) where
-  pub found_none : not g ≡ true → none ≡ o
-  unfolding found
-  found_none t = rw (not-true g t) at e
-
-  pub found_some : not g ≡ false → some (parts x y) ≡ o
-  unfolding found
-  found_some t = rw (not-false g t) at e
+pub form_none : (form : List ℕ) → length form ≤ second_dot form → none ≡ parts_of_form form
+unfolding parts_of_form
+form_none form h = rw (le-ltb (second_dot form) (length form) h)
 
 -- ---- writing
 

@@ -1,10 +1,5 @@
 -- Which entries can be spelled.
-use Prim.Native.Nat.{ℕ, ◌≤◌}
-use mathlib.Core.Path.{◌≡◌, refl, sym, ap, ◌∙◌}
-use mathlib.Core.Bool.{Bool, true, false, not, ◌||◌}
-use mathlib.Core.List.{List}
-use borrow.Author.Tests.{leb-true, le-leb}
-use lib.ListN.{length, drop}
+use Rattle.std.proofs.Common.{ℕ, ◌≤◌, ◌≡◌, refl, sym, ap, ◌∙◌, Bool, true, false, not, ◌||◌, List, leb-true, le-leb, length, drop}
 use Rattle.primitives.proofs.Rows.{both, true-is-not-false}
 use Rattle.receipt.specs.Settings.{sized, zeros}
 use Rattle.receipt.specs.Payload.{counter_good}

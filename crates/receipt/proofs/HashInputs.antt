@@ -1,14 +1,8 @@
 -- The hash input of an IV under a shared key: where the ID in it ends, and that it has only one ID and one number.
-use Prim.Native.Nat.{ℕ, zero, suc, ◌+◌, ◌-◌, ◌<◌, ◌≤◌}
-use mathlib.Core.Path.{◌≡◌, refl, sym, ap, ◌∙◌}
-use mathlib.Core.Bool.{Bool, true, false}
-use mathlib.Core.List.{List, [], ◌∷◌, ◌++◌}
+use Rattle.std.proofs.Common.{ℕ, zero, suc, ◌+◌, ◌-◌, ◌<◌, ◌≤◌, ◌≡◌, refl, sym, ap, ◌∙◌, Bool, true, false, List, [], ◌∷◌, ◌++◌, arith, le-leb, leb-true, leb-false, leb, length, get_or, take, drop, length-append, get_or-append-add, get_or-take}
 use native.Mathlib.Nat.{sub-zero}
-use native.Mathlib.Omega.{arith}
-use borrow.Author.Tests.{le-leb, leb-true, leb-false}
-use lib.Dec.{leb}
-use lib.ListN.{length, get_or, take, drop, length-append, get_or-append}
-use lib.Seq.{get_or-append_seam, get_or-append-add, get_or-take, take-append_seam, drop-append_seam}
+use lib.ListN.{get_or-append}
+use lib.Seq.{get_or-append_seam, take-append_seam, drop-append_seam}
 use Rattle.primitives.proofs.Each.{Each, each_at}
 use Rattle.primitives.proofs.Rows.{true-is-not-false}
 use Rattle.receipt.specs.Decimal.{digits}

@@ -1,14 +1,7 @@
 -- The ID field of a code: it is found where there is one, at its place in the code, and nowhere else.
-use Prim.Native.Nat.{ℕ, ◌+◌, ◌-◌, ◌≤◌, ◌<◌}
-use mathlib.Core.Path.{◌≡◌, refl, sym, ap, ◌∙◌}
-use mathlib.Core.Bool.{Bool, true, false, cond}
-use mathlib.Core.List.{List, [], ◌∷◌, ◌++◌}
+use Rattle.std.proofs.Common.{ℕ, ◌+◌, ◌-◌, ◌≤◌, ◌<◌, ◌≡◌, refl, sym, ap, ◌∙◌, Bool, true, false, cond, List, [], ◌∷◌, ◌++◌, arith, lt-ltb, ltb-true, ltb, length, get_or, take, drop, length-append, length-take, length-drop, take_at, drop_at, drop-cons, get_or-take}
 use mathlib.Core.Option.{Option, none, some}
-use native.Mathlib.Omega.{arith}
-use borrow.Author.Tests.{lt-ltb, ltb-true}
-use lib.Dec.{ltb}
-use lib.ListN.{length, get_or, take, drop, length-append, length-take, length-drop}
-use lib.Seq.{take_at, drop_at, drop-cons, get_or-take, append_snoc}
+use lib.Seq.{append_snoc}
 use Rattle.primitives.specs.Bytes.{AllBytes}
 use Rattle.primitives.proofs.Rows.{both}
 use Rattle.receipt.specs.Texts.{beginning}

@@ -1,18 +1,10 @@
 -- Fields joined by '_': finding them, and the loops over five amounts.
-use mathlib.Core.Path.{◌≡◌, refl, sym, ap, ◌∙◌, subst}
-use mathlib.Core.Bool.{true, false, ◌&&◌}
-use mathlib.Core.List.{List, [], ◌∷◌, ◌++◌, append_assoc, append-nil}
-use Prim.Native.Nat.{ℕ, zero, suc, ◌+◌, ◌-◌, ◌<◌, ◌≤◌}
-use native.Mathlib.Omega.{arith}
-use native.Mathlib.Numerals.{add-one}
-use borrow.Author.Tests.{ne_eqb}
-use lib.IntN.{ℤ, pos}
-use lib.ListN.{length, take, drop, get_or, set, length-append, length-set, drop_of_length-le}
-use lib.Seq.{drop-cons, take-suc-set, take_all}
+use Rattle.std.proofs.Common.{◌≡◌, refl, sym, ap, ◌∙◌, subst, Bool, true, false, cond, not, ◌&&◌, Some, None, eqb, ltb, ltb-true, ltb-false, List, [], ◌∷◌, ◌++◌, append_assoc, append-nil, ℕ, zero, suc, ◌+◌, ◌-◌, ◌<◌, ◌≤◌, arith, add-one, ne_eqb, ℤ, pos, length, take, drop, get_or, set, length-append, length-drop, length-set, drop_of_length-le, drop-cons, take-suc-set, take_all}
+use Rattle.std.specs.List.{list_all, position, position_or_len}
 use Rattle.primitives.specs.Place.{overwrite}
 use Rattle.primitives.proofs.Writing.{Writing, writing_left, writing_more, writing_end, writing_fits}
 use Rattle.receipt.specs.Amount.{amount, within_limit, read_amount, amounts_text}
-use Rattle.receipt.specs.Separated.{after, skip, At, read_amounts}
+use Rattle.receipt.specs.Separated.{after, skip, read_amounts}
 use Rattle.receipt.specs.Details.{amounts_good, amounts_within}
 use Rattle.primitives.proofs.Over.{then}
 
@@ -26,55 +18,52 @@ pub after_other : (b : ℕ) (bs : List ℕ) → (b ≡ 95 → ⊥) → after (b 
 unfolding after
 after_other b bs h = rw (ne_eqb b 95 h)
 
-pub record Seeking (text : List ℕ) (at i : ℕ) : Type 0 where
-  pub inside : i ≤ length text
-  pub is : after (drop i text) ≡ after (drop at text)
+-- where the next one stands
+abbrev mark : List ℕ → ℕ
+mark bs = position_or_len (λ b. eqb b 95) bs
 
-pub seeking_start : (text : List ℕ) (at : ℕ) → at ≤ length text → Seeking text at at
-seeking_start text at h = record { inside = h; is = refl }
+after_drop : (bs : List ℕ) → after bs ≡ drop (suc (mark bs)) bs
+unfolding after
+after_drop [] = refl
+after_drop (b ∷ bs) = go (eqb b 95) (after_drop bs)
+  where
+    go : (t : Bool) → after bs ≡ drop (suc (mark bs)) bs → cond t bs (after bs) ≡ drop (suc (cond (not t) (1 + mark bs) 0)) (b ∷ bs)
+    go true q = refl
+    go false q = let one : suc (mark bs) ≡ 1 + mark bs = omega arith in q ∙ ap (λ (k : ℕ). drop k bs) one
 
-module _ {text : List ℕ} {at i : ℕ} (s : Seeking text at i) where
-  pub seeking_found : i < length text → get_or text i 0 ≡ 95 → At text (i + 1) (after (drop at text))
-  seeking_found h e =
-      record {
-        inside = omega arith;
-        is = ap (λ (k : ℕ). drop k text) (add-one i) ∙ sym (rw (drop-cons text i 0 h, e) (after_mark (drop (suc i) text))) ∙ s.is;
-      }
+pub after_short : (bs : List ℕ) → length (after bs) ≤ length bs
+after_short bs = omega (arith, ap length (after_drop bs), length-drop (suc (mark bs)) bs)
 
-  pub seeking_more : i < length text → (get_or text i 0 ≡ 95 → ⊥) → Seeking text at (i + 1)
-  seeking_more h n =
-      record {
-        inside = omega arith;
-        is = ap (λ (k : ℕ). after (drop k text)) (add-one i) ∙ sym (rw (drop-cons text i 0 h) (after_other (get_or text i 0) (drop (suc i) text) n)) ∙ s.is;
-      }
+module _ (bs : List ℕ) where
+  pub after_some : {n : ℕ} → Some n ≡ position (λ b. eqb b 95) bs → (n < length bs) × (drop (n + 1) bs ≡ after bs)
+  after_some {n} e = go (ltb (mark bs) (length bs)) refl e
+    where
+      go : (t : Bool) → ltb (mark bs) (length bs) ≡ t → Some n ≡ cond t (Some (mark bs)) None → (n < length bs) × (drop (n + 1) bs ≡ after bs)
+      go true l q =
+          let same : n ≡ mark bs = cc in
+          let next : n + 1 ≡ suc (mark bs) = omega arith in
+          (omega (arith, ltb-true (mark bs) (length bs) l), ap (λ (k : ℕ). drop k bs) next ∙ sym (after_drop bs))
+      go false l q = cc
 
-  pub seeking_end : length text ≤ i → At text i (after (drop at text))
-  unfolding after
-  seeking_end h =
-      let e : drop i text ≡ [] = drop_of_length-le text h in
-      record { inside = s.inside; is = e ∙ sym (ap after e) ∙ s.is }
+  pub after_none : None ≡ position (λ b. eqb b 95) bs → [] ≡ after bs
+  after_none e = go (ltb (mark bs) (length bs)) refl e
+    where
+      go : (t : Bool) → ltb (mark bs) (length bs) ≡ t → None ≡ cond t (Some (mark bs)) None → [] ≡ after bs
+      go true l q = cc
+      go false l q =
+          let past : length bs ≤ suc (mark bs) = omega (arith, ltb-false (mark bs) (length bs) l) in
+          sym (after_drop bs ∙ drop_of_length-le bs past)
 
 -- ---- after n fields
 
-pub record Skipping (text : List ℕ) (at n p k : ℕ) : Type 0 where
-  pub inside : p ≤ length text
-  pub is : skip k (drop p text) ≡ skip n (drop at text)
-
-pub skipping_start : (text : List ℕ) (at n : ℕ) → at ≤ length text → Skipping text at n at n
-skipping_start text at n h = record { inside = h; is = refl }
-
-skip_one : (k : ℕ) (bs : List ℕ) → 0 < k → skip k bs ≡ skip (k - 1) (after bs)
+pub skip_none : (bs : List ℕ) → bs ≡ skip 0 bs
 unfolding skip
-skip_one zero bs h = absurd (omega arith)
-skip_one (suc k) bs h = let e : k ≡ suc k - 1 = omega arith in ap (λ (j : ℕ). skip j (after bs)) e
+skip_none bs = refl
 
-module _ {text : List ℕ} {at n p k : ℕ} (s : Skipping text at n p k) where
-  pub skipping_more : {p' : ℕ} → 0 < k → At text p' (after (drop p text)) → Skipping text at n p' (k - 1)
-  skipping_more h a = record { inside = a.inside; is = ap (skip (k - 1)) a.is ∙ sym (skip_one k (drop p text) h) ∙ s.is }
-
-  pub skipping_end : k ≤ 0 → At text p (skip n (drop at text))
-  unfolding skip
-  skipping_end h = let e : 0 ≡ k = omega arith in record { inside = s.inside; is = ap (λ (j : ℕ). skip j (drop p text)) e ∙ s.is }
+pub skip_more : (k : ℕ) (bs : List ℕ) → skip (k + 1) bs ≡ after (skip k bs)
+unfolding skip
+skip_more zero bs = refl
+skip_more (suc k) bs = let e : suc k + 1 ≡ suc (k + 1) = omega arith in ap (λ (n : ℕ). skip n bs) e ∙ skip_more k (after bs)
 
 -- ---- five amounts
 
@@ -85,15 +74,10 @@ pub ok_here : (zs : List ℤ) (i : ℕ) → i < length zs → amounts_good (drop
 unfolding amounts_within
 ok_here zs i h = ap amounts_good (drop_here zs i h)
 
-pub ok_no : (zs : List ℤ) (i : ℕ) → i < length zs → within_limit (get_or zs i (pos 0)) ≡ false → amounts_good (drop i zs) ≡ false
-ok_no zs i h e = ok_here zs i h ∙ rw e
-
-pub ok_yes : (zs : List ℤ) (i : ℕ) → i < length zs → within_limit (get_or zs i (pos 0)) ≡ true → amounts_good (drop i zs) ≡ amounts_good (drop (i + 1) zs)
-ok_yes zs i h e = ok_here zs i h ∙ rw e
-
-pub ok_end : (zs : List ℤ) (i : ℕ) → length zs ≤ i → amounts_good (drop i zs) ≡ true
+pub all_good : (zs : List ℤ) → list_all within_limit zs ≡ amounts_good zs
 unfolding amounts_within
-ok_end zs i h = ap amounts_good (drop_of_length-le zs h)
+all_good [] = refl
+all_good (z ∷ zs) = ap (λ (t : Bool). within_limit z && t) (all_good zs)
 
 -- the loop that writes
 module _ (zs : List ℤ) (i : ℕ) {out₀ out : List ℕ} {at p : ℕ} (w : Writing out₀ at (amounts_text zs) out p (amounts_text (drop i zs))) (h : i < length zs) where
@@ -118,38 +102,36 @@ pub amounts_end : (zs : List ℤ) (i : ℕ) {out₀ out : List ℕ} {at p : ℕ}
 unfolding amounts_text
 amounts_end zs i w h = writing_end (writing_left w (ap amounts_text (drop_of_length-le zs h)))
 
--- the loop that reads
-pub record Taking (text : List ℕ) (at : ℕ) (a : List ℤ) (p i : ℕ) : Type 0 where
+-- the loop that reads: `rest` is left to read after i amounts
+pub record Taking (text : List ℕ) (a : List ℤ) (rest : List ℕ) (i : ℕ) : Type 0 where
   pub five : length a ≡ 5
-  pub inside : p ≤ length text
-  pub is : take i a ++ read_amounts (5 - i) (drop p text) ≡ read_amounts 5 (drop at text)
+  pub is : take i a ++ read_amounts (5 - i) rest ≡ read_amounts 5 text
 
-pub taking_start : (text : List ℕ) (at : ℕ) (a : List ℤ) → length a ≡ 5 → at ≤ length text → Taking text at a at 0
-taking_start text at a l h = record { five = l; inside = h; is = refl }
+pub taking_start : (text : List ℕ) (a : List ℤ) → length a ≡ 5 → Taking text a text 0
+taking_start text a l = record { five = l; is = refl }
 
 read_one : (k : ℕ) (bs : List ℕ) → 0 < k → read_amounts k bs ≡ read_amount bs ∷ read_amounts (k - 1) (after bs)
 unfolding read_amounts
 read_one zero bs h = absurd (omega arith)
 read_one (suc k) bs h = let e : k ≡ suc k - 1 = omega arith in ap (λ (j : ℕ). read_amount bs ∷ read_amounts j (after bs)) e
 
-module _ {text : List ℕ} {at p i : ℕ} {a : List ℤ} (t : Taking text at a p i) where
-  pub taking_more : {z : ℤ} {p' : ℕ} → i < 5 → z ≡ read_amount (drop p text) → At text p' (after (drop p text)) → Taking text at (set a i z) p' (i + 1)
-  taking_more {z} {p'} h e n =
+module _ {text rest : List ℕ} {i : ℕ} {a : List ℤ} (t : Taking text a rest i) where
+  pub taking_more : {z : ℤ} {next : List ℕ} → i < 5 → z ≡ read_amount rest → next ≡ after rest → Taking text (set a i z) next (i + 1)
+  taking_more {z} {next} h e n =
       record {
         five = length-set a i z ∙ t.five;
-        inside = n.inside;
-        is = rw (n.is, add-one i, take-suc-set a i z (omega (arith, t.five)), append_assoc, e, s)
-            (ap (λ (l : List ℤ). take i a ++ l) (sym (read_one (5 - i) (drop p text) (omega arith))) ∙ t.is);
+        is = rw (n, add-one i, take-suc-set a i z (omega (arith, t.five)), append_assoc, e, s)
+            (ap (λ (l : List ℤ). take i a ++ l) (sym (read_one (5 - i) rest (omega arith))) ∙ t.is);
       }
     where
       s : 5 - suc i ≡ 5 - i - 1
       s = omega arith
 
-  pub taking_end : 5 ≤ i → a ≡ read_amounts 5 (drop at text)
+  pub taking_end : 5 ≤ i → a ≡ read_amounts 5 text
   unfolding read_amounts
   taking_end h =
       let e : 5 - i ≡ 0 = omega arith in
       sym (take_all i a (omega (arith, t.five)))
       ∙ sym (append-nil (take i a))
-      ∙ sym (ap (λ (k : ℕ). take i a ++ read_amounts k (drop p text)) e)
+      ∙ sym (ap (λ (k : ℕ). take i a ++ read_amounts k rest) e)
       ∙ t.is

@@ -41,4 +41,5 @@ pub mod Spellings
 pub mod Texts
 pub mod TwelveFields
 pub mod Undoing
+pub mod Worded
 pub mod Written

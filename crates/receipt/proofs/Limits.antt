@@ -1,11 +1,5 @@
 -- An entry under another limit of an amount: nothing but question 9 is asked again.
-use Prim.Native.Nat.{ℕ, ◌≤◌}
-use mathlib.Core.Path.{◌≡◌, refl}
-use mathlib.Core.Bool.{true}
-use mathlib.Core.List.{List, [], ◌∷◌}
-use native.Mathlib.Omega.{arith}
-use borrow.Author.Tests.{le-leb, leb-true}
-use lib.IntN.{ℤ, nat_abs}
+use Rattle.std.proofs.Common.{ℕ, ◌≤◌, ◌≡◌, refl, true, List, [], ◌∷◌, arith, le-leb, leb-true, ℤ, nat_abs}
 use Rattle.primitives.proofs.Rows.{both}
 use Rattle.receipt.specs.Amount.{within}
 use Rattle.receipt.specs.Details.{amounts_within}

@@ -1,13 +1,6 @@
 -- The fields of a code or of a line: good fields are read back from their text, and have no other text.
-use Prim.Native.Nat.{ℕ, ◌+◌, ◌-◌, ◌≤◌}
-use mathlib.Core.Path.{◌≡◌, refl, sym, ap, ◌∙◌, subst}
-use mathlib.Core.Bool.{Bool, true, false, cond}
-use mathlib.Core.List.{List, append_assoc}
+use Rattle.std.proofs.Common.{ℕ, ◌+◌, ◌-◌, ◌≤◌, ◌≡◌, refl, sym, ap, ◌∙◌, subst, Bool, true, false, cond, List, append_assoc, arith, eqb-true, eqb, length, take, drop}
 use mathlib.Core.Option.{Option, none, some}
-use native.Mathlib.Omega.{arith}
-use borrow.Author.Tests.{eqb-true}
-use lib.Dec.{eqb}
-use lib.ListN.{length, take, drop}
 use Rattle.primitives.specs.Bytes.{AllBytes}
 use Rattle.primitives.proofs.ByteLists.{bytes_take, bytes_drop}
 use Rattle.primitives.proofs.Rows.{both}

@@ -1,13 +1,6 @@
 -- The last four "_" of a text: five texts with "_" between them are found again, and a text that has the four "_" is split there.
-use Prim.Native.Nat.{ℕ, ◌+◌, ◌-◌, ◌≤◌, ◌<◌}
-use mathlib.Core.Path.{◌≡◌, refl, sym, ap, ◌∙◌}
-use mathlib.Core.Bool.{true, ◌&&◌}
-use mathlib.Core.List.{List, [], ◌∷◌, ◌++◌, append_assoc}
-use native.Mathlib.Omega.{arith}
-use borrow.Author.Tests.{lt-ltb, ltb-true}
-use lib.Dec.{ltb}
-use lib.ListN.{length, get_or, take, drop, length-append, length-drop}
-use lib.Seq.{take_at, drop_at, take_all, length-take-le, append_snoc}
+use Rattle.std.proofs.Common.{ℕ, ◌+◌, ◌-◌, ◌≤◌, ◌<◌, ◌≡◌, refl, sym, ap, ◌∙◌, true, ◌&&◌, List, [], ◌∷◌, ◌++◌, append_assoc, arith, lt-ltb, ltb-true, ltb, length, get_or, take, drop, length-append, length-drop, take_at, drop_at, take_all, length-take-le}
+use lib.Seq.{append_snoc}
 use Rattle.primitives.proofs.Rows.{both}
 use Rattle.receipt.specs.Form.{part, Without}
 use Rattle.receipt.specs.Code.{last_at}

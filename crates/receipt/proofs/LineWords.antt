@@ -1,17 +1,10 @@
 -- The optical line of a code in the paper's words: a text with nine "_" that begins with one is nine fields, each after its "_".
-use Prim.Native.Nat.{ℕ, zero, suc, ◌≤◌, ◌<◌}
-use mathlib.Core.Path.{◌≡◌, refl, sym, ap, ◌∙◌, subst}
-use mathlib.Core.Bool.{Bool, true, false}
-use mathlib.Core.List.{List, [], ◌∷◌, ◌++◌, append_assoc, append-nil}
-use mathlib.Core.Logic.{◌↔◌, inl, inr}
-use native.Mathlib.Omega.{arith}
-use borrow.Author.Tests.{eq-eqb, eqb-true, eqb-false}
-use lib.Dec.{eqb}
-use lib.ListN.{length, get_or, take}
+use Rattle.std.proofs.lemmas.Bool.{eqb-false}
+use Rattle.std.proofs.Common.{ℕ, zero, suc, ◌≤◌, ◌<◌, ◌≡◌, refl, sym, ap, ◌∙◌, subst, Bool, true, false, List, [], ◌∷◌, ◌++◌, append_assoc, append-nil, ◌↔◌, inl, inr, arith, eq-eqb, eqb-true, eqb, length, get_or, take}
 use Rattle.primitives.specs.Bytes.{AllBytes}
 use Rattle.primitives.specs.Text.{ascii}
 use Rattle.primitives.specs.Questions.{Row, asked_all, question, AllYes, FirstNoIs, GivesFirstNo}
-use Rattle.primitives.specs.declared.answer.Answer.{Answer}
+use Rattle.primitives.specs.Answers.{Answer}
 use Rattle.primitives.proofs.ByteLists.{bytes_nil, bytes_cons, bytes_head, bytes_tail, bytes_append}
 use Rattle.receipt.specs.Form.{Parts, parts}
 use Rattle.receipt.specs.Code.{code_text}

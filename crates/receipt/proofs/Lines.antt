@@ -1,10 +1,6 @@
 -- The optical line of a code: the reader is exact, a line is the image of a code, and the calls undo each other.
-use Prim.Native.Nat.{ℕ, ◌+◌, ◌*◌, ◌/◌, ◌≤◌}
-use mathlib.Core.Path.{◌≡◌, refl, sym, ap, ◌∙◌}
-use mathlib.Core.List.{List, [], ◌∷◌}
+use Rattle.std.proofs.Common.{ℕ, ◌+◌, ◌*◌, ◌/◌, ◌≤◌, ◌≡◌, refl, sym, ap, ◌∙◌, List, [], ◌∷◌, arith, length, length-append}
 use mathlib.Core.Option.{Option, none, some, map}
-use native.Mathlib.Omega.{arith}
-use lib.ListN.{length, length-append}
 use Rattle.primitives.specs.Place.{placed}
 use Rattle.primitives.specs.Answers.{written, answer_with, bufferWith}
 use Rattle.primitives.specs.Bytes.{AllBytes}

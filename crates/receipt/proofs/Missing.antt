@@ -1,17 +1,6 @@
 -- Laws of the primitives' definitions that follow from their laws.
-use Prim.Native.Nat.{ℕ, zero, suc, ◌-◌, ◌<◌, ◌≤◌}
-use mathlib.Core.Path.{◌≡◌, refl, sym, ap, ◌∙◌}
-use mathlib.Core.Bool.{Bool, true, false}
-use mathlib.Core.List.{List, [], append-nil}
+use Rattle.std.proofs.Common.{ℕ, zero, suc, ◌-◌, ◌<◌, ◌≤◌, ◌≡◌, refl, sym, ap, ◌∙◌, Bool, true, false, List, [], append-nil, add-one, arith, leb-true, leb-false, leb, bit_xor, ℤ, length, get_or, drop, replicate, drop_of_length-le, drop_at, drop-set-lt}
 use native.Mathlib.Nat.{sub-zero, zero-sub, suc-sub-suc}
-use native.Mathlib.Numerals.{add-one}
-use native.Mathlib.Omega.{arith}
-use borrow.Author.Tests.{leb-true, leb-false}
-use lib.Dec.{leb}
-use lib.Bits.{bit_xor}
-use lib.IntN.{ℤ}
-use lib.ListN.{length, get_or, drop, replicate, drop_of_length-le}
-use lib.Seq.{drop_at, drop-set-lt}
 use Rattle.primitives.specs.Place.{overwrite, placed}
 use Rattle.primitives.specs.Number.{bytes_of}
 use Rattle.primitives.specs.Counter.{twos, counter_fits, counter_bytes, xor_first}

@@ -1,71 +1,32 @@
 -- Names: a register ID or a serial, its text, and what is known of a good one.
-use Prim.Native.Nat.{ℕ, zero, suc, ◌+◌, ◌-◌, ◌<◌, ◌≤◌, min}
-use mathlib.Core.Path.{◌≡◌, refl, sym, ap, ◌∙◌}
-use mathlib.Core.Bool.{Bool, true, false, not, ◌&&◌, ◌||◌, and-true}
-use mathlib.Core.List.{List, [], ◌∷◌, ◌++◌}
-use native.Mathlib.Nat.{sub-zero}
-use native.Mathlib.Numerals.{add-one}
-use native.Mathlib.Omega.{arith}
-use borrow.Author.Tests.{le-leb, lt-leb, leb-true, leb-false, eqb-true, eqb-false, not-true, not-false}
-use lib.Dec.{leb, eqb}
-use lib.ListN.{length, get_or, take, drop, replicate, drop_of_length-le, length-take, length-drop, length-replicate, take-append-drop, replicate-append-replicate}
-use lib.Seq.{drop-cons, take_all, take_at, drop_at, length-take-le}
+use Rattle.std.proofs.Common.{◌≡◌, ℕ, zero, suc, ◌-◌, ◌<◌, ◌≤◌, min, Bool, true, false, not, ◌&&◌, ◌||◌, leb, eqb, List, [], ◌∷◌, ◌++◌, length, get_or, take, drop, replicate, refl, sym, ap, ◌∙◌, arith, take_all, take_at, drop_at, length-take-le, le-leb, leb-true, eqb-true, length-take, length-drop, take-append-drop}
+use Rattle.std.proofs.lemmas.Bool.{eqb-false, not-true}
+use Rattle.std.proofs.lemmas.List.{take_min, drop-replicate}
+use mathlib.Core.Bool.{and-true}
+use Rattle.std.specs.List.{list_all}
+use Rattle.std.specs.Char.{is_ascii_digit}
 use Rattle.primitives.specs.Bytes.{AllBytes}
 use Rattle.primitives.specs.Counter.{width_good}
 use Rattle.primitives.specs.Questions.{ask}
-use Rattle.primitives.specs.Place.{overwrite, placed}
 use Rattle.primitives.proofs.ByteLists.{bytes_nil, bytes_cons}
-use Rattle.primitives.proofs.Over.{placed_room}
-use Rattle.primitives.proofs.Rewrites.{over_middle}
 use Rattle.receipt.specs.declared.settings.Name.{Name}
 use Rattle.receipt.specs.declared.settings.Settings.{Settings}
 use Rattle.receipt.specs.declared.settings.Letters.{Letters}
 use Rattle.receipt.specs.declared.settings.Letters.TheVariants.{Id, Serial, Zero}
 use Rattle.receipt.specs.Settings.{between, id_letter, serial_letter, letter_good, every, name_text, name_good, name_of, csp_good, id_good, serial_good, settings_good, ends_in_digit, id_allowed, settings_number_for, sized, UnsharedAsksOneToFour}
-use Rattle.primitives.proofs.Questions.{yes, no}
 use Rattle.primitives.proofs.Rows.{both, ask_zero, ask_yes, ask_no}
 
--- ---- the loop over the bytes of one class, at the place i
+-- ---- `all` over the bytes of one class
 
-module _ (class : Letters) (s : List ℕ) (i : ℕ) where
-  pub every_no : i < length s → letter_good class (get_or s i 0) ≡ false → every class (drop i s) ≡ false
-  unfolding every
-  every_no h e = rw (drop-cons s i 0 h, e)
+pub every_all : (class : Letters) (s : List ℕ) → list_all (letter_good class) s ≡ every class s
+unfolding every
+every_all class [] = refl
+every_all class (b ∷ bs) = ap (λ (t : Bool). letter_good class b && t) (every_all class bs)
 
-  pub every_yes : i < length s → letter_good class (get_or s i 0) ≡ true → every class (drop i s) ≡ every class (drop (i + 1) s)
-  unfolding every
-  every_yes h e = rw (drop-cons s i 0 h, e, add-one i)
-
-  pub every_end : length s ≤ i → every class (drop i s) ≡ true
-  unfolding every
-  every_end h = rw (drop_of_length-le s h)
-
--- ---- the questions about a name
-
-module _ (class : Letters) (name : Name) where
-  pub name_empty : name.len < 1 → false ≡ name_good class name
-  unfolding name_good
-  name_empty h = rw (lt-leb 1 name.len h)
-
-  module _ (h : 1 ≤ name.len) where
-    pub name_long : 32 < name.len → false ≡ name_good class name
-    unfolding name_good
-    name_long g = rw (le-leb 1 name.len h, lt-leb name.len 32 g)
-
-    module _ (g : name.len ≤ 32) {r : Bool} (e : r ≡ every class (take (name.len - 0) name.bytes)) where
-      letters : r ≡ every class (name_text name)
-      unfolding name_text
-      letters = e ∙ ap (λ (n : ℕ). every class (take n name.bytes)) (sub-zero name.len)
-
-      pub name_letters : not r ≡ true → false ≡ name_good class name
-      unfolding name_good
-      name_letters t = rw (le-leb 1 name.len h, le-leb name.len 32 g, no letters t)
-
-      pub name_zeros : {z : Bool} → length name.bytes ≡ 32 → not r ≡ false → z ≡ every Zero (take (32 - name.len) (drop name.len name.bytes)) → z ≡ name_good class name
-      unfolding name_good
-      name_zeros l t q =
-          rw (le-leb 1 name.len h, le-leb name.len 32 g, yes letters t)
-          (q ∙ ap (every Zero) (take_all (32 - name.len) (drop name.len name.bytes) (omega (arith, length-drop name.len name.bytes))))
+-- a digit, as the method tells it
+pub digit_is : (b : ℕ) → is_ascii_digit b ≡ between 48 57 b
+unfolding between
+digit_is b = grind arith
 
 -- ---- what is known of a good name
 
@@ -184,52 +145,26 @@ good_of class t = go (leb (length t) 32) refl
         rw (text_of t h, z, and-true (every class t))
     go false e = refl
 
--- what stands from a place on, whether or not the place is within the list
-pub drop_lesser : (at : ℕ) (b : List ℕ) {n k : ℕ} → length b ≡ k → n ≡ min at k → take (k - n) (drop n b) ≡ drop at b
-drop_lesser at b {n} {k} l e = go (leb at k) refl
-  where
-    go : (t : Bool) → leb at k ≡ t → take (k - n) (drop n b) ≡ drop at b
-    go true t =
-        let s : n ≡ at = omega (arith, leb-true at k t) in
-        take_all (k - n) (drop n b) (omega (arith, length-drop n b)) ∙ ap (λ (m : ℕ). drop m b) s
-    go false t =
-        let g : k < at = leb-false at k t in
-        let h : length b ≤ at = omega arith in
-        let j : length b ≤ n = omega arith in
-        ap (take (k - n)) (drop_of_length-le b j) ∙ take_all (k - n) [] (omega arith) ∙ sym (drop_of_length-le b h)
+-- the part of a list up to n or its end, whichever comes first
+pub take_lesser : (k : ℕ) (xs : List ℕ) {n : ℕ} → n ≡ min k (length xs) → take (n - 0) xs ≡ take k xs
+take_lesser k xs {n} e = let m : n - 0 ≡ min k (length xs) = omega arith in ap (λ (j : ℕ). take j xs) m ∙ take_min k xs
 
 -- ---- a text that is copied into an array of zeros
 
--- the part of a list up to n or its end, whichever comes first
-pub take_lesser : (k : ℕ) (xs : List ℕ) {n : ℕ} → n ≡ min k (length xs) → take (n - 0) xs ≡ take k xs
-take_lesser k xs {n} e = go (leb k (length xs)) refl
-  where
-    go : (t : Bool) → leb k (length xs) ≡ t → take (n - 0) xs ≡ take k xs
-    go true t = let s : n - 0 ≡ k = omega (arith, leb-true k (length xs) t) in ap (λ (m : ℕ). take m xs) s
-    go false t =
-        let g : length xs < k = leb-false k (length xs) t in
-        take_all (n - 0) xs (omega arith) ∙ sym (take_all k xs (omega arith))
-
-over_zeros : (t : List ℕ) → length t ≤ 32 → overwrite (replicate 32 0) 0 t ≡ t ++ replicate (32 - length t) 0
-over_zeros t h =
-    let e : 32 ≡ length t + (32 - length t) = omega arith in
-    ap (λ (n : ℕ). overwrite (replicate n 0) 0 t) e
-    ∙ ap (λ (l : List ℕ). overwrite l 0 t) (sym (replicate-append-replicate (length t) (32 - length t) 0))
-    ∙ over_middle [] (replicate (length t) 0) (replicate (32 - length t) 0) t (length-replicate (length t) 0)
-
-pub put_name : (t : List ℕ) {n : ℕ} {b : List ℕ} → n ≡ min 32 (length t) → b ≡ placed (replicate 32 0) 0 (take (n - 0) t)
-    → ◌≡◌ {A = Name} (record { bytes = b; len = length t }) (name_of t)
+-- the first n bytes of the text, and the zeros after them
+pub put_name : (t : List ℕ) {n : ℕ} {b : List ℕ} → n ≡ min (length t) 32 → b ≡ take n t
+    → ◌≡◌ {A = Name} (record { bytes = b ++ drop n (replicate 32 0); len = length t }) (name_of t)
 unfolding name_of
 put_name t {n} {b} e q = λ i. record { bytes = array i; len = length t }
   where
-    short : length (take 32 t) ≤ 32
-    short = omega (arith, length-take 32 t)
+    copied : take n t ≡ take 32 t
+    copied = let m : n ≡ min 32 (length t) = omega arith in ap (λ (k : ℕ). take k t) m ∙ take_min 32 t
 
-    array : b ≡ take 32 t ++ replicate (32 - length t) 0
-    array =
-        let s : 32 - length (take 32 t) ≡ 32 - length t = omega (arith, length-take 32 t) in
-        q ∙ ap (placed (replicate 32 0) 0) (take_lesser 32 t e) ∙ placed_room (replicate 32 0) 0 (take 32 t) (omega (arith, short))
-        ∙ over_zeros (take 32 t) short ∙ ap (λ (m : ℕ). take 32 t ++ replicate m 0) s
+    left : 32 - n ≡ 32 - length t
+    left = omega arith
+
+    array : b ++ drop n (replicate 32 0) ≡ take 32 t ++ replicate (32 - length t) 0
+    array = rw (q, copied, drop-replicate {X = ℕ} n 32 0, left)
 
 -- ---- good settings
 
@@ -251,9 +186,6 @@ good_sized s e =
     let g = good_settings s e in
     rw (le-leb s.id.len 32 g.id.most, le-leb s.serial.len 32 g.serial.most)
 
-csp_byte : (low high b : ℕ) → high < 256 → between low high b ≡ true → b < 256
-csp_byte low high b h e = omega (arith, (between_true low high b e).1)
-
 -- ---- the IDs of a key that is not shared, and of a shared one
 
 -- every one
@@ -265,14 +197,6 @@ id_own id = refl
 pub id_shared : (id : Name) → id_allowed true id ≡ not (ends_in_digit id)
 unfolding id_allowed
 id_shared id = refl
-
-pub id_not_shared : (shared : Bool) (id : Name) → not shared ≡ true → true ≡ id_allowed shared id
-id_not_shared shared id e = sym (ap (λ (b : Bool). id_allowed b id) (not-true shared e) ∙ id_own id)
-
-pub id_by_last : (shared : Bool) (id : Name) {r : Bool} → not shared ≡ false → r ≡ between 48 57 (get_or id.bytes (id.len - 1) 0)
-    → not r ≡ id_allowed shared id
-unfolding ends_in_digit
-id_by_last shared id e q = ap not q ∙ sym (ap (λ (b : Bool). id_allowed b id) (not-false shared e) ∙ id_shared id)
 
 -- ---- questions 1, 2, 32, 3 and 4 in a row
 

@@ -1,10 +1,5 @@
 -- A payload is bytes, four at least, and begins with "_R1-".
-use mathlib.Core.Path.{◌≡◌, refl}
-use mathlib.Core.List.{List, [], ◌∷◌, ◌++◌}
-use Prim.Native.Nat.{ℕ, ◌<◌, ◌≤◌}
-use native.Mathlib.Omega.{arith}
-use lib.IntN.{ℤ}
-use lib.ListN.{length, take, length-append}
+use Rattle.std.proofs.Common.{◌≡◌, refl, List, [], ◌∷◌, ◌++◌, ℕ, ◌<◌, ◌≤◌, arith, ℤ, length, take, length-append}
 use Rattle.primitives.specs.Bytes.{AllBytes}
 use Rattle.primitives.specs.declared.base64.Alphabet.TheVariants as alphabet
 use Rattle.primitives.proofs.ByteLists.{bytes_nil, bytes_cons, bytes_append, bytes_take}

@@ -1,14 +1,5 @@
 -- The fields of a receipt's code: they are good, and how long they are.
-use Prim.Native.Nat.{ℕ, zero, suc, ◌+◌, ◌*◌, ◌≤◌, ◌<◌}
-use mathlib.Core.Path.{◌≡◌, refl, sym, ap, ◌∙◌, subst}
-use mathlib.Core.Bool.{true, ◌&&◌}
-use mathlib.Core.List.{List, [], ◌∷◌, ◌++◌, append_assoc, append-nil}
-use native.Mathlib.Omega.{arith}
-use borrow.Author.Tests.{eq-eqb, leb-true}
-use lib.Dec.{leb}
-use lib.IntN.{ℤ}
-use lib.ListN.{length, get_or, take, length-append, length-take}
-use lib.Seq.{take_at}
+use Rattle.std.proofs.Common.{ℕ, zero, suc, ◌+◌, ◌*◌, ◌≤◌, ◌<◌, ◌≡◌, refl, sym, ap, ◌∙◌, subst, true, ◌&&◌, List, [], ◌∷◌, ◌++◌, append_assoc, append-nil, arith, eq-eqb, leb-true, leb, ℤ, length, get_or, take, length-append, length-take, take_at}
 use Rattle.primitives.specs.Bytes.{AllBytes}
 use Rattle.primitives.proofs.ByteLists.{bytes_take}
 use Rattle.primitives.proofs.Rows.{both}

@@ -1,11 +1,6 @@
 -- Every receipt has a line, and how long it is at most.
-use Prim.Native.Nat.{ℕ, ◌≤◌}
-use mathlib.Core.Path.{◌≡◌, refl, sym, ap, subst}
-use mathlib.Core.Bool.{true}
-use mathlib.Core.List.{List}
+use Rattle.std.proofs.Common.{ℕ, ◌≤◌, ◌≡◌, refl, sym, ap, subst, true, List, arith, length}
 use mathlib.Core.Option.{Option, some, map}
-use native.Mathlib.Omega.{arith}
-use lib.ListN.{length}
 use Rattle.primitives.specs.Answers.{written, answer_with, bufferWith}
 use Rattle.primitives.specs.Bytes.{AllBytes}
 use Rattle.primitives.specs.Place.{placed}

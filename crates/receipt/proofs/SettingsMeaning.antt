@@ -1,14 +1,6 @@
 -- Good settings in the paper's words, and the order in which they are asked.
-use Prim.Native.Nat.{ℕ, zero, suc, ◌+◌, ◌-◌, ◌<◌, ◌≤◌}
-use mathlib.Core.Path.{◌≡◌, refl, sym, ap, ◌∙◌, subst}
-use mathlib.Core.Bool.{Bool, true, false, not, ◌&&◌, ◌||◌}
-use mathlib.Core.List.{List, [], ◌∷◌}
-use mathlib.Core.Logic.{inl, inr}
-use native.Mathlib.Omega.{arith}
-use borrow.Author.Tests.{le-leb, leb-true, eqb-true, eqb-false, eq-eqb, ne_eqb, not-true}
-use lib.Dec.{leb, eqb}
-use lib.ListN.{length, get_or, take, drop}
-use lib.Seq.{length-take-le, get_or-take, get_or-drop}
+use Rattle.std.proofs.Common.{ℕ, zero, suc, ◌+◌, ◌-◌, ◌<◌, ◌≤◌, ◌≡◌, refl, sym, ap, ◌∙◌, subst, Bool, true, false, not, ◌&&◌, ◌||◌, List, [], ◌∷◌, inl, inr, arith, le-leb, leb-true, eqb-true, eq-eqb, ne_eqb, leb, eqb, length, get_or, take, drop, length-take-le, get_or-take, get_or-drop}
+use Rattle.std.proofs.lemmas.Bool.{eqb-false, not-true}
 use Rattle.primitives.specs.Counter.{width_good}
 use Rattle.primitives.specs.Questions.{Row, asked_all, GivesFirstNo}
 use Rattle.primitives.proofs.FirstNo.{gives_none, gives_ask, gives_same}

@@ -1,8 +1,5 @@
 -- The bytes that numbers, amounts and dates are made of: digits, ',', '-', ':' and 'T'.
-use mathlib.Core.List.{List, [], ◌∷◌}
-use Prim.Native.Nat.{ℕ, zero, suc, ◌+◌, ◌/◌, ◌%◌, ◌<◌}
-use native.Mathlib.Omega.{arith}
-use lib.IntN.{ℤ, pos, negsuc}
+use Rattle.std.proofs.Common.{List, [], ◌∷◌, ℕ, zero, suc, ◌+◌, ◌/◌, ◌%◌, ◌<◌, arith, ℤ, pos, negsuc}
 use Rattle.primitives.proofs.Each.{Each, none_left, one_more, each_append}
 use Rattle.receipt.specs.Decimal.{fixed_onto, fixed, digits, width}
 use Rattle.receipt.specs.Amount.{cents, amount}

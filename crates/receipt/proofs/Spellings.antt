@@ -1,9 +1,6 @@
 -- The two spellings of a field, BASE64 and BASE32: each is read back and has no other text, and has no "_".
-use Prim.Native.Nat.{ℕ, ◌+◌, ◌*◌, ◌/◌}
-use mathlib.Core.Path.{◌≡◌}
-use mathlib.Core.List.{List}
+use Rattle.std.proofs.Common.{ℕ, ◌+◌, ◌*◌, ◌/◌, ◌≡◌, List, length}
 use mathlib.Core.Option.{some}
-use lib.ListN.{length}
 use Rattle.primitives.specs.Bytes.{AllBytes}
 use Rattle.primitives.specs.Base32.{encoded_length32}
 use Rattle.primitives.specs.declared.base64.Alphabet.TheVariants.{Standard}

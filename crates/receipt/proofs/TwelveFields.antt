@@ -1,7 +1,5 @@
 -- The payload is "_" and twelve fields joined by "_".
-use mathlib.Core.Path.{ap, ◌∙◌}
-use mathlib.Core.List.{List, ◌++◌, append_assoc}
-use lib.IntN.{ℤ}
+use Rattle.std.proofs.Common.{ap, ◌∙◌, List, ◌++◌, append_assoc, ℤ}
 use Rattle.primitives.specs.Text.{ascii}
 use Rattle.receipt.specs.Amount.{amounts_text}
 use Rattle.receipt.specs.Texts.{beginning}

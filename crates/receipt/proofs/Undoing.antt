@@ -1,13 +1,6 @@
 -- Two calls that undo each other: what one wrote of a text, the other turns back into that text.
-use Prim.Native.Nat.{ℕ, ◌≤◌, ◌<◌}
-use mathlib.Core.Path.{◌≡◌, refl, sym, ap, ◌∙◌}
-use mathlib.Core.Bool.{Bool, true, false}
-use mathlib.Core.List.{List}
+use Rattle.std.proofs.Common.{ℕ, ◌≤◌, ◌<◌, ◌≡◌, refl, sym, ap, ◌∙◌, Bool, true, false, List, arith, leb-true, leb-false, leb, length, take}
 use mathlib.Core.Option.{Option, none, some, map}
-use native.Mathlib.Omega.{arith}
-use borrow.Author.Tests.{leb-true, leb-false}
-use lib.Dec.{leb}
-use lib.ListN.{length, take}
 use Rattle.primitives.specs.Place.{overwrite}
 use Rattle.primitives.specs.Answers.{answer_with, bufferWith}
 use Rattle.primitives.proofs.Over.{placed_room, read_over}

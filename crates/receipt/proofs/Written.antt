@@ -1,14 +1,5 @@
 -- The payload as its writers write it, and its length.
-use mathlib.Core.Path.{◌≡◌, ap, ◌∙◌}
-use mathlib.Core.Bool.{true, ◌&&◌}
-use mathlib.Core.List.{List, [], ◌∷◌, ◌++◌}
-use Prim.Native.Nat.{ℕ, ◌+◌, ◌-◌, ◌*◌, ◌/◌, ◌≤◌, ◌<◌}
-use native.Mathlib.Omega.{arith}
-use borrow.Author.Tests.{leb-true}
-use lib.Dec.{leb}
-use lib.IntN.{ℤ}
-use lib.ListN.{length, take, drop, length-append, length-take}
-use lib.Seq.{length-take-le}
+use Rattle.std.proofs.Common.{◌≡◌, ap, ◌∙◌, true, ◌&&◌, List, [], ◌∷◌, ◌++◌, ℕ, ◌+◌, ◌*◌, ◌/◌, ◌≤◌, ◌<◌, arith, leb-true, leb, ℤ, length, take, length-append, length-take, length-take-le}
 use Rattle.primitives.specs.Place.{overwrite}
 use Rattle.primitives.specs.declared.base64.Alphabet.TheVariants as alphabet
 use Rattle.primitives.proofs.Over.{then}
@@ -32,10 +23,6 @@ use Rattle.receipt.proofs.Digits.{length_digits, width_short}
 use Rattle.receipt.proofs.Cents.{amount_short}
 use Rattle.receipt.proofs.Dates.{length_date}
 
--- a part from the start on, as it is lent
-pub lent : (m : ℕ) (xs : List ℕ) → take (m - 0) (drop 0 xs) ≡ take m xs
-lent m xs = let e : m - 0 ≡ m = omega arith in ap (λ (k : ℕ). take k xs) e
-
 pub length_base64 : (xs : List ℕ) → length (base64 xs) ≡ (length xs + 2) / 3 * 4
 length_base64 xs = length_encoding alphabet.Standard xs
 
@@ -44,15 +31,6 @@ length_base64 xs = length_encoding alphabet.Standard xs
 pub length_name : (n : Name) → length n.bytes ≡ 32 → n.len ≤ 32 → length (name_text n) ≡ n.len
 unfolding name_text
 length_name n e h = length-take-le n.len n.bytes (omega arith)
-
-pub length_lent : (n : Name) → length n.bytes ≡ 32 → n.len ≤ 32 → length (take (n.len - 0) n.bytes) ≡ n.len
-unfolding name_text
-length_lent n e h = ap length (lent n.len n.bytes) ∙ length_name n e h
-
--- a name with its '_', as it is lent
-pub named : (n : Name) → take (n.len - 0) (drop 0 n.bytes) ++ (95 ∷ []) ≡ name_text n ++ (95 ∷ [])
-unfolding name_text
-named n = ap (λ (l : List ℕ). l ++ (95 ∷ [])) (lent n.len n.bytes)
 
 pub record Short (s : Settings) : Type 0 where
   pub id : s.id.len ≤ 32
@@ -66,19 +44,22 @@ sized_short s e =
 
 -- ---- the head
 
-module _ (s : Settings) (three : length s.csp ≡ 3) (whole : length s.id.bytes ≡ 32) (short : s.id.len ≤ 32) where
-  pub length_register : length (register_part s) ≡ 9 + s.id.len
+module _ (s : Settings) (three : length s.csp ≡ 3) where
+  pub register_long : length (register_part s) ≡ 9 + length (name_text s.id)
   unfolding register_part
-  length_register = let l = length_name s.id whole short in simp length-append (omega (arith, beginning_long))
+  register_long = simp length-append (omega (arith, beginning_long))
 
-  pub put_register : (b : List ℕ) (at : ℕ) {begin b₁ b₂ b₃ : List ℕ} → at + (9 + s.id.len) ≤ length b
+  pub length_register : length s.id.bytes ≡ 32 → s.id.len ≤ 32 → length (register_part s) ≡ 9 + s.id.len
+  length_register whole short = omega (arith, register_long, length_name s.id whole short)
+
+  pub put_register : (b : List ℕ) (at : ℕ) {begin id b₁ b₂ b₃ : List ℕ} → id ≡ name_text s.id → at + length (register_part s) ≤ length b
       → begin ≡ beginning → b₁ ≡ overwrite b at begin → b₂ ≡ overwrite b₁ (at + 4) (s.csp ++ (95 ∷ []))
-      → b₃ ≡ overwrite b₂ (at + 8) (take (s.id.len - 0) (drop 0 s.id.bytes) ++ (95 ∷ [])) → b₃ ≡ overwrite b at (register_part s)
+      → b₃ ≡ overwrite b₂ (at + 8) (id ++ (95 ∷ [])) → b₃ ≡ overwrite b at (register_part s)
   unfolding register_part
-  put_register b at {begin} {b₁} {b₂} room e e₁ e₂ e₃ =
-      let l = length_name s.id whole short in
+  put_register b at {begin} {id} {b₁} {b₂} is room e e₁ e₂ e₃ =
+      let l : length (register_part s) ≡ 9 + length (name_text s.id) = register_long in
       let q₂ = then _ _ _ _ _ (e₁ ∙ ap (overwrite b at) e) e₂ (omega (arith, beginning_long)) (omega (arith, beginning_long)) in
-      then _ _ _ _ _ q₂ (e₃ ∙ ap (overwrite b₂ (at + 8)) (named s.id)) (simp length-append (omega (arith, beginning_long))) (simp length-append (omega (arith, beginning_long)))
+      then _ _ _ _ _ q₂ (e₃ ∙ (λ i. overwrite b₂ (at + 8) (is i ++ (95 ∷ [])))) (simp length-append (omega (arith, beginning_long))) (simp length-append (omega (arith, beginning_long)))
 
 -- ---- number and date
 
@@ -99,12 +80,6 @@ put_moment n t b at p q room e₁ e₂ e₃ e₄ =
 
 -- ---- counter field, serial and chain field
 
--- what is lent of a counter field's content
-pub content : (n : ℕ) (kind : Kind) (counter bytes : List ℕ) (m : ℕ) → take m bytes ≡ counter_content n kind counter
-    → base64 (take (m - 0) (drop 0 bytes)) ≡ counter_field n kind counter
-unfolding counter_field
-content n kind counter bytes m e = ap base64 (lent m bytes ∙ e)
-
 pub record Marked (text b b' : List ℕ) (at p : ℕ) : Type 0 where
   pub place : p ≡ at + length text + 1
   pub is : b' ≡ overwrite b at (text ++ (95 ∷ []))
@@ -116,20 +91,23 @@ marked text b at p q room e e₁ e₂ =
     let l = ap length q in
     record { place = omega arith; is = then _ _ _ _ _ (e₁ ∙ ap (overwrite b at) q) e₂ (omega arith) (omega arith) }
 
-module _ (s : Settings) (n : ℕ) (f : PayloadFields) (whole : length s.serial.bytes ≡ 32) (short : s.serial.len ≤ 32) where
-  pub length_closing : length (closing s n f) ≡ length (counter_field n f.details.kind f.counter) + s.serial.len + length (base64 f.chain) + 2
+module _ (s : Settings) (n : ℕ) (f : PayloadFields) where
+  pub closing_long : length (closing s n f) ≡ length (counter_field n f.details.kind f.counter) + length (name_text s.serial) + length (base64 f.chain) + 2
   unfolding closing
-  length_closing = let l = length_name s.serial whole short in simp length-append (omega arith)
+  closing_long = simp length-append (omega arith)
 
-  pub put_closing : (b : List ℕ) (at p : ℕ) {b₁ b₂ b₃ : List ℕ} → p ≡ at + length (counter_field n f.details.kind f.counter) + 1
+  pub length_closing : length s.serial.bytes ≡ 32 → s.serial.len ≤ 32 → length (closing s n f) ≡ length (counter_field n f.details.kind f.counter) + s.serial.len + length (base64 f.chain) + 2
+  length_closing whole short = omega (arith, closing_long, length_name s.serial whole short)
+
+  pub put_closing : (b : List ℕ) (at p : ℕ) {serial b₁ b₂ b₃ : List ℕ} → serial ≡ name_text s.serial → p ≡ at + length (counter_field n f.details.kind f.counter) + 1
       → at + length (closing s n f) ≤ length b → b₁ ≡ overwrite b at (counter_field n f.details.kind f.counter ++ (95 ∷ []))
-      → b₂ ≡ overwrite b₁ p (take (s.serial.len - 0) (drop 0 s.serial.bytes) ++ (95 ∷ [])) → b₃ ≡ overwrite b₂ (p + s.serial.len + 1) (base64 f.chain)
+      → b₂ ≡ overwrite b₁ p (serial ++ (95 ∷ [])) → b₃ ≡ overwrite b₂ (p + length serial + 1) (base64 f.chain)
       → b₃ ≡ overwrite b at (closing s n f)
   unfolding closing
-  put_closing b at p {b₁} q room e₁ e₂ e₃ =
-      let lc = length_closing in
-      let l = length_name s.serial whole short in
-      let q₂ = then _ _ _ _ _ e₁ (e₂ ∙ ap (overwrite b₁ p) (named s.serial)) (simp length-append (omega arith)) (simp length-append (omega arith)) in
+  put_closing b at p {serial} {b₁} is q room e₁ e₂ e₃ =
+      let lc = closing_long in
+      let l : length serial ≡ length (name_text s.serial) = ap length is in
+      let q₂ = then _ _ _ _ _ e₁ (e₂ ∙ (λ i. overwrite b₁ p (is i ++ (95 ∷ [])))) (simp length-append (omega arith)) (simp length-append (omega arith)) in
       then _ _ _ _ _ q₂ e₃ (simp length-append (omega arith)) (simp length-append (omega arith))
 
 -- ---- the whole

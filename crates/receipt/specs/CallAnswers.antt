@@ -6,7 +6,7 @@ use Rattle.primitives.specs.Text.{ascii}
 use Rattle.primitives.specs.Base64.{encoding}
 use Rattle.primitives.specs.declared.base64.Alphabet.TheVariants.{Standard, UrlSafe}
 use Rattle.primitives.specs.Questions.{Row, asked_all, question, GivesFirstNo}
-use Rattle.primitives.specs.declared.answer.Answer.{Answer}
+use Rattle.primitives.specs.Answers.{Answer}
 use Rattle.receipt.specs.Form.{Parts, parts_good, signed_form}
 use Rattle.receipt.specs.Code.{code_text, code_answer, code_buffer, uncode_answer, uncode_buffer}
 use Rattle.receipt.specs.CodeLaws.{MadeOf}

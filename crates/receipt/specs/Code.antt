@@ -6,7 +6,7 @@ use Rattle.primitives.specs.Base64.{encoding, decoding}
 use Rattle.primitives.specs.declared.base64.Alphabet.TheVariants.{Standard}
 use Rattle.receipt.specs.Form.{next_at, part, Parts, good_parts, signed_form, parts_of_form}
 use Rattle.receipt.specs.Texts.{separator}
-use Rattle.primitives.specs.declared.answer.Answer.{Answer}
+use Rattle.primitives.specs.Answers.{Answer}
 use Rattle.receipt.specs.declared.machine_code.Part.{Part}
 
 -- ---- the text

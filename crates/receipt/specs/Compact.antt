@@ -1,5 +1,6 @@
 -- A receipt as a journal's entry spells it: its compact form, written and read.
-use Rattle.std.specs.Prelude.{ℕ, Bool, true, false, cond, not, ◌&&◌, ◌||◌, List, [], ◌≡◌, eqb, length, replicate}
+use Rattle.std.specs.Prelude as Rust
+use Rattle.std.specs.Prelude.{ℕ, Bool, true, false, cond, not, ◌&&◌, ◌||◌, Some, None, List, [], ◌≡◌, eqb, length, replicate}
 use Rattle.std.proofs.Math.Option.{Option, none, some}
 use Rattle.primitives.specs.Bytes.{AllBytes, same}
 use Rattle.primitives.specs.Counter.{width_good}
@@ -12,7 +13,6 @@ use Rattle.receipt.specs.declared.settings.Settings.{Settings}
 use Rattle.receipt.specs.declared.payload.PayloadFields.{PayloadFields}
 use Rattle.receipt.specs.declared.entry.Signature.{Signature}
 use Rattle.receipt.specs.declared.entry.Entry.{Entry}
-use Rattle.receipt.specs.declared.entry.Found.{Found}
 
 -- ---- the spelling
 
@@ -76,6 +76,11 @@ signature_of text = cond (eqb (length text) 64) (record { failed = false; bytes 
 unfoldable pub spells : Settings → ℕ → PayloadFields → List ℕ → Bool
 spells s n f text = preparable s n f && same (payload s n f) text
 
+-- what a reader finds: whether the text spells an entry, and that entry, or a blank one if it does not
+pub record Found : Type 0 where
+  pub ok : Bool
+  pub entry : Entry
+
 -- nothing is found
 unfoldable pub no_entry : Found
 no_entry =
@@ -92,3 +97,12 @@ entry_of_parts s n (some p) = entry_of s n (read_fields s n p.payload) p
 
 unfoldable pub read_entry : Settings → ℕ → List ℕ → Found
 read_entry s n text = entry_of_parts s n (parts_of_form text)
+
+-- an entry that may be missing, as what is found
+abbrev pub as_found : Rust.Option Entry → Found
+as_found None = no_entry
+as_found (Some e) = record { ok = true; entry = e }
+
+-- it determines the entry; proved in proofs/EntryCalls.antt
+abbrev pub FoundDeterminesEntry : Type 0
+FoundDeterminesEntry = (a b : Rust.Option Entry) → as_found a ≡ as_found b → a ≡ b

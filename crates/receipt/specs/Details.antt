@@ -1,11 +1,10 @@
 -- The details of a receipt: what the questions ask of them, and the counter after it.
-use Rattle.std.specs.Prelude.{ℕ, Bool, true, false, ◌&&◌, cond, List, [], ◌∷◌, eqb, ℤ, pos, nat_abs, ◌+ℤ◌}
+use Rattle.std.specs.Prelude.{◌≡◌, ℕ, Bool, true, false, ◌&&◌, cond, List, [], ◌∷◌, Option, Some, None, eqb, ℤ, pos, nat_abs, ◌+ℤ◌}
 use Rattle.primitives.specs.Counter.{counter_fits}
 use Rattle.receipt.specs.Amount.{amount_limit, within}
 use Rattle.receipt.specs.declared.details.Kind.{Kind}
 use Rattle.receipt.specs.declared.details.Kind.TheVariants.{Standard, Cancellation, Training}
 use Rattle.receipt.specs.declared.details.Details.{Details}
-use Rattle.receipt.specs.declared.details.After.{After}
 
 -- question 9: "Amounts within limits?", of a limit
 unfoldable pub amounts_within : ℕ → List ℤ → Bool
@@ -44,6 +43,11 @@ counted_of Training zs = pos 0
 unfoldable pub counted : Details → ℤ
 counted d = counted_of d.kind d.amounts
 
+-- the counter after a receipt, and whether it fits; if it does not, the counter before the receipt
+pub record After : Type 0 where
+  pub fits : Bool
+  pub counter : ℤ
+
 -- question 11: "New counter fits N bytes?", asked of the counter after all five amounts.
 -- If it does not fit, or an amount is beyond its limit, the counter stays as it was. Question 9 is asked first, so no call gets this far
 -- with such an amount; refusing it here keeps the sum within the code's numbers
@@ -51,3 +55,12 @@ unfoldable pub counter_after : ℕ → ℤ → Details → After
 counter_after n z d =
     cond (amounts_good d.amounts && counter_fits n (z +ℤ counted d)) (record { fits = true; counter = z +ℤ counted d })
     (record { fits = false; counter = z })
+
+-- what the call answers after the counter z, as that record
+abbrev pub as_after : ℤ → Option ℤ → After
+as_after z (Some after) = record { fits = true; counter = after }
+as_after z None = record { fits = false; counter = z }
+
+-- it determines the answer
+abbrev pub AfterDeterminesAnswer : Type 0
+AfterDeterminesAnswer = (z : ℤ) (a b : Option ℤ) → as_after z a ≡ as_after z b → a ≡ b

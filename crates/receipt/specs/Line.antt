@@ -7,7 +7,7 @@ use Rattle.primitives.specs.Bytes.{AllBytes}
 use Rattle.primitives.specs.Base64.{encoding, decoding}
 use Rattle.primitives.specs.Base32.{encoding32, decoding32, encoded_length32}
 use Rattle.primitives.specs.declared.base64.Alphabet.TheVariants.{Standard}
-use Rattle.primitives.specs.declared.answer.Answer.{Answer}
+use Rattle.primitives.specs.Answers.{Answer}
 use Rattle.receipt.specs.Payload.{longest_payload}
 use Rattle.receipt.specs.Form.{part, Parts, parts, parts_good}
 use Rattle.receipt.specs.Code.{last_at, parts_of_code}

@@ -5,14 +5,13 @@ use Rattle.primitives.specs.Base64.{decode_buffer}
 use Rattle.primitives.specs.declared.base64.Alphabet.TheVariants as alphabet
 use Rattle.receipt.specs.Decimal.{value_of}
 use Rattle.receipt.specs.DateTime.{read_date}
-use Rattle.receipt.specs.Separated.{skip, At, read_amounts}
+use Rattle.receipt.specs.Separated.{skip, read_amounts}
 use Rattle.receipt.specs.Texts.{separator}
 use Rattle.receipt.specs.declared.details.Kind.{Kind}
 use Rattle.receipt.specs.declared.details.Kind.TheVariants.{Standard, Cancellation, Training}
 use Rattle.receipt.specs.declared.details.Details.{Details}
 use Rattle.receipt.specs.declared.settings.Settings.{Settings}
 use Rattle.receipt.specs.declared.payload.PayloadFields.{PayloadFields}
-use Rattle.receipt.specs.declared.payload.Places.{Places}
 
 -- the bytes of a BASE64 text, then zeros up to eight bytes; eight zeros if the text is refused or has more than eight bytes
 unfoldable pub eight : List ℕ → List ℕ
@@ -48,12 +47,6 @@ read_details bs =
 -- long enough to be read
 unfoldable pub readable : List ℕ → Bool
 readable bs = leb 19 (length (skip 1 bs)) && leb 12 (length (skip 7 bs))
-
--- where the fields stand
-pub record Placed (text bs : List ℕ) (p : Places) : Type 0 where
-  pub date : At text p.date (skip 1 bs)
-  pub amounts : At text p.amounts (skip 2 bs)
-  pub counter : At text p.counter (skip 7 bs)
 
 -- the fields of a text, given what follows its register part
 unfoldable pub found_in : ℕ → List ℕ → List ℕ → PayloadFields

@@ -1,13 +1,13 @@
 // The five amounts of a receipt.
-ghost use Rattle.std.specs.Prelude.{◌≡◌, ◌+◌, ◌≤◌, length, drop};
+ghost use Rattle.std.specs.Prelude.{◌≡◌, ◌+◌, ◌≤◌, length};
 ghost use Rattle.primitives.specs.Place.{overwrite};
 ghost use Rattle.receipt.specs.Details.{amounts_good};
 ghost use Rattle.receipt.specs.Amount.{amounts_text};
 ghost use Rattle.receipt.specs.Separated.{read_amounts};
 
-use super::amount::{amount_at, put_amount, within_limit};
+use super::amount::{put_amount, read_amount, within_limit};
 use super::bytes::put8;
-use super::separators::next_field;
+use super::separators::after;
 
 // Writes five amounts, each followed by a '_', at a place; returns the place after them.
 pub(crate) fn put_amounts(out: &mut [u8], at: usize, a: [i64; 5]) -> usize
@@ -15,12 +15,10 @@ pub(crate) fn put_amounts(out: &mut [u8], at: usize, a: [i64; 5]) -> usize
     ensures { (result ≡ at + length (amounts_text a)) × (out.new ≡ overwrite out.old at (amounts_text a)) }
 {
     let mut p = at;
-    let mut i: usize = 0;
-    while i < 5 {
-        let e = put_amount(out, p, a[i]);
-        put8(out, e, b'_');
-        p = e + 1;
-        i += 1;
+    for z in a {
+        let end = put_amount(out, p, z);
+        put8(out, end, b'_');
+        p = end + 1;
     }
     p
 }
@@ -29,28 +27,18 @@ pub(crate) fn put_amounts(out: &mut [u8], at: usize, a: [i64; 5]) -> usize
 pub fn amounts_good(a: [i64; 5]) -> bool
     ensures { result ≡ amounts_good a }
 {
-    let mut i: usize = 0;
-    while i < 5 {
-        if !within_limit(a[i]) {
-            return false;
-        }
-        i += 1;
-    }
-    true
+    a.iter().all(|z| within_limit(*z))
 }
 
-// Five amounts from a place on, read loosely.
-pub(crate) fn read_amounts(text: &[u8], at: usize) -> [i64; 5]
-    requires { at ≤ length text.now }
-    ensures { result ≡ read_amounts 5 (drop at text.now) }
+// Five amounts, read loosely.
+pub(crate) fn read_amounts(text: &[u8]) -> [i64; 5]
+    ensures { result ≡ read_amounts 5 text.now }
 {
-    let mut a = [0i64; 5];
-    let mut p = at;
-    let mut i: usize = 0;
-    while i < 5 {
-        a[i] = amount_at(text, p);
-        p = next_field(text, p);
-        i += 1;
+    let mut amounts = [0; 5];
+    let mut rest = text;
+    for amount in &mut amounts {
+        *amount = read_amount(rest);
+        rest = after(rest);
     }
-    a
+    amounts
 }

@@ -17,76 +17,53 @@ pub struct DateTime {
 }
 
 // A leap year of the Gregorian calendar.
+#[tactic(auto, unfolding(crate::specs::DateTime::leap))]
 fn leap(year: u32) -> bool
     ensures { result ≡ leap year }
 {
-    if year % 400 == 0 {
-        return true;
-    }
-    if year % 100 == 0 {
-        return false;
-    }
-    year % 4 == 0
+    year % 400 == 0 || year % 100 != 0 && year % 4 == 0
 }
 
+// The days of each month from 1 to 12, in a year that is no leap year.
+const DAYS: [u32; 13] = [0, 31, 28, 31, 30, 31, 30, 31, 31, 30, 31, 30, 31];
+
 // The number of days of a month from 1 to 12.
+#[tactic(auto, unfolding(crate::specs::DateTime::days_in))]
 fn days_in(year: u32, month: u32) -> u32
     requires { month ≤ 12 }
     ensures { result ≡ days_in year month }
 {
-    if month == 2 {
-        if leap(year) {
-            return 29;
-        }
-        return 28;
+    if month == 2 && leap(year) {
+        29
+    } else {
+        DAYS[month as usize]
     }
-    let days = [0, 31, 28, 31, 30, 31, 30, 31, 31, 30, 31, 30, 31];
-    days[month as usize]
 }
 
 // A day of the Gregorian calendar, in the years 2000 to 2099.
+#[tactic(auto, unfolding(crate::specs::DateTime::day_good))]
 fn day_good(t: DateTime) -> bool
     ensures { result ≡ day_good t }
 {
-    if t.year < 2000 {
-        return false;
-    }
-    if 2099 < t.year {
-        return false;
-    }
-    if t.month < 1 {
-        return false;
-    }
-    if 12 < t.month {
-        return false;
-    }
-    if t.day < 1 {
-        return false;
-    }
-    t.day <= days_in(t.year, t.month)
+    (2000..=2099).contains(&t.year)
+        && (1..=12).contains(&t.month)
+        && (1..=days_in(t.year, t.month)).contains(&t.day)
 }
 
 // A time of day.
+#[tactic(auto, unfolding(crate::specs::DateTime::time_good))]
 fn time_good(t: DateTime) -> bool
     ensures { result ≡ time_good t }
 {
-    if 23 < t.hour {
-        return false;
-    }
-    if 59 < t.minute {
-        return false;
-    }
-    t.second <= 59
+    t.hour <= 23 && t.minute <= 59 && t.second <= 59
 }
 
 // Question 8: a date of the years 2000 to 2099 in the Gregorian calendar, with a time of day.
+#[tactic(auto, unfolding(crate::specs::DateTime::date_good))]
 pub fn date_good(t: DateTime) -> bool
     ensures { result ≡ date_good t }
 {
-    if !day_good(t) {
-        return false;
-    }
-    time_good(t)
+    day_good(t) && time_good(t)
 }
 
 // Writes a letter and two digits at a place.
@@ -95,7 +72,7 @@ fn put_pair(out: &mut [u8], at: usize, letter: u8, n: u32)
     ensures { out.new ≡ overwrite out.old at (pair letter n) }
 {
     put8(out, at, letter);
-    put_fixed(out, at + 1, 2, n as u64);
+    put_fixed(out, at + 1, 2, u64::from(n));
 }
 
 // Writes a date and time at a place.
@@ -103,7 +80,7 @@ pub(crate) fn put_date(out: &mut [u8], at: usize, t: DateTime)
     requires { at + 19 ≤ length out.old }
     ensures { out.new ≡ overwrite out.old at (date_text t) }
 {
-    put_fixed(out, at, 4, t.year as u64);
+    put_fixed(out, at, 4, u64::from(t.year));
     put_pair(out, at + 4, b'-', t.month);
     put_pair(out, at + 7, b'-', t.day);
     put_pair(out, at + 10, b'T', t.hour);
@@ -112,22 +89,22 @@ pub(crate) fn put_date(out: &mut [u8], at: usize, t: DateTime)
 }
 
 // Two digits at a place, read loosely.
+#[tactic(auto, unfolding(crate::specs::DateTime::two_at))]
 fn two_at(text: &[u8], k: usize) -> u32
     requires { k + 2 ≤ length text.now }
     ensures { (result ≡ two_at text.now k) × (result ≤ 165) }
 {
-    (text[k] % 16) as u32 * 10 + (text[k + 1] % 16) as u32
+    u32::from(text[k] % 16) * 10 + u32::from(text[k + 1] % 16)
 }
 
 // The date and time at the start of a text, read loosely.
+#[tactic(auto, unfolding(crate::specs::DateTime::read_date))]
 pub(crate) fn read_date(text: &[u8]) -> DateTime
     requires { 19 ≤ length text.now }
     ensures { result ≡ read_date text.now }
 {
-    let century = two_at(text, 0);
-    let year = two_at(text, 2);
     DateTime {
-        year: century * 100 + year,
+        year: two_at(text, 0) * 100 + two_at(text, 2),
         month: two_at(text, 5),
         day: two_at(text, 8),
         hour: two_at(text, 11),

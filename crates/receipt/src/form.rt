@@ -1,15 +1,13 @@
 // The compact form of a receipt, as payload and signature: the elements of header, payload and signature, with '.' between them.
-ghost use Rattle.std.specs.Prelude.{◌≡◌, ◌+◌, ◌≤◌, length, take};
+ghost use Rattle.std.specs.Prelude.{◌≡◌, ◌+◌, ◌<◌, ◌≤◌, ◌≢◌, ℕ, length, drop, get_or, MatchOption};
+ghost use Rattle.std.proofs.Math.Option.{some};
 ghost use Rattle.primitives.specs.Place.{overwrite, placed, place_after};
 ghost use Rattle.primitives.specs.Base64.{decoding};
-ghost use Rattle.receipt.specs.Payload.{longest_payload};
 ghost use Rattle.receipt.specs.Texts.{beginning};
-ghost use Rattle.receipt.specs.Form.{failure_text, first_element, element, next_at, second_dot, payload_good, signature_good, parts, signed_input, signed_form, parts_of_form};
-ghost use Rattle.receipt.specs.FormReading.{short, parts_read, nothing};
+ghost use Rattle.receipt.specs.Form.{failure_text, first_element, element, part, second_dot, payload_good, signature_good, good_parts, signed_input, signed_form, parts_of_form};
+ghost use Rattle.receipt.specs.FormReading.{as_maybe, fitting, as_parts};
 
-use primitives::{
-    Alphabet, Decoded, base64_decode, base64_encode, base64_length, has_room, put, same,
-};
+use primitives::{Alphabet, base64_decode, base64_encode, base64_length, has_room, put};
 
 // The longest payload.
 pub(crate) const LONGEST_PAYLOAD: usize = 200;
@@ -42,108 +40,78 @@ fn first_element() -> [u8; 21]
 
 // ---- reading
 
-// The place of the first b from a place on; the slice's length if there is none.
-pub(crate) fn next_at(b: u8, s: &[u8], from: usize) -> usize
-    ensures { result ≡ next_at b s.now from }
-{
-    let mut i = from;
-    while i < s.len() {
-        if s[i] == b {
-            return i;
+// Payload and signature of a receipt.
+#[derive(Clone, Copy)]
+pub(crate) struct Parts<'a> {
+    pub(crate) payload: &'a [u8],
+    pub(crate) signature: &'a [u8],
+}
+
+impl<'a> Parts<'a> {
+    // These parts, if both are good.
+    pub(crate) fn good(self) -> Option<Parts<'a>>
+        ensures { as_maybe as_parts result ≡ good_parts (some self.entry.payload.now) (some self.entry.signature.now) }
+    {
+        if payload_good(self.payload) && signature_good(self.signature) {
+            Some(self)
+        } else {
+            None
         }
-        i += 1;
     }
-    i
+}
+
+// The place of the first b from a place on.
+pub(crate) fn next_at(b: u8, s: &[u8], from: usize) -> Option<usize>
+    ensures { MatchOption result ((k : ℕ) → from ≤ k → k < length s.now → get_or s.now k 0 ≢ b)
+        (λ i. (from ≤ i) × (i < length s.now) × (get_or s.now i 0 ≡ b) × ((k : ℕ) → from ≤ k → k < i → get_or s.now k 0 ≢ b)) }
+{
+    (from..s.len()).find(|i| s[*i] == b)
 }
 
 pub(crate) fn payload_good(payload: &[u8]) -> bool
     ensures { result ≡ payload_good payload.now }
 {
-    if payload.len() < 4 {
-        return false;
-    }
-    if LONGEST_PAYLOAD < payload.len() {
-        return false;
-    }
-    let begin = beginning();
-    same(&payload[0..4], &begin)
+    payload.len() <= LONGEST_PAYLOAD && payload.starts_with(&beginning())
 }
 
 pub(crate) fn signature_good(signature: &[u8]) -> bool
     ensures { result ≡ signature_good signature.now }
 {
-    if signature.len() == 64 {
-        return true;
-    }
-    let text = failure_text();
-    same(signature, &text)
+    signature.len() == 64 || signature == failure_text().as_slice()
 }
 
-// Writes the bytes of a text to the start of a buffer; returns how many: 0 if the text is refused or there is no room.
-pub(crate) fn decode(alphabet: Alphabet, text: &[u8], out: &mut [u8]) -> usize
-    ensures { (result ≤ length out.old)
-        × (take result out.new ≡ short (length out.old) (decoding alphabet text.now)) }
+// Writes the bytes of a text to the start of a buffer, and lends them; none if the text is refused or there is no room.
+pub(crate) fn decode<'a>(alphabet: Alphabet, text: &[u8], buffer: &'a mut [u8]) -> Option<&'a [u8]>
+    ensures { as_maybe (λ x. x.now) result ≡ fitting (length buffer.old) (decoding alphabet text.now) }
 {
-    match base64_decode(alphabet, text, out, 0) {
-        Decoded::Upto(n) => n,
-        Decoded::Refused => 0,
-        Decoded::NoRoom => 0,
-    }
+    let n = base64_decode(alphabet, text, buffer, 0).ok()?;
+    Some(&buffer[..n])
 }
 
-// What a reader found: whether the text has good parts, and their lengths.
-#[derive(Clone, Copy)]
-pub(crate) struct Reading {
-    pub(crate) good: bool,
-    pub(crate) payload: usize,
-    pub(crate) signature: usize,
-}
-
-pub(crate) fn nothing() -> Reading
-    ensures { result ≡ nothing }
+// The second and the third element of a compact form: what stands before and after the next '.', if the first is the fixed one.
+fn elements<'a>(form: &'a [u8]) -> Option<(&'a [u8], &'a [u8])>
+    ensures { MatchOption result (length form.now ≤ second_dot form.now) (λ e. (second_dot form.now < length form.now)
+        × (e.0.now ≡ part 21 (second_dot form.now) form.now) × (e.1.now ≡ drop (second_dot form.now + 1) form.now)) }
 {
-    Reading {
-        good: false,
-        payload: 0,
-        signature: 0,
+    if !form.starts_with(&first_element()) {
+        return None;
     }
-}
-
-// The place of the '.' after the second element; the length if the first element is not the fixed one or there is no such '.'.
-fn second_dot(form: &[u8]) -> usize
-    ensures { result ≡ second_dot form.now }
-{
-    if form.len() < 21 {
-        return form.len();
-    }
-    let first = first_element();
-    if !same(&form[0..21], &first) {
-        return form.len();
-    }
-    next_at(b'.', form, 21)
+    let dot = next_at(b'.', form, 21)?;
+    Some((&form[21..dot], &form[dot + 1..]))
 }
 
 // Reads the parts of a compact form, each to the start of a buffer.
-pub(crate) fn read_form(form: &[u8], payload: &mut [u8], signature: &mut [u8]) -> Reading
-    requires { (length payload.old ≡ longest_payload) × (length signature.old ≡ 64) }
-    ensures { (result.payload ≤ longest_payload) × (result.signature ≤ 64)
-        × (parts_read result payload.new signature.new ≡ parts_of_form form.now) }
+pub(crate) fn read_form<'a>(
+    form: &[u8],
+    payload: &'a mut [u8; LONGEST_PAYLOAD],
+    signature: &'a mut [u8; 64],
+) -> Option<Parts<'a>>
+    ensures { as_maybe as_parts result ≡ parts_of_form form.now }
 {
-    let e = second_dot(form);
-    if form.len() <= e {
-        return nothing();
-    }
-    let from = e + 1;
-    let n = decode(Alphabet::UrlSafe, &form[21..e], payload);
-    let m = decode(Alphabet::UrlSafe, &form[from..], signature);
-    if !payload_good(&payload[0..n]) {
-        return nothing();
-    }
-    Reading {
-        good: signature_good(&signature[0..m]),
-        payload: n,
-        signature: m,
-    }
+    let (second, third) = elements(form)?;
+    let payload = decode(Alphabet::UrlSafe, second, payload)?;
+    let signature = decode(Alphabet::UrlSafe, third, signature)?;
+    Parts { payload, signature }.good()
 }
 
 // ---- writing
@@ -159,32 +127,28 @@ fn put_element(out: &mut [u8], at: usize, s: &[u8]) -> usize
 
 // Writes what is signed of a compact form at a place: the elements of header and payload with the '.' between them; returns the place after them.
 pub(crate) fn put_signed_input(payload: &[u8], out: &mut [u8], at: usize) -> usize
-    requires { length payload.now ≤ longest_payload }
     ensures { let y : _ = signed_input payload.now in
         (result ≡ place_after out.old at y) × (out.new ≡ placed out.old at y) }
 {
-    let element = base64_length(Alphabet::UrlSafe, payload);
-    let total = 21 + element;
-    if !has_room(out.len(), at, total) {
+    let second = base64_length(Alphabet::UrlSafe, payload);
+    if !has_room(out.len(), at, 21 + second) {
         return at;
     }
-    let first = first_element();
-    put(out, at, &first);
+    put(out, at, &first_element());
     base64_encode(Alphabet::UrlSafe, payload, out, at + 21)
 }
 
 // Writes a compact form at a place; returns the place after it.
-pub(crate) fn put_form(payload: &[u8], signature: &[u8], out: &mut [u8], at: usize) -> usize
-    requires { (length payload.now ≤ longest_payload) × (length signature.now ≤ 64) }
-    ensures { let y : _ = signed_form (parts payload.now signature.now) in
+pub(crate) fn put_form(parts: Parts, out: &mut [u8], at: usize) -> usize
+    requires { length parts.signature.now ≤ 64 }
+    ensures { let y : _ = signed_form (as_parts parts.entry) in
         (result ≡ place_after out.old at y) × (out.new ≡ placed out.old at y) }
 {
-    let second = base64_length(Alphabet::UrlSafe, payload);
-    let third = base64_length(Alphabet::UrlSafe, signature);
-    let total = 22 + second + third;
-    if !has_room(out.len(), at, total) {
+    let second = base64_length(Alphabet::UrlSafe, parts.payload);
+    let third = base64_length(Alphabet::UrlSafe, parts.signature);
+    if !has_room(out.len(), at, 22 + second + third) {
         return at;
     }
-    let p = put_signed_input(payload, out, at);
-    put_element(out, p, signature)
+    let p = put_signed_input(parts.payload, out, at);
+    put_element(out, p, parts.signature)
 }

@@ -19,18 +19,18 @@ mod settings;
 pub use amounts::amounts_good;
 pub use chain::{chain_value, counter_iv, counter_key, decrypt_counter, encrypt_counter};
 pub use datetime::{DateTime, date_good};
-pub use details::{After, Details, Kind, counter_after, start_good};
-pub use entry::{Entry, Found, Signature, no_entry, put_compact, put_signing_input, read_entry};
+pub use details::{Details, Kind, counter_after, start_good};
+pub use entry::{Entry, Signature, put_compact, put_signing_input, read_entry};
 pub use form::LONGEST_COMPACT;
 pub use machine_code::{LONGEST_CODE, Part, code, fields, id_place, uncode};
 pub use optical_line::{line, unline};
 pub use payload::PayloadFields;
 pub use settings::{
-    Letters, Name, Settings, csp_good, id_good, name_of, serial_good, settings_good,
-    settings_number, settings_number_for,
+    Letters, Name, Settings, ask_settings, ask_settings_for, csp_good, id_good, name_of,
+    serial_good, settings_good,
 };
 
-// What the journal needs of the primitives: answers, bytes and numbers at a place in a buffer, and the widths of a counter.
+// What the journal needs of the primitives: refusals, bytes and numbers at a place in a buffer, and the widths of a counter.
 pub use primitives::{
-    Answer, Number, counter_fits, has_room, number_at, put, put_number, same, width_good,
+    Refusal, answer_number, counter_fits, has_room, number_at, put, put_number, same, width_good,
 };

@@ -1,32 +1,24 @@
-// Fields joined by '_': finding the place after the next ones.
-ghost use Rattle.std.specs.Prelude.{◌≤◌, length, drop};
-ghost use Rattle.receipt.specs.Separated.{after, skip, At};
+// Fields joined by '_': what stands after the next ones.
+ghost use Rattle.std.specs.Prelude.{◌≡◌};
+ghost use Rattle.receipt.specs.Separated.{after, skip};
 
-// The place after the next '_', or the end.
-pub(crate) fn next_field(text: &[u8], at: usize) -> usize
-    requires { at ≤ length text.now }
-    ensures { At text.now result (after (drop at text.now)) }
+// What follows the next '_'; nothing if there is none.
+pub(crate) fn after(text: &[u8]) -> &[u8]
+    ensures { result.now ≡ after text.now }
 {
-    let mut i = at;
-    while i < text.len() {
-        if text[i] == b'_' {
-            return i + 1;
-        }
-        i += 1;
+    match text.iter().position(|b| *b == b'_') {
+        Some(n) => &text[n + 1..],
+        None => &[],
     }
-    i
 }
 
-// The place after n fields.
-pub(crate) fn skip_fields(text: &[u8], at: usize, n: usize) -> usize
-    requires { at ≤ length text.now }
-    ensures { At text.now result (skip n (drop at text.now)) }
+// What follows the first n of them.
+pub(crate) fn skip(text: &[u8], n: usize) -> &[u8]
+    ensures { result.now ≡ skip n text.now }
 {
-    let mut p = at;
-    let mut k = n;
-    while 0 < k {
-        p = next_field(text, p);
-        k -= 1;
+    let mut rest = text;
+    for _ in 0..n {
+        rest = after(rest);
     }
-    p
+    rest
 }

@@ -1,14 +1,35 @@
 // The settings of a register: CSP, register ID and serial.
 ghost use Rattle.std.specs.Prelude.{◌≡◌, true, min};
-ghost use Rattle.receipt.specs.Settings.{between, id_letter, serial_letter, letter_good, every, name_good, csp_good, id_good, serial_good, settings_good, id_allowed, settings_number_for, settings_number, name_of};
+ghost use Rattle.primitives.specs.Refusals.{answer_number};
+ghost use Rattle.receipt.specs.Settings.{id_letter, serial_letter, letter_good, every, name_good, csp_good, id_good, serial_good, settings_good, ends_in_digit, id_allowed, settings_number_for, settings_number, name_text, name_of};
 
-use primitives::width_good;
+use primitives::{Refusal, width_good};
 
-// A register ID or a serial: its bytes up to its length, then zeros.
-#[derive(Clone, Copy)]
+// A register ID or a serial: its bytes up to its length, then zeros. An array and a length, since the library allocates nothing; a length above 32 is a
+// value, too: `name_of` makes it of a longer text, and the name is bad.
+#[derive(Clone, Copy, PartialEq, Eq)]
 pub struct Name {
     pub bytes: [u8; 32],
     pub len: usize,
+}
+
+impl Name {
+    // The bytes up to the length; all 32 if the length is above.
+    #[tactic(auto, unfolding(crate::specs::Settings::name_text))]
+    pub fn text(&self) -> &[u8]
+        ensures { result.now ≡ name_text self.now }
+    {
+        &self.bytes[..self.len.min(32)]
+    }
+
+    // The last byte of a good ID is a digit.
+    #[tactic(auto, unfolding(crate::specs::Settings::name_good))]
+    fn ends_in_digit(&self) -> bool
+        requires { id_good self.now ≡ true }
+        ensures { result ≡ ends_in_digit self.now }
+    {
+        self.bytes[self.len - 1].is_ascii_digit()
+    }
 }
 
 #[derive(Clone, Copy)]
@@ -19,6 +40,7 @@ pub struct Settings {
 }
 
 // What a byte of a name may be: a letter of an ID, a letter of a serial, or the zero after the end.
+// A value and no closure: the definitions `letter_good`, `every` and `name_good` take the class, and keep their meaning.
 #[derive(Clone, Copy)]
 pub enum Letters {
     Id,
@@ -26,42 +48,31 @@ pub enum Letters {
     Zero,
 }
 
-fn between(low: u8, high: u8, b: u8) -> bool
-    ensures { result ≡ between low high b }
-{
-    if b < low {
-        return false;
-    }
-    b <= high
-}
-
 // 33 to 126, never '_'.
+#[tactic(auto, unfolding(crate::specs::Settings::id_letter, crate::specs::Settings::between))]
 fn id_letter(b: u8) -> bool
     ensures { result ≡ id_letter b }
 {
-    if b == b'_' {
-        return false;
-    }
-    between(33, 126, b)
+    b != b'_' && b.is_ascii_graphic()
 }
 
 // 0-9 a-f.
+#[tactic(auto, unfolding(crate::specs::Settings::serial_letter, crate::specs::Settings::between))]
 fn serial_letter(b: u8) -> bool
     ensures { result ≡ serial_letter b }
 {
-    if between(b'0', b'9', b) {
-        return true;
-    }
-    between(b'a', b'f', b)
+    matches!(b, b'0'..=b'9' | b'a'..=b'f')
 }
 
-fn letter_good(class: Letters, b: u8) -> bool
-    ensures { result ≡ letter_good class b }
-{
-    match class {
-        Letters::Id => id_letter(b),
-        Letters::Serial => serial_letter(b),
-        Letters::Zero => b == 0,
+impl Letters {
+    fn allows(self, b: u8) -> bool
+        ensures { result ≡ letter_good self b }
+    {
+        match self {
+            Letters::Id => id_letter(b),
+            Letters::Serial => serial_letter(b),
+            Letters::Zero => b == 0,
+        }
     }
 }
 
@@ -69,45 +80,25 @@ fn letter_good(class: Letters, b: u8) -> bool
 pub(crate) fn every(class: Letters, s: &[u8]) -> bool
     ensures { result ≡ every class s.now }
 {
-    let mut i: usize = 0;
-    while i < s.len() {
-        if !letter_good(class, s[i]) {
-            return false;
-        }
-        i += 1;
-    }
-    true
+    s.iter().all(|b| class.allows(*b))
 }
 
 // 1 to 32 bytes of the class, then zeros.
+#[tactic(auto, unfolding(crate::specs::Settings::name_good, crate::specs::Settings::name_text))]
 fn name_good(class: Letters, name: Name) -> bool
     ensures { result ≡ name_good class name }
 {
-    let n = name.len;
-    if n < 1 {
-        return false;
-    }
-    if 32 < n {
-        return false;
-    }
-    let b = name.bytes;
-    if !every(class, &b[0..n]) {
-        return false;
-    }
-    every(Letters::Zero, &b[n..32])
+    (1..=32).contains(&name.len)
+        && every(class, &name.bytes[..name.len])
+        && every(Letters::Zero, &name.bytes[name.len..])
 }
 
 // Two letters A-Z and one digit.
+#[tactic(auto, unfolding(crate::specs::Settings::csp_good, crate::specs::Settings::between))]
 pub fn csp_good(csp: [u8; 3]) -> bool
     ensures { result ≡ csp_good csp }
 {
-    if !between(b'A', b'Z', csp[0]) {
-        return false;
-    }
-    if !between(b'A', b'Z', csp[1]) {
-        return false;
-    }
-    between(b'0', b'9', csp[2])
+    csp[0].is_ascii_uppercase() && csp[1].is_ascii_uppercase() && csp[2].is_ascii_digit()
 }
 
 // 1 to 32 bytes, each 33 to 126, never '_'.
@@ -124,80 +115,60 @@ pub fn serial_good(serial: Name) -> bool
     name_good(Letters::Serial, serial)
 }
 
+#[tactic(auto, unfolding(crate::specs::Settings::settings_good))]
 pub fn settings_good(s: Settings) -> bool
     ensures { result ≡ settings_good s }
 {
-    let csp = s.csp;
-    if !csp_good(csp) {
-        return false;
-    }
-    let id = s.id;
-    if !id_good(id) {
-        return false;
-    }
-    let serial = s.serial;
-    serial_good(serial)
+    csp_good(s.csp) && id_good(s.id) && serial_good(s.serial)
 }
 
 // Question 32: a register with a shared key has an ID that does not end in a digit.
+#[tactic(auto, unfolding(crate::specs::Settings::id_allowed))]
 fn id_allowed(shared: bool, id: Name) -> bool
     requires { id_good id ≡ true }
     ensures { result ≡ id_allowed shared id }
 {
-    if !shared {
-        return true;
-    }
-    let b = id.bytes;
-    let last = b[id.len - 1];
-    !between(b'0', b'9', last)
+    !(shared && id.ends_in_digit())
 }
 
-// Questions 1, 2, 32, 3 and 4, asked of settings, whether the key is shared, and a counter's width; 0 if every answer is yes.
-pub fn settings_number_for(s: Settings, shared: bool, n: usize) -> u32
-    ensures { result ≡ settings_number_for s shared n 0 }
+// Questions 1, 2, 32, 3 and 4, asked of settings, whether the key is shared, and a counter's width. `shared` is what question 32 asks for.
+pub fn ask_settings_for(s: Settings, shared: bool, n: usize) -> Result<(), Refusal>
+    ensures { answer_number result ≡ settings_number_for s shared n 0 }
 {
-    let csp = s.csp;
-    if !csp_good(csp) {
-        return 1;
+    if !csp_good(s.csp) {
+        return Err(Refusal::BadCsp);
     }
-    let id = s.id;
-    if !id_good(id) {
-        return 2;
+    if !id_good(s.id) {
+        return Err(Refusal::BadId);
     }
-    if !id_allowed(shared, id) {
-        return 32;
+    if !id_allowed(shared, s.id) {
+        return Err(Refusal::IdEndsInDigit);
     }
-    let serial = s.serial;
-    if !serial_good(serial) {
-        return 3;
+    if !serial_good(s.serial) {
+        return Err(Refusal::BadSerial);
     }
     if !width_good(n) {
-        return 4;
+        return Err(Refusal::BadWidth);
     }
-    0
+    Ok(())
 }
 
 // Questions 1 to 4 alone: 32 is not asked.
-pub fn settings_number(s: Settings, n: usize) -> u32
-    ensures { result ≡ settings_number s n 0 }
+pub fn ask_settings(s: Settings, n: usize) -> Result<(), Refusal>
+    ensures { answer_number result ≡ settings_number s n 0 }
 {
-    settings_number_for(s, false, n)
-}
-
-// The smaller of two numbers.
-pub(crate) fn lesser(a: usize, b: usize) -> usize
-    ensures { result ≡ min a b }
-{
-    if a <= b { a } else { b }
+    ask_settings_for(s, false, n)
 }
 
 // The name with this text. If the text is over 32 bytes long, the first 32 are copied, and the length makes the name bad.
 pub fn name_of(text: &[u8]) -> Name
     ensures { result ≡ name_of text.now }
 {
-    let len = text.len();
-    let n = lesser(32, len);
-    let mut bytes = [0u8; 32];
-    let _ = primitives::put(&mut bytes, 0, &text[0..n]);
-    Name { bytes, len }
+    let n = text.len().min(32);
+    let mut bytes = [0; 32];
+    bytes[..n].copy_from_slice(&text[..n]);
+    Name {
+        bytes,
+        len: text.len(),
+    }
 }

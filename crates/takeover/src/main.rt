@@ -5,23 +5,24 @@
 
 ghost use Rattle.std.specs.Prelude.{OnOk, OnErr};
 ghost use Rattle.std.specs.Io.KnownBytes.{Appends};
+ghost use Rattle.journal.specs.State.{as_taken_over};
 ghost use Rattle.printing.specs.Line.{AppendsPart};
 ghost use Rattle.takeover.specs.Answer.{line_of, answer_to};
 ghost use Rattle.takeover.specs.Input.{IsWhole};
 
-use journal::TakenOver;
+use journal::{RefusedAt, State};
 use std::io;
 use std::io::{Read, Write};
 
 // The line of what a take-over answers.
-fn print_answer<W: Write>(out: &mut W, t: TakenOver) -> io::Result<()>
-    ensures ok { OnOk result (Appends (W.contents out.old) (W.contents out.new) (line_of t)) }
-    ensures err { OnErr result (AppendsPart (W.contents out.old) (W.contents out.new) (line_of t)) }
+fn print_answer<W: Write>(out: &mut W, taken: Result<State, RefusedAt>) -> io::Result<()>
+    ensures ok { OnOk result (Appends (W.contents out.old) (W.contents out.new) (line_of (as_taken_over taken))) }
+    ensures err { OnErr result (AppendsPart (W.contents out.old) (W.contents out.new) (line_of (as_taken_over taken))) }
 {
-    if t.number != 0 {
-        return printing::refused(out, t.number, t.index);
+    match taken {
+        Ok(st) => printing::accepted(out, st.issued, st.counter),
+        Err(refused) => printing::refused(out, refused.question.number(), refused.index),
     }
-    printing::accepted(out, t.state.issued, t.state.counter)
 }
 
 // Takes over the input.
@@ -41,28 +42,21 @@ fn answer<W: Write>(out: &mut W, input: &[u8]) -> io::Result<()>
 // The bytes of the longest input: the byte N, the key and the journal.
 const LONGEST_INPUT: usize = 65536;
 
-// The result of reading the input.
-#[derive(Clone, Copy)]
-enum Input {
-    // The input ended after this many bytes.
-    Ended(usize),
-    // A read failed, or the buffer is full: no end was seen.
-    NoEnd,
-}
-
-// Reads to the end of the input or of the buffer.
-fn read_input<R: Read>(input: &mut R, buf: &mut [u8]) -> Input
+// Reads to the end of the input or of the buffer. Returns how many bytes the input has, or none where no end was seen: a read failed,
+// or the buffer is full.
+fn read_input<R: Read>(input: &mut R, buf: &mut [u8]) -> Option<usize>
     ensures { IsWhole (R.remaining input.old) buf.new result }
 {
     let mut n = 0;
+    // Not counted by one: each turn goes on by as much as a read gave.
     while n < buf.len() {
         match input.read(&mut buf[n..]) {
-            Ok(0) => return Input::Ended(n),
+            Ok(0) => return Some(n),
             Ok(more) => n += more,
-            Err(_) => return Input::NoEnd,
+            Err(_) => return None,
         }
     }
-    Input::NoEnd
+    None
 }
 
 // The buffer is one byte longer than the input may be, so that the end of the longest input is seen.
@@ -70,7 +64,7 @@ fn main(rt: HostRuntime) -> io::Result<()> {
     let mut out = io::writer(&rt);
     let mut input = [0u8; LONGEST_INPUT + 1];
     match read_input(&mut rt.reader(), &mut input) {
-        Input::Ended(n) => answer(&mut out, &input[..n]),
-        Input::NoEnd => printing::refused(&mut out, 25, 0),
+        Some(n) => answer(&mut out, &input[..n]),
+        None => printing::refused(&mut out, 25, 0),
     }
 }

@@ -65,13 +65,16 @@ fn open_row(out: &mut impl Write, line: &[u8], buf: &mut [u8]) -> io::Result<Sta
     let n = digits(field(line, 5), 0) as usize;
     let mut key = [0u8; 32];
     unhex(field(line, 6), &mut key);
-    let opened = journal::open(s, key, false, n, buf);
-    if opened.number != 0 {
-        print_refused(out, field(line, 1), opened.number)?;
-    } else {
-        print_state(out, field(line, 1), opened.state)?;
+    match journal::open(s, key, false, n, buf) {
+        Ok(st) => {
+            print_state(out, field(line, 1), st)?;
+            Ok(st)
+        }
+        Err(refusal) => {
+            print_refused(out, field(line, 1), refusal)?;
+            Ok(journal::unopened())
+        }
     }
-    Ok(opened.state)
 }
 
 // ---- a receipt is issued
@@ -126,11 +129,10 @@ fn details_of(line: &[u8]) -> Details {
 // The text that the device is given to sign.
 fn print_prepared(out: &mut impl Write, name: &[u8], st: State, d: Details) -> io::Result<()> {
     let mut text = [0u8; LONGEST_COMPACT];
-    let a = journal::prepare(st, d, &mut text);
-    if a.number != 0 {
-        return print_refused(out, name, a.number);
+    match journal::prepare(st, d, &mut text) {
+        Ok(n) => print_first(out, name, &text, n),
+        Err(refusal) => print_refused(out, name, refusal),
     }
-    print_first(out, name, &text, a.length)
 }
 
 // A receipt with the first n bytes of a signature: its compact form in the buffer, and the state after it.
@@ -146,15 +148,17 @@ fn issue(
     let Some(signed) = signature.get(..n) else {
         return Ok(st);
     };
-    let issued = journal::issue(st, d, signed, buf);
-    let next = issued.state;
-    if issued.number != 0 {
-        print_refused(out, name, issued.number)?;
-    } else {
-        print_entry(out, name, buf, st.length, next.length)?;
-        print_state(out, name, next)?;
+    match journal::issue(st, d, signed, buf) {
+        Ok(next) => {
+            print_entry(out, name, buf, st.length, next.length)?;
+            print_state(out, name, next)?;
+            Ok(next)
+        }
+        Err(refusal) => {
+            print_refused(out, name, refusal)?;
+            Ok(st)
+        }
     }
-    Ok(next)
 }
 
 // A row without a signature is that of a failed device.
@@ -172,9 +176,9 @@ fn take_over(out: &mut impl Write, name: &[u8], buf: &[u8], st: State) -> io::Re
     let Some(bytes) = buf.get(..st.length) else {
         return Ok(());
     };
-    let t = journal::take_over(bytes, st.key, st.width);
-    let found = t.state;
-    print_taken(out, name, t)?;
+    let taken = journal::take_over(bytes, st.key, st.width);
+    let found = taken.unwrap_or(journal::unopened());
+    print_taken(out, name, taken)?;
     print_settings(out, name, journal::settings_now(found), found.width)?;
     print_state(out, name, found)
 }

@@ -1,5 +1,7 @@
-// The lines that the program writes: a row's name, a tab and what the library makes of the row.
+// The lines that the program writes: a row's name, a tab and what the library makes of the row. Writer and name stay two arguments: a value of both would
+// be made anew for each row and lent for each line.
 use super::text::put_hex;
+use primitives::Refusal;
 use std::io;
 use std::io::Write;
 
@@ -60,7 +62,7 @@ pub(crate) fn print_hex(
 }
 
 // The number of a refused call.
-pub(crate) fn print_refused(out: &mut impl Write, name: &[u8], number: u32) -> io::Result<()> {
+pub(crate) fn print_refused(out: &mut impl Write, name: &[u8], refusal: Refusal) -> io::Result<()> {
     write_name(out, name)?;
-    writeln!(out, "refused {number}")
+    writeln!(out, "refused {}", refusal.number())
 }

@@ -11,67 +11,21 @@ mod text;
 
 ghost use Rattle.std.specs.Prelude.{◌≤◌, length};
 
-use journal::State;
 use std::io::{Eprint, Read, Write};
 use std::rt::Files;
 use std::{fs, io};
 
-// What the lines of a file ask of the library.
-#[derive(Clone, Copy)]
-enum Topic {
-    Sha256,
-    Aes256,
-    Base,
-    CounterBytes,
-    Chain,
-    CounterIv,
-    Counter,
-    Code,
-    Compact,
-    Amount,
-    Open,
-    Journal,
-    Takeover,
-}
-
-// The register after one line of a file. Only the lines of the journals change it.
-fn row(
-    out: &mut impl Write,
-    topic: Topic,
-    st: State,
-    line: &[u8],
-    buf: &mut [u8],
-) -> io::Result<State> {
-    match topic {
-        Topic::Sha256 => primitive::sha256_row(out, line)?,
-        Topic::Aes256 => primitive::aes256_row(out, line)?,
-        Topic::Base => primitive::base_row(out, line)?,
-        Topic::CounterBytes => primitive::counter_row(out, line)?,
-        Topic::Chain => receipts::chain_row(out, line)?,
-        Topic::CounterIv => receipts::iv_row(out, line)?,
-        Topic::Counter => receipts::counter_row(out, line)?,
-        Topic::Code => receipts::code_row(out, line)?,
-        Topic::Compact => receipts::compact_row(out, line)?,
-        Topic::Amount => receipts::amount_row(out, line)?,
-        Topic::Open => opens::row(out, line)?,
-        Topic::Takeover => takeovers::row(out, line)?,
-        Topic::Journal => return journals::row(out, st, line, buf),
-    }
-    Ok(st)
-}
-
-// All lines of a file's text but the first, which names the columns. The register lives in the buffer.
-fn rows(
-    out: &mut impl Write,
-    topic: Topic,
+// Answers all lines of a file's text but the first, which names the columns.
+fn answer_all<W: Write, F: FnMut(&mut W, &[u8]) -> io::Result<()>>(
+    out: &mut W,
     text: &[u8],
-    buf: &mut [u8],
-    first: State,
-) -> io::Result<()> {
-    let mut st = first;
+    mut row: F,
+) -> io::Result<()>
+    requires { F.IsAlwaysCallable row }
+{
     for line in text.split(|b| *b == b'\n').skip(1) {
         if !line.is_empty() {
-            st = row(out, topic, st, line, buf)?;
+            row(out, line)?;
         }
     }
     Ok(())
@@ -80,17 +34,12 @@ fn rows(
 // The bytes of a file that are read, at most.
 const LONGEST_TEXT: usize = 65536;
 
-// Before the first line no register is open.
-fn answer_all(out: &mut impl Write, topic: Topic, text: &[u8]) -> io::Result<()> {
-    let mut buf = [0u8; 4096];
-    rows(out, topic, text, &mut buf, journal::unopened())
-}
-
 // Reads to the end of the file or of the buffer, or up to a read that fails, and returns how many bytes were read.
 fn read_text<R: Read>(file: &mut R, buf: &mut [u8]) -> usize
     ensures { result ≤ length buf.new }
 {
     let mut n = 0;
+    // Not counted by one: each turn goes on by as much as a read gave.
     while n < buf.len() {
         match file.read(&mut buf[n..]) {
             Ok(0) | Err(_) => return n,
@@ -100,13 +49,15 @@ fn read_text<R: Read>(file: &mut R, buf: &mut [u8]) -> usize
     n
 }
 
-// Reads a file of data/, prints its name and answers its lines. A file that cannot be opened is named on standard error.
-fn run<R: Files + Eprint>(
+// Reads a file of data/, prints its name and answers its lines by `row`. A file that cannot be opened is named on standard error.
+fn run<R: Files + Eprint, W: Write, F: FnMut(&mut W, &[u8]) -> io::Result<()>>(
     rt: &R,
-    out: &mut impl Write,
-    topic: Topic,
+    out: &mut W,
     path: &str,
-) -> io::Result<()> {
+    row: F,
+) -> io::Result<()>
+    requires { F.IsAlwaysCallable row }
+{
     let mut file = match fs::open(rt, path) {
         Ok(file) => file,
         Err(e) => return eprintln!(rt; "{path}: {e}"),
@@ -114,56 +65,66 @@ fn run<R: Files + Eprint>(
     let mut text = [0u8; LONGEST_TEXT];
     let n = read_text(&mut file, &mut text);
     writeln!(out, "# {path}")?;
-    answer_all(out, topic, &text[..n])
+    answer_all(out, &text[..n], row)
 }
 
-fn run_primitives<R: Files + Eprint>(rt: &R, out: &mut impl Write) -> io::Result<()> {
-    run(rt, out, Topic::Sha256, "sha256.tsv")?;
-    run(rt, out, Topic::Aes256, "aes256.tsv")?;
-    run(rt, out, Topic::Base, "base64.tsv")?;
-    run(rt, out, Topic::Base, "base32.tsv")?;
-    run(rt, out, Topic::CounterBytes, "counter-bytes.tsv")
+fn run_primitives<R: Files + Eprint, W: Write>(rt: &R, out: &mut W) -> io::Result<()> {
+    run(rt, out, "sha256.tsv", primitive::sha256_row)?;
+    run(rt, out, "aes256.tsv", primitive::aes256_row)?;
+    run(rt, out, "base64.tsv", primitive::base_row)?;
+    run(rt, out, "base32.tsv", primitive::base_row)?;
+    run(rt, out, "counter-bytes.tsv", primitive::counter_row)
 }
 
-fn run_receipts<R: Files + Eprint>(rt: &R, out: &mut impl Write) -> io::Result<()> {
-    run(rt, out, Topic::Chain, "chain.tsv")?;
-    run(rt, out, Topic::CounterIv, "counter-iv.tsv")?;
-    run(rt, out, Topic::Counter, "counter.tsv")?;
-    run(rt, out, Topic::Code, "code.tsv")?;
-    run(rt, out, Topic::Code, "ocr-line.tsv")?;
-    run(rt, out, Topic::Compact, "compact.tsv")?;
-    run(rt, out, Topic::Amount, "amount.tsv")
+fn run_receipts<R: Files + Eprint, W: Write>(rt: &R, out: &mut W) -> io::Result<()> {
+    run(rt, out, "chain.tsv", receipts::chain_row)?;
+    run(rt, out, "counter-iv.tsv", receipts::iv_row)?;
+    run(rt, out, "counter.tsv", receipts::counter_row)?;
+    run(rt, out, "code.tsv", receipts::code_row)?;
+    run(rt, out, "ocr-line.tsv", receipts::code_row)?;
+    run(rt, out, "compact.tsv", receipts::compact_row)?;
+    run(rt, out, "amount.tsv", receipts::amount_row)
 }
 
-fn run_journals<R: Files + Eprint>(rt: &R, out: &mut impl Write) -> io::Result<()> {
-    run(rt, out, Topic::Open, "open.tsv")?;
-    run(rt, out, Topic::Journal, "journals.tsv")?;
-    run(rt, out, Topic::Takeover, "takeover-1.tsv")?;
-    run(rt, out, Topic::Takeover, "takeover-2.tsv")?;
-    run(rt, out, Topic::Takeover, "takeover-3.tsv")?;
-    run(rt, out, Topic::Takeover, "takeover-4.tsv")?;
-    run(rt, out, Topic::Takeover, "takeover-5.tsv")?;
-    run(rt, out, Topic::Takeover, "takeover-6.tsv")?;
-    run(rt, out, Topic::Takeover, "takeover-7.tsv")?;
-    run(rt, out, Topic::Takeover, "takeover-8.tsv")
+// The lines of a journal's file follow one another: each finds the register as the line before left it.
+fn run_register<R: Files + Eprint, W: Write>(rt: &R, out: &mut W) -> io::Result<()> {
+    let mut buf = [0u8; 4096];
+    let mut st = journal::unopened();
+    run(rt, out, "journals.tsv", |out: &mut W, line: &[u8]| {
+        st = journals::row(out, st, line, &mut buf)?;
+        Ok(())
+    })
 }
 
-fn run_pairs<R: Files + Eprint>(rt: &R, out: &mut impl Write) -> io::Result<()> {
-    run(rt, out, Topic::Takeover, "takeover-pairs-1.tsv")?;
-    run(rt, out, Topic::Takeover, "takeover-pairs-2.tsv")?;
-    run(rt, out, Topic::Takeover, "takeover-pairs-3.tsv")?;
-    run(rt, out, Topic::Takeover, "takeover-pairs-4.tsv")?;
-    run(rt, out, Topic::Takeover, "takeover-pairs-5.tsv")?;
-    run(rt, out, Topic::Takeover, "takeover-pairs-6.tsv")?;
-    run(rt, out, Topic::Takeover, "takeover-pairs-7.tsv")?;
-    run(rt, out, Topic::Takeover, "takeover-pairs-8.tsv")?;
-    run(rt, out, Topic::Takeover, "takeover-pairs-9.tsv")
-}
+// The files of the take-overs.
+const TAKEOVERS: [&str; 17] = [
+    "takeover-1.tsv",
+    "takeover-2.tsv",
+    "takeover-3.tsv",
+    "takeover-4.tsv",
+    "takeover-5.tsv",
+    "takeover-6.tsv",
+    "takeover-7.tsv",
+    "takeover-8.tsv",
+    "takeover-pairs-1.tsv",
+    "takeover-pairs-2.tsv",
+    "takeover-pairs-3.tsv",
+    "takeover-pairs-4.tsv",
+    "takeover-pairs-5.tsv",
+    "takeover-pairs-6.tsv",
+    "takeover-pairs-7.tsv",
+    "takeover-pairs-8.tsv",
+    "takeover-pairs-9.tsv",
+];
 
 fn main(rt: HostRuntime) -> io::Result<()> {
     let mut out = io::writer(&rt);
     run_primitives(&rt, &mut out)?;
     run_receipts(&rt, &mut out)?;
-    run_journals(&rt, &mut out)?;
-    run_pairs(&rt, &mut out)
+    run(&rt, &mut out, "open.tsv", opens::row)?;
+    run_register(&rt, &mut out)?;
+    for path in TAKEOVERS {
+        run(&rt, &mut out, path, takeovers::row)?;
+    }
+    Ok(())
 }

@@ -18,11 +18,10 @@ fn open_into(out: &mut impl Write, line: &[u8], buf: &mut [u8]) -> io::Result<()
     let s = settings_in(line);
     let n = digits(field(line, 4), 0) as usize;
     let shared = digits(field(line, 6), 0) == 1;
-    let opened = journal::open(s, [0u8; 32], shared, n, buf);
-    if opened.number != 0 {
-        return print_refused(out, field(line, 0), opened.number);
+    match journal::open(s, [0u8; 32], shared, n, buf) {
+        Ok(st) => print_hex(out, field(line, 0), buf, st.length),
+        Err(refusal) => print_refused(out, field(line, 0), refusal),
     }
-    print_hex(out, field(line, 0), buf, opened.state.length)
 }
 
 pub(crate) fn row(out: &mut impl Write, line: &[u8]) -> io::Result<()> {

@@ -1,7 +1,7 @@
 // The rows of the primitives' vectors.
 use super::lines::{print, print_first, print_hex};
 use super::text::{decimal, digits, field, unhex};
-use primitives::{Alphabet, Decoded};
+use primitives::{Alphabet, DecodeError};
 use std::io;
 use std::io::Write;
 
@@ -61,7 +61,7 @@ fn encode(base: Base, bytes: &[u8], out: &mut [u8]) -> usize {
     }
 }
 
-fn decode(base: Base, text: &[u8], out: &mut [u8]) -> Decoded {
+fn decode(base: Base, text: &[u8], out: &mut [u8]) -> Result<usize, DecodeError> {
     match base {
         Base::Standard => primitives::base64_decode(Alphabet::Standard, text, out, 0),
         Base::UrlSafe => primitives::base64_decode(Alphabet::UrlSafe, text, out, 0),
@@ -104,9 +104,9 @@ fn print_decoded(
     };
     let mut bytes = [0u8; 1024];
     match decode(base, letters, &mut bytes) {
-        Decoded::Upto(m) => decoded(out, name, base, &bytes, m),
-        Decoded::Refused => print(out, name, b"refused"),
-        Decoded::NoRoom => print(out, name, b"no room"),
+        Ok(m) => decoded(out, name, base, &bytes, m),
+        Err(DecodeError::Refused) => print(out, name, b"refused"),
+        Err(DecodeError::NoRoom) => print(out, name, b"no room"),
     }
 }
 

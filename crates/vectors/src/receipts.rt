@@ -1,9 +1,9 @@
 // The rows of the receipt layer's vectors.
 use super::lines::{print, print_first, print_hex, print_refused};
 use super::text::{decimal, digits, field, unhex};
-use primitives::Alphabet;
+use primitives::{Alphabet, Refusal};
 use receipt::{
-    Answer, DateTime, Details, Entry, Kind, LONGEST_CODE, LONGEST_COMPACT, PayloadFields, Settings,
+    DateTime, Details, Entry, Kind, LONGEST_CODE, LONGEST_COMPACT, PayloadFields, Settings,
     Signature,
 };
 use std::io;
@@ -47,37 +47,36 @@ pub(crate) fn counter_row(out: &mut impl Write, line: &[u8]) -> io::Result<()> {
 }
 
 // What a call that writes a text answered.
-fn print_answer(out: &mut impl Write, name: &[u8], a: Answer, text: &[u8]) -> io::Result<()> {
-    match a.number {
-        0 => print_hex(out, name, text, a.length),
-        22 | 23 | 24 | 26 | 27 => print_refused(out, name, a.number),
-        _ => print(out, name, b"refused"),
+fn print_answer(
+    out: &mut impl Write,
+    name: &[u8],
+    answer: Result<usize, Refusal>,
+    text: &[u8],
+) -> io::Result<()> {
+    match answer {
+        Ok(n) => print_hex(out, name, text, n),
+        Err(refusal) => print_refused(out, name, refusal),
     }
 }
 
-// A call of code, uncode, line, unline ("back") or fields on the first n bytes of a text.
-fn call(out: &mut impl Write, name: &[u8], which: u8, text: &[u8], n: usize) -> io::Result<()> {
+// A call of code, uncode, line, unline ("back") or fields on a text in hexadecimal.
+pub(crate) fn code_row(out: &mut impl Write, line: &[u8]) -> io::Result<()> {
+    let name = field(line, 0);
+    let mut text = [0u8; 1024];
+    let n = unhex(field(line, 2), &mut text);
     let Some(given) = text.get(..n) else {
         return Ok(());
     };
     let mut made = [0u8; 512];
-    let a = match which {
-        b'c' => receipt::code(given, &mut made),
-        b'u' => receipt::uncode(given, &mut made),
-        b'l' => receipt::line(given, &mut made),
-        b'b' => receipt::unline(given, &mut made),
+    let answer = match field(line, 1) {
+        [] => return Ok(()),
+        [b'c', ..] => receipt::code(given, &mut made),
+        [b'u', ..] => receipt::uncode(given, &mut made),
+        [b'l', ..] => receipt::line(given, &mut made),
+        [b'b', ..] => receipt::unline(given, &mut made),
         _ => return print(out, name, receipt::fields(given)),
     };
-    print_answer(out, name, a, &made)
-}
-
-pub(crate) fn code_row(out: &mut impl Write, line: &[u8]) -> io::Result<()> {
-    let mut text = [0u8; 1024];
-    let n = unhex(field(line, 2), &mut text);
-    match field(line, 1).first() {
-        Some(which) => call(out, field(line, 0), *which, &text, n),
-        None => Ok(()),
-    }
+    print_answer(out, name, answer, &made)
 }
 
 // The settings of a row: CSP, register ID and serial.
@@ -114,11 +113,9 @@ pub(crate) fn compact_row(out: &mut impl Write, line: &[u8]) -> io::Result<()> {
     let name = field(line, 0);
     let s = settings_of(field(line, 1), field(line, 2), field(line, 3));
     let n = digits(field(line, 4), 0) as usize;
-    let found = receipt::read_entry(s, n, field(line, 5));
-    if !found.ok {
+    let Some(e) = receipt::read_entry(s, n, field(line, 5)) else {
         return print(out, name, b"refused");
-    }
-    let e = found.entry;
+    };
     print_eight(out, name, e.fields.counter, n)?;
     print_eight(out, name, e.fields.chain, 8)?;
     print_compact(out, name, s, n, e)
@@ -157,8 +154,8 @@ fn print_code(out: &mut impl Write, name: &[u8], form: &[u8], n: usize) -> io::R
         return Ok(());
     };
     let mut code = [0u8; LONGEST_CODE];
-    let a = receipt::code(form, &mut code);
-    print_first(out, name, &code, a.length)
+    let length = receipt::code(form, &mut code).unwrap_or(0);
+    print_first(out, name, &code, length)
 }
 
 // An amount, as the code of a receipt spells it.

@@ -1,7 +1,7 @@
 // The rows of the journals that are taken over.
 use super::lines::write_name;
 use super::text::{digits, field, unhex};
-use journal::TakenOver;
+use journal::{RefusedAt, State};
 use std::io;
 use std::io::Write;
 
@@ -9,12 +9,16 @@ use std::io::Write;
 const LONGEST_INPUT: usize = 65536;
 
 // What a take-over answered: receipts and counter, or number and index.
-pub(crate) fn print_taken(out: &mut impl Write, name: &[u8], t: TakenOver) -> io::Result<()> {
+pub(crate) fn print_taken(
+    out: &mut impl Write,
+    name: &[u8],
+    taken: Result<State, RefusedAt>,
+) -> io::Result<()> {
     write_name(out, name)?;
-    if t.number != 0 {
-        return printing::refused(out, t.number, t.index);
+    match taken {
+        Ok(st) => printing::accepted(out, st.issued, st.counter),
+        Err(refused) => printing::refused(out, refused.question.number(), refused.index),
     }
-    printing::accepted(out, t.state.issued, t.state.counter)
 }
 
 // An input: one byte N, 32 bytes of key, then the journal.

@@ -4,6 +4,7 @@ use Rattle.std.specs.Prelude.{OnErr, slice_index, List, ℕ, false}
 use Rattle.std.specs.Io.KnownBytes.{Appends}
 use Rattle.printing.specs.Line.{AppendsPart, refused_line}
 use Rattle.journal.specs.Checking.{take_over}
+use Rattle.journal.specs.State.{as_taken_over}
 use Rattle.takeover.specs.Answer.{line_of, answer_to}
 use Rattle.takeover.proofs.answer.Given as Given
 use Rattle.takeover.proofs.answer.Goals as goal
@@ -15,11 +16,11 @@ not_short : (n : ℕ) → 33 ≤ n → nat_lt n 33 ≡ false
 not_short n h = search rules
 
 -- the line of what the call answered is the input's
-same_line : (g : Given.Over) (c : goal.After-print_answer g) → line_of c.take_over.result ≡ answer_to c.args.input.now
+same_line : (g : Given.Over) (c : goal.After-print_answer g) → line_of (as_taken_over c.take_over.result) ≡ answer_to c.args.input.now
 same_line g c =
     let input = c.args.input.now in
     let key = take 32 (drop 1 input) in
-    let taken : c.take_over.result ≡ take_over (drop 33 input) key (slice_index input 0) =
+    let taken : as_taken_over c.take_over.result ≡ take_over (drop 33 input) key (slice_index input 0) =
     c.take_over.ensures
     ∙ ap (λ j. take_over j c.copy_from_slice.new.self c.from-width.result) (whole 33 input)
     ∙ ap (λ k. take_over (drop 33 input) k c.from-width.result) c.copy_from_slice.ensures.after

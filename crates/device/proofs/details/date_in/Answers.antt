@@ -1,14 +1,7 @@
--- `details::date_in` meets its contract.
-use Rattle.device.proofs.Reading.{date_found}
+use Rattle.device.specs.Details.{date_of, number_in}
 use Rattle.device.proofs.details.date_in.Goals as goal
 
 pub returns : goal.returns
+unfolding date_of number_in
 returns c =
-    date_found c.args.b.now
-    c.word_at-year.ensures
-    c.word_at-month.ensures
-    c.word_at-day.ensures
-    c.word_at-hour.ensures
-    c.word_at-minute.ensures
-    c.word_at-second.ensures
-    c.date_of.ensures
+    rw (c.word_at.ensures, c.word_at-2.ensures, c.word_at-3.ensures, c.word_at-4.ensures, c.word_at-5.ensures, c.word_at-6.ensures)

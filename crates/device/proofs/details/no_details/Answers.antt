@@ -1,5 +1,5 @@
 -- `details::no_details` meets its contract.
-use mathlib.Core.Path.{refl}
+use Rattle.std.proofs.Common.{refl}
 use Rattle.device.specs.Details.{no_details}
 use Rattle.device.proofs.details.no_details.Goals as goal
 

@@ -1,20 +1,19 @@
--- `details::of_kind` meets its contract.
-use borrow.Author.Tests.{eq-eqb, ne_eqb}
-use Rattle.device.specs.Details.{of_kind}
+use Rattle.std.proofs.Common.{arith, ne_eqb}
+use Rattle.device.specs.Details.{of_kind, details_with}
 use Rattle.device.proofs.details.of_kind.Goals as goal
 
-pub returns-then-kind-eq0 : goal.returns-then-kind-eq0
-unfolding of_kind
-returns-then-kind-eq0 c = rw (eq-eqb _ 0 c.if-kind-eq0.true) c.details_with.ensures
+pub returns-in-0 : goal.returns-in-0
+unfolding of_kind details_with
+returns-in-0 c = rw c.in-0.is
 
-pub returns-then-kind-eq1 : goal.returns-then-kind-eq1
-unfolding of_kind
-returns-then-kind-eq1 c = rw (ne_eqb _ 0 c.if-kind-eq0.false, eq-eqb _ 1 c.if-kind-eq1.true) c.details_with-then-kind-eq1.ensures
+pub returns-in-1 : goal.returns-in-1
+unfolding of_kind details_with
+returns-in-1 c = rw c.in-1.is
 
-pub returns-then-kind-eq2 : goal.returns-then-kind-eq2
-unfolding of_kind
-returns-then-kind-eq2 c = rw (ne_eqb _ 0 c.if-kind-eq0.false, ne_eqb _ 1 c.if-kind-eq1.false, eq-eqb _ 2 c.if-kind-eq2.true) c.details_with-then-kind-eq2.ensures
+pub returns-in-2 : goal.returns-in-2
+unfolding of_kind details_with
+returns-in-2 c = rw c.in-2.is
 
-pub returns : goal.returns
+pub returns-in_default : goal.returns-in_default
 unfolding of_kind
-returns c = rw (ne_eqb _ 0 c.if-kind-eq0.false, ne_eqb _ 1 c.if-kind-eq1.false, ne_eqb _ 2 c.if-kind-eq2.false) c.no_details.ensures
+returns-in_default c = let k = c.args.kind in rw (ne_eqb k 0 (omega arith), ne_eqb k 1 (omega arith), ne_eqb k 2 (omega arith)) c.no_details.ensures

@@ -1,7 +1,6 @@
--- `layout::key_at` meets its contract.
 use Rattle.device.specs.Layout.{key_at}
 use Rattle.device.proofs.layout.key_at.Goals as goal
 
 pub returns : goal.returns
 unfolding key_at
-returns c = c.array32_at.ensures
+returns c = c.array_at.ensures

@@ -1,5 +1,5 @@
 -- `layout::key_of` meets its contract.
-use borrow.Author.Tests.{eq-eqb, ne_eqb}
+use Rattle.std.proofs.Common.{eq-eqb, ne_eqb}
 use Rattle.device.specs.Layout.{key_of}
 use Rattle.device.proofs.layout.key_of.Goals as goal
 

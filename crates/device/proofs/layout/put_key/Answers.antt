@@ -1,8 +1,6 @@
 -- `layout::put_key` meets its contract.
-use mathlib.Core.Path.{◌≡◌}
-use lib.ListN.{length}
+use Rattle.std.proofs.Common.{◌≡◌, length, rules}
 use Rattle.device.proofs.Writers.{put_key}
-use borrow.Author.Rules.{rules}
 use Rattle.device.proofs.layout.put_key.Goals as goal
 
 pub returns : goal.returns

@@ -1,7 +1,7 @@
 -- `layout::put_names` meets its contract.
+use Rattle.std.proofs.Common.{rules}
 use Rattle.receipt.specs.Settings.{SettingsLengths}
 use Rattle.device.proofs.Writers.{put_names}
-use borrow.Author.Rules.{rules}
 use Rattle.device.proofs.layout.put_names.Goals as goal
 
 pub returns : goal.returns

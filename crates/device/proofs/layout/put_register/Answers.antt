@@ -1,5 +1,5 @@
 -- `layout::put_register` meets its contract.
-use mathlib.Core.Path.{sym}
+use Rattle.std.proofs.Common.{sym}
 use Rattle.device.proofs.Slots.{state_long}
 use Rattle.device.proofs.Writers.{put_register}
 use Rattle.device.proofs.layout.put_register.Goals as goal

@@ -1,5 +1,5 @@
 -- `layout::state_of` meets its contract.
-use borrow.Author.Tests.{eq-eqb, ne_eqb}
+use Rattle.std.proofs.Common.{eq-eqb, ne_eqb}
 use Rattle.device.specs.Layout.{state_of}
 use Rattle.device.proofs.layout.state_of.Goals as goal
 

@@ -1,7 +1,5 @@
 -- `read_back::put_signature` meets its contract.
-use mathlib.Core.Path.{◌≡◌}
-use lib.ListN.{length}
-use borrow.Author.Rules.{rules}
+use Rattle.std.proofs.Common.{◌≡◌, length, rules}
 use Rattle.device.proofs.ReadBackCalls.{none_given, some_given}
 use Rattle.device.proofs.read_back.put_signature.Goals as goal
 

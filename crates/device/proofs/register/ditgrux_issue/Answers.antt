@@ -1,10 +1,13 @@
--- `register::ditgrux_issue` meets its contract.
+use Rattle.std.proofs.Common.{◌∙◌}
 use Rattle.device.specs.Calls.{slices_with, call_with}
 use Rattle.device.proofs.CallAnswers.{details_plain, issue_is}
 use Rattle.device.proofs.register.ditgrux_issue.Goals as goal
 
 pub returns : goal.returns
 returns c =
-    let k = call_with c.args.number c.args.year c.args.month c.args.day c.args.hour c.args.minute c.args.second c.args.standard c.args.reduced_1 c.args.reduced_2 c.args.zero c.args.special c.args.kind c.args.signature.now in
-    let d = details_plain c.args.number c.args.year c.args.month c.args.day c.args.hour c.args.minute c.args.second c.args.kind c.ranges.standard c.ranges.reduced_1 c.ranges.reduced_2 c.ranges.zero c.ranges.special c.details_of-d.ensures in
-    issue_is (slices_with c.args.state.now c.args.journal.now) k c.state_of-st.ensures d c.issue-answer.ensures c.keep.ensures
+    let a = c.args in
+    let r = c.ranges in
+    let k = call_with a.number a.year a.month a.day a.hour a.minute a.second a.standard a.reduced_1 a.reduced_2 a.zero a.special a.kind a.signature.now in
+    let d = details_plain a.number a.year a.month a.day a.hour a.minute a.second a.kind r.standard r.reduced_1 r.reduced_2 r.zero r.special c.details_of-d.ensures in
+    let p = issue_is (slices_with a.state.now a.journal.now) k c.state_of-st.ensures d c.issue.ensures c.keep_after.ensures.1 in
+    (c.keep_after.ensures.0 ∙ p.0, p.1, p.2)

@@ -1,7 +1,7 @@
 -- `register::ditgrux_last_number` meets its contract.
-use mathlib.Core.Path.{ap}
+use Rattle.std.proofs.Common.{ap}
 use Rattle.journal.specs.declared.state.State.{State}
 use Rattle.device.proofs.register.ditgrux_last_number.Goals as goal
 
 pub returns : goal.returns
-returns c = ap (λ (x : State). x.last) c.state_of-st.ensures
+returns c = ap (λ (x : State). x.last) c.state_of.ensures

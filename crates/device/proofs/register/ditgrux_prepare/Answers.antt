@@ -1,8 +1,11 @@
--- `register::ditgrux_prepare` meets its contract.
+use Rattle.std.proofs.Common.{◌∙◌}
 use Rattle.device.proofs.CallAnswers.{details_plain, prepare_is}
 use Rattle.device.proofs.register.ditgrux_prepare.Goals as goal
 
 pub returns : goal.returns
 returns c =
-    let d = details_plain c.args.number c.args.year c.args.month c.args.day c.args.hour c.args.minute c.args.second c.args.kind c.ranges.standard c.ranges.reduced_1 c.ranges.reduced_2 c.ranges.zero c.ranges.special c.details_of-d.ensures in
-    prepare_is c.args.state.now c.args.output.now c.state_of-st.ensures d c.prepare-answer.ensures
+    let a = c.args in
+    let r = c.ranges in
+    let d = details_plain a.number a.year a.month a.day a.hour a.minute a.second a.kind r.standard r.reduced_1 r.reduced_2 r.zero r.special c.details_of-d.ensures in
+    let p = prepare_is a.state.now a.output.now c.state_of.ensures d c.prepare.ensures in
+    (c.tell.ensures.0 ∙ p.0, p.1, c.tell.ensures.1 ∙ p.2)

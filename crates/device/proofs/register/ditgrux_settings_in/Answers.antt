@@ -1,15 +1,12 @@
 -- `register::ditgrux_settings_in` meets its contract.
-use mathlib.Core.Path.{◌≡◌}
-use lib.ListN.{length}
+use Rattle.std.proofs.Common.{◌≡◌, length, rules}
 use Rattle.device.specs.Layout.{state_of}
 use Rattle.device.proofs.Slots.{state_long}
 use Rattle.device.proofs.CallAnswers.{settings_in_none, settings_in_done}
-use borrow.Author.Rules.{rules}
 use Rattle.device.proofs.register.ditgrux_settings_in.Goals as goal
 
 pub returns-then-settings-ne-SETTINGS : goal.returns-then-settings-ne-SETTINGS
-returns-then-settings-ne-SETTINGS c =
-    settings_in_none (state_of c.args.state.now) c.args.which c.args.settings.now c.if-settings-ne-SETTINGS.true
+returns-then-settings-ne-SETTINGS c = rw c.number.ensures (settings_in_none (state_of c.args.state.now) c.args.which c.args.settings.now c.if-settings-ne-SETTINGS.true)
 
 pub returns : goal.returns
 returns c =

@@ -1,6 +1,5 @@
--- `text::ditgrux_unline` meets its contract.
 use Rattle.device.proofs.TextAnswers.{parts_of}
 use Rattle.device.proofs.text.ditgrux_unline.Goals as goal
 
 pub returns : goal.returns
-returns c = parts_of c.unline-answer.ensures
+returns c = parts_of (c.unline.ensures) c.tell.ensures

@@ -1,19 +1,10 @@
+use Rattle.std.proofs.lemmas.Bool.{not-true, not-false}
 use Rattle.std.proofs.Common.{ap, not}
-use borrow.Author.Tests.{not-true, not-false}
-use Rattle.exports.proofs.Quads.{quads_start, quads_end, quads_falls, quads_bad, quads_last, quads_more}
+use Rattle.exports.proofs.Quads.{quads_end, quads_falls, quads_bad, quads_last, quads_more}
 use Rattle.exports.proofs.certificates.canonical_at.Goals as goal
-
-pub quad_at-q-requires : goal.quad_at-q-requires
-quad_at-q-requires c = c.requires
-
-pub loop-q-init : goal.loop-q-init
-loop-q-init c = quads_start c.quad_at-q.ensures
 
 pub returns-then-not-quad_good : goal.returns-then-not-quad_good
 returns-then-not-quad_good c = quads_bad c.loop-q.invariant c.loop-q-test.true c.quad_good.ensures (not-true _ (ap not c.if-not-quad_good.true))
-
-pub quad_at-q-requires-in-loop-q : goal.quad_at-q-requires-in-loop-q
-quad_at-q-requires-in-loop-q c = c.loop-q.invariant.read.letters
 
 pub returns-then-bytes-eq61 : goal.returns-then-bytes-eq61
 returns-then-bytes-eq61 c = quads_last c.loop-q.invariant c.loop-q-test.true c.quad_good.ensures (not-false _ (ap not c.if-not-quad_good.false)) c.quad_at-q-in-loop-q.ensures c.if-bytes-eq61.true

@@ -1,6 +1,5 @@
 -- `certificates::canonical_at` meets its contract.
-use Prim.Native.Nat.{◌-◌}
-use lib.ListN.{length}
+use Rattle.std.proofs.Common.{◌-◌, length}
 use Rattle.exports.proofs.Quads.{Quads}
 use Rattle.exports.proofs.certificates.canonical_at.Given as goal
 

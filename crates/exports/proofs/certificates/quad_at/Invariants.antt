@@ -1,10 +1,5 @@
--- `certificates::quad_at` meets its contract.
-use Prim.Native.Nat.{◌-◌}
 use Rattle.exports.proofs.Quads.{Filling}
 use Rattle.exports.proofs.certificates.quad_at.Given as goal
 
 abbrev pub invariant-loop-i : goal.invariant-loop-i
 invariant-loop-i l = Filling l.text l.at l.bytes l.next l.i
-
-abbrev pub decreases-loop-i : goal.decreases-loop-i
-decreases-loop-i l = 4 - l.i

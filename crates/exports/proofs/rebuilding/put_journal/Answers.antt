@@ -1,40 +1,24 @@
-use mathlib.Core.Path.{◌∙◌}
-use native.Mathlib.Omega.{arith}
-use Rattle.exports.proofs.Carrying.{pairs_start, pairs_next, pairs_fall, journal_put, journal_refused}
+-- `rebuilding::put_journal` meets its contract.
+use Rattle.std.proofs.Common.{◌≡◌, ◌∙◌, length, arith, ap, rules}
+use Rattle.primitives.specs.Place.{overwrite}
+use Rattle.exports.specs.Reading.{journal_of_elements}
+use Rattle.exports.specs.Output.{Out}
+use Rattle.exports.proofs.Carrying.{pairs_start, pairs_next, journal_put, journal_missing}
 use Rattle.exports.proofs.rebuilding.put_journal.Goals as goal
 
-pub put_owner-p-requires : goal.put_owner-p-requires
-put_owner-p-requires c = c.requires
-
 pub loop-c-init : goal.loop-c-init
-loop-c-init c = pairs_start c.put_owner-p.ensures c.group_place.ensures c.begin-c.ensures
+loop-c-init c = pairs_start c.begin_group-c.ensures
 
-pub receipts_place-at-requires : goal.receipts_place-at-requires
-receipts_place-at-requires c = c.loop-c.invariant.carry.inside
-
-pub put_pair-w-requires : goal.put_pair-w-requires
-put_pair-w-requires c = c.receipts_place-at.ensures.inside
-
-pub element_end-e-requires : goal.element_end-e-requires
-element_end-e-requires c = c.put_pair-w.ensures.inside
-
-pub shape_of-out-then-e-c : goal.shape_of-out-then-e-c
-shape_of-out-then-e-c c = c.put_pair-w.ensures.long ∙ c.loop-c.invariant.long ∙ c.put_owner-p.ensures.long
-
-pub returns-then-e-c : goal.returns-then-e-c
-returns-then-e-c c = λ es s o. journal_refused c.loop-c.invariant c.loop-c-test.true c.receipts_place-at.ensures c.put_pair-w.ensures c.element_end-e.ensures c.if-e-c.true es s
-
-pub follow-c-requires : goal.follow-c-requires
-follow-c-requires c = c.element_end-e.ensures.inside
-
-pub loop-c-smaller : goal.loop-c-smaller
-loop-c-smaller c = pairs_fall c.loop-c.invariant c.loop-c-test.true c.receipts_place-at.ensures c.put_pair-w.ensures c.element_end-e.ensures (omega (arith, c.if-e-c.false)) c.follow-c.ensures
+pub returns-in_default-put_element : goal.returns-in_default-put_element
+returns-in_default-put_element c es s o l = journal_missing c.loop-c.invariant c.in-Item.is c.in_default-put_element.ensures es s
 
 pub loop-c-preserved : goal.loop-c-preserved
-loop-c-preserved c = pairs_next c.loop-c.invariant c.loop-c-test.true c.receipts_place-at.ensures c.put_pair-w.ensures c.element_end-e.ensures (omega (arith, c.if-e-c.false)) c.follow-c.ensures
-
-pub shape_of-out : goal.shape_of-out
-shape_of-out c = c.loop-c.invariant.long ∙ c.put_owner-p.ensures.long
+loop-c-preserved c = pairs_next c.loop-c.invariant c.in-Item.is c.in-Some.ensures _ c.follow-c.ensures
 
 pub returns : goal.returns
-returns c = journal_put c.loop-c.invariant c.put_owner-p.ensures c.loop-c-test.false
+returns c es s o l =
+    let e = c.new-w.ensures in
+    let h : c.loop-c.w.out.now ≡ overwrite c.args.out.now 0 (journal_of_elements es)
+    = journal_put c.loop-c.invariant (ap (λ (x : Out). x.at) e) c.put_owner.ensures c.in_default.not-Item es s o (omega (arith, l, ap (λ (x : Out). length x.bytes) e))
+    ∙ ap (λ (x : Out). overwrite x.bytes 0 (journal_of_elements es)) e in
+    search rules

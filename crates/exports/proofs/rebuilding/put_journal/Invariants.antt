@@ -1,10 +1,10 @@
--- `rebuilding::put_journal` meets its contract.
+use Rattle.exports.specs.Output.{written_out}
 use Rattle.exports.proofs.Arrays.{remains}
 use Rattle.exports.proofs.Carrying.{Pairing}
 use Rattle.exports.proofs.rebuilding.put_journal.Given as goal
 
 abbrev pub invariant-loop-c : goal.invariant-loop-c
-invariant-loop-c l = Pairing l.initial.out l.initial.p l.text l.out l.p l.c
+invariant-loop-c l = Pairing (written_out l.initial.w) l.text (written_out l.w) l.c
 
 abbrev pub decreases-loop-c : goal.decreases-loop-c
 decreases-loop-c l = remains l.text l.c

@@ -1,18 +1,13 @@
 -- `shape::member_key` meets its contract.
-use Rattle.exports.proofs.Members.{key_no_mark, key_of_none, key_of_member}
+use Rattle.std.proofs.Common.{rules}
+use Rattle.exports.proofs.Members.{key_no_mark, key_no_name, key_of_group}
 use Rattle.exports.proofs.shape.member_key.Goals as goal
 
-pub expect-p-requires : goal.expect-p-requires
-expect-p-requires c = c.requires
+pub returns-in_err-expect : goal.returns-in_err-expect
+returns-in_err-expect c = rw c.from_residual.ensures (key_no_mark c.in_err-expect.ensures)
 
-pub returns-then-p-eq0 : goal.returns-then-p-eq0
-returns-then-p-eq0 c = key_no_mark (rw c.if-p-eq0.true at c.expect-p.ensures)
+pub returns-in_err-key : goal.returns-in_err-key
+returns-in_err-key c = rw c.from_residual-in_err-key.ensures (key_no_name c.in_ok-expect.ensures c.in_err-key.ensures)
 
-pub key_at-k-requires : goal.key_at-k-requires
-key_at-k-requires c = c.expect-p.ensures.inside
-
-pub returns-then-k-gt3 : goal.returns-then-k-gt3
-returns-then-k-gt3 c = key_of_none c.expect-p.ensures c.if-p-eq0.false c.key_at-k.ensures c.if-k-gt3.true
-
-pub returns : goal.returns
-returns c = key_of_member c.expect-p.ensures c.if-p-eq0.false c.key_at-k.ensures c.if-k-gt3.false
+pub returns-then-eq : goal.returns-then-eq
+returns-then-eq c = let e = c.eq.ensures in key_of_group c.in_ok-expect.ensures c.in_ok-key.ensures (search rules)

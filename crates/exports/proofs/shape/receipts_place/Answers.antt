@@ -1,33 +1,23 @@
-use borrow.Author.Rules.{rules}
-use Rattle.exports.specs.Text.{is_mark}
-use Rattle.exports.proofs.Closings.{seek_start, seek_none, seek_no_value, seek_falls, seek_more, seek_found}
+-- `shape::receipts_place` meets its contract.
+use Rattle.std.proofs.Common.{rules}
+use Rattle.exports.proofs.Objects.{element_no_1}
+use Rattle.exports.proofs.Closings.{seek_start, seek_found, seek_no_value, seek_no_member, seek_more}
 use Rattle.exports.proofs.shape.receipts_place.Goals as goal
 
-pub member_key-k-requires : goal.member_key-k-requires
-unfolding is_mark
-member_key-k-requires c = search rules
+pub returns-in_err-key : goal.returns-in_err-key
+returns-in_err-key c = rw c.from_residual.ensures (element_no_1 c.in_err-key.ensures)
 
-pub loop-k-init : goal.loop-k-init
-loop-k-init c = seek_start c.member_key-k.ensures
+pub loop-key-init : goal.loop-key-init
+loop-key-init c = seek_start c.in_ok-key.ensures
 
-pub returns-then-k-eq0 : goal.returns-then-k-eq0
-returns-then-k-eq0 c = seek_none c.loop-k.invariant c.if-k-eq0.true
+pub returns-in_err-end : goal.returns-in_err-end
+returns-in_err-end c = rw c.from_residual-in_err-end.ensures (seek_no_value c.loop-key.invariant c.in_err-end.ensures)
 
-pub value_end-e-requires : goal.value_end-e-requires
-value_end-e-requires c = c.loop-k.invariant.inside
+pub returns-in_err-key-2 : goal.returns-in_err-key-2
+returns-in_err-key-2 c = rw c.from_residual-in_err-key-2.ensures (seek_no_member c.loop-key.invariant c.in_ok-end.ensures (search rules) c.in_err-key-2.ensures)
 
-pub returns-then-e-eq0 : goal.returns-then-e-eq0
-returns-then-e-eq0 c = seek_no_value c.loop-k.invariant c.value_end-e.ensures c.if-e-eq0.true
-
-pub member_key-k-requires-in-loop-k : goal.member_key-k-requires-in-loop-k
-unfolding is_mark
-member_key-k-requires-in-loop-k c = (c.value_end-e.ensures.inside, search rules)
-
-pub loop-k-smaller : goal.loop-k-smaller
-loop-k-smaller c = seek_falls c.loop-k.invariant c.value_end-e.ensures c.if-e-eq0.false c.member_key-k-in-loop-k.ensures c.if-k-eq0.false
-
-pub loop-k-preserved : goal.loop-k-preserved
-loop-k-preserved c = seek_more c.loop-k.invariant c.value_end-e.ensures c.if-e-eq0.false c.member_key-k-in-loop-k.ensures c.loop-k-test.true
+pub loop-key-preserved : goal.loop-key-preserved
+loop-key-preserved c = seek_more c.loop-key.invariant c.in_ok-end.ensures (search rules) c.in_ok-key-2.ensures
 
 pub returns : goal.returns
-returns c = seek_found c.loop-k.invariant c.loop-k-test.false
+returns c = seek_found c.loop-key.invariant (search rules)

@@ -1,9 +1,10 @@
 -- `shape::receipts_place` meets its contract.
-use Rattle.exports.proofs.Closings.{Seeking, remains}
+use Rattle.std.proofs.Common.{◌-◌, length}
+use Rattle.exports.proofs.Closings.{Seeking}
 use Rattle.exports.proofs.shape.receipts_place.Given as goal
 
-abbrev pub invariant-loop-k : goal.invariant-loop-k
-invariant-loop-k l = Seeking l.text l.at l.k
+abbrev pub invariant-loop-key : goal.invariant-loop-key
+invariant-loop-key l = Seeking l.text l.at l.key
 
-abbrev pub decreases-loop-k : goal.decreases-loop-k
-decreases-loop-k l = remains l.text l.k
+abbrev pub decreases-loop-key : goal.decreases-loop-key
+decreases-loop-key l = length l.text - l.key.next

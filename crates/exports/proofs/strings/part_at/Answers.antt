@@ -1,9 +1,6 @@
 -- `strings::part_at` meets its contract.
-use Rattle.exports.proofs.Passing.{no_part_lem, part_found}
+use Rattle.exports.proofs.Tokening.{read_no_word}
 use Rattle.exports.proofs.strings.part_at.Goals as goal
 
-pub returns-then-t-ne34 : goal.returns-then-t-ne34
-returns-then-t-ne34 c = no_part_lem c.next-t.ensures c.no_part.ensures c.if-t-ne34.true
-
-pub returns : goal.returns
-returns c = part_found c.next-t.ensures c.if-t-ne34.false
+pub returns-in_default : goal.returns-in_default
+returns-in_default c = read_no_word _ _ _ c.next.ensures c.in_default.not-Quoted

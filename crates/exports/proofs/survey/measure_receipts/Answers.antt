@@ -1,29 +1,19 @@
-use native.Mathlib.Omega.{arith}
-use Rattle.exports.specs.Shape.{string}
-use Rattle.exports.proofs.Passing.{pass_falls}
-use Rattle.exports.proofs.Surveying.{measure_start, measure_refused, measure_more, measure_end}
+-- `survey::measure_receipts` meets its contract.
+use Rattle.exports.proofs.Surveying.{and_then, and_else, measure_start, measure_more, measure_end}
 use Rattle.exports.proofs.survey.measure_receipts.Goals as goal
+use Rattle.exports.proofs.survey.measure_receipts.Goals.{then-short, else-short}
 
 pub loop-c-init : goal.loop-c-init
-loop-c-init c = measure_start _ c.moved-end.ensures c.begin-c.ensures
-
-pub part_at-s-requires : goal.part_at-s-requires
-part_at-s-requires c = c.loop-c.invariant.pass.inside
-
-pub returns-then-next-eq0 : goal.returns-then-next-eq0
-returns-then-next-eq0 c = measure_refused c.loop-c.invariant c.loop-c-test.true c.part_at-s.ensures _ _ c.if-next-eq0.true
-
-pub overflow_add-count : goal.overflow_add-count
-overflow_add-count c = omega (arith, c.loop-c.invariant.small c.loop-c-test.true, c.loop-c.invariant.pass.inside)
-
-pub follow-c-requires : goal.follow-c-requires
-follow-c-requires c = c.part_at-s.ensures.reads.inside
-
-pub loop-c-smaller : goal.loop-c-smaller
-loop-c-smaller c = pass_falls string c.loop-c.invariant.pass c.loop-c-test.true c.part_at-s.ensures.reads c.if-next-eq0.false c.follow-c.ensures
+loop-c-init c = measure_start _ _ _ _ c.requires.place c.begin-c.ensures
 
 pub loop-c-preserved : goal.loop-c-preserved
-loop-c-preserved c = measure_more c.loop-c.invariant c.loop-c-test.true c.part_at-s.ensures c.if-next-eq0.false c.both-short.ensures c.moved.ensures c.moved-end-in-loop-c.ensures c.follow-c.ensures
+loop-c-preserved c =
+    measure_more c.loop-c.invariant c.in-Item.is c.in-Some.ensures _
+    (elim c.if-short.branch [ then-short w ↦ and_then w.if-short.true w.short-is | else-short w ↦ and_else _ w.if-short.false w.short-is ])
+    c.moved.ensures c.moved-end.ensures c.follow-c.ensures
 
-pub returns : goal.returns
-returns c = measure_end c.loop-c.invariant _ c.moved-end.ensures c.loop-c-test.false c.both.ensures
+pub returns-then-short-2 : goal.returns-then-short-2
+returns-then-short-2 c = measure_end c.loop-c.invariant c.in_default.not-Item (rw c.if-short-2.true)
+
+pub returns-else-short-2 : goal.returns-else-short-2
+returns-else-short-2 c = measure_end c.loop-c.invariant c.in_default.not-Item (rw c.if-short-2.false)

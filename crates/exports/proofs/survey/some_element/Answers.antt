@@ -1,9 +1,9 @@
 -- `survey::some_element` meets its contract.
-use Rattle.exports.proofs.Surveying.{some_spelled}
+use Rattle.exports.proofs.Surveying.{some_spelled, none_spelled}
 use Rattle.exports.proofs.survey.some_element.Goals as goal
 
-pub begin-c-requires : goal.begin-c-requires
-begin-c-requires c = c.group_place.ensures.inside
+pub returns-in-Item : goal.returns-in-Item
+returns-in-Item c = some_spelled c.begin_group.ensures c.in-Item.is
 
-pub returns : goal.returns
-returns c = some_spelled c.group_place.ensures c.begin-c.ensures
+pub returns-in_default : goal.returns-in_default
+returns-in_default c = none_spelled c.begin_group.ensures c.in_default.not-Item

@@ -1,21 +1,18 @@
-use native.Mathlib.Omega.{arith}
-use Rattle.exports.proofs.Exporting.{elements_start, elements_more, elements_end}
+-- `writing::put_elements` meets its contract.
+use Rattle.exports.proofs.Exporting.{elements_start, elements_ungrouped, elements_unpaired, elements_more, elements_end}
 use Rattle.exports.proofs.writing.put_elements.Goals as goal
 
 pub loop-i-init : goal.loop-i-init
-loop-i-init c = elements_start _ _ _ _ _ _ _ c.moved-end.ensures
+loop-i-init g c = elements_start _ _ _ _ _ _
 
-pub overflow_add-i : goal.overflow_add-i
-overflow_add-i c = record { fits = omega arith }
+pub returns-in_err-group : goal.returns-in_err-group
+returns-in_err-group g c = rw c.from_residual.ensures (elements_ungrouped c.loop-i.invariant c.loop-i-test.true c.in_err-group.ensures)
 
-pub loop-i-smaller : goal.loop-i-smaller
-loop-i-smaller c = omega arith
+pub returns-in_err-pair : goal.returns-in_err-pair
+returns-in_err-pair g c = rw c.from_residual-in_err-pair.ensures (elements_unpaired c.loop-i.invariant c.loop-i-test.true c.in_ok-group.ensures c.in_err-pair.ensures)
 
 pub loop-i-preserved : goal.loop-i-preserved
-loop-i-preserved c = elements_more c.loop-i.invariant c.loop-i-test.true c.put_group-x.ensures c.put_pair-y.ensures
-
-pub shape_of-out : goal.shape_of-out
-shape_of-out c = c.loop-i.invariant.long
+loop-i-preserved g c = elements_more c.loop-i.invariant c.loop-i-test.true c.in_ok-group.ensures c.in_ok-pair.ensures
 
 pub returns : goal.returns
-returns c = elements_end c.loop-i.invariant c.loop-i-test.false c.moved-end.ensures
+returns g c = elements_end c.loop-i.invariant c.loop-i-test.false _

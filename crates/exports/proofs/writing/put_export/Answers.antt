@@ -5,4 +5,4 @@ use Rattle.exports.proofs.writing.put_export.Goals as goal
 
 pub returns : goal.returns
 unfolding opening ending
-returns c = export_put _ _ _ _ _ c.section_end-at.ensures c.put_bytes-a.ensures c.put_elements-b.ensures c.put_bytes.ensures
+returns g c = export_put _ _ _ _ c.in_ok-pairs.ensures c.put.ensures c.in_ok-put_elements.ensures c.put-2.ensures

@@ -3,4 +3,4 @@ use Rattle.exports.proofs.Exporting.{quoted_put}
 use Rattle.exports.proofs.writing.put_string.Goals as goal
 
 pub returns : goal.returns
-returns c = quoted_put c.args.more _ c.put_comma-a.ensures c.put_bytes-b.ensures c.put_text-c.ensures c.put_bytes.ensures
+returns g c = quoted_put c.args.more _ c.put_comma.ensures c.put.ensures c.put-2.ensures c.put-3.ensures

@@ -1,33 +1,31 @@
 -- What is read, then the questions, then the state after the entry.
-use borrow.Author.Rules.{rules}
-use Rattle.journal.proofs.CheckCalls.{above_of, text_unread, text_refused, text_passed}
-use native.Mathlib.Omega.{arith}
-use mathlib.Core.Path.{◌≡◌, sym, ap, ◌∙◌}
-use borrow.Author.Tests.{not-true, not-false}
-use Prim.Native.Nat.{◌^◌, ◌<◌}
+use Rattle.std.proofs.Common.{rules, arith, refl, sym, ap, ◌∙◌, ◌^◌, ◌<◌}
+use Rattle.std.proofs.lemmas.Result.{err_from_is_err_and}
 use Rattle.receipt.specs.Compact.{read_entry}
 use Rattle.receipt.specs.declared.settings.Settings.{Settings}
-use Rattle.journal.specs.State.{settings_now}
+use Rattle.receipt.proofs.Entries.{none_found}
+use Rattle.journal.proofs.CheckCalls.{above_of, text_unread, text_refused, text_passed}
 use Rattle.journal.proofs.checking.check_text.Goals as goal
 
-pub returns-then-not-found : goal.returns-then-not-found
-returns-then-not-found c =
-    let read : let s : _ = c.args in c.read_entry-found.result ≡ read_entry (settings_now s.st) s.st.width s.text.now = c.read_entry-found.ensures ∙ ap (λ (x : Settings). read_entry x c.args.st.width c.args.text.now) c.settings_now-settings.ensures in
-    text_unread _ c.args.st c.args.text.now read (not-true _ c.if-not-found.true) c.stopped.ensures
+pub returns-in_default : goal.returns-in_default
+returns-in_default c =
+    let read = c.in_default.ensures ∙ ap (λ (x : Settings). read_entry x c.args.st.width c.args.text.now) c.settings_now.ensures in
+    text_unread _ c.args.st c.args.text.now read none_found
 
-pub returns-then-number-ne0 : goal.returns-then-number-ne0
-returns-then-number-ne0 c =
-    let read : let s : _ = c.args in c.read_entry-found.result ≡ read_entry (settings_now s.st) s.st.width s.text.now = c.read_entry-found.ensures ∙ ap (λ (x : Settings). read_entry x c.args.st.width c.args.text.now) c.settings_now-settings.ensures in
-    text_refused _ c.args.st c.args.text.now read (not-false _ c.if-not-found.false) c.context_number-number.ensures c.if-number-ne0.true c.stopped-then-number-ne0.ensures
+pub returns-in_err-ask_context : goal.returns-in_err-ask_context
+returns-in_err-ask_context c =
+    let read = c.in-Some.ensures ∙ ap (λ (x : Settings). read_entry x c.args.st.width c.args.text.now) c.settings_now.ensures in
+    let p = err_from_is_err_and c.from_residual.result c.from_residual.ensures.1 in
+    rw (p.1, p.2) (text_refused _ c.args.st c.args.text.now read refl c.in_err-ask_context.field-0.0 c.in_err-ask_context.ensures)
 
 pub next-state-requires : goal.next-state-requires
 next-state-requires c =
-    let small : c.read_entry-found.result.entry.fields.details.number < 2 ^ 32 = search rules in
-    let a = above_of _ c.args.st c.read_entry-found.result.entry.fields (sym c.context_number-number.ensures ∙ c.if-number-ne0.false) in
+    let small : c.in-Some.entry.fields.details.number < 2 ^ 32 = search rules in
+    let a = above_of _ c.args.st c.in-Some.entry.fields (sym c.in_ok-ask_context.ensures) in
     let n = small in
     (omega (arith, a, c.requires.0, n), omega (arith, a, c.requires.0, c.requires.1, n), c.requires.2)
 
 pub returns : goal.returns
 returns c =
-    let read : let s : _ = c.args in c.read_entry-found.result ≡ read_entry (settings_now s.st) s.st.width s.text.now = c.read_entry-found.ensures ∙ ap (λ (x : Settings). read_entry x c.args.st.width c.args.text.now) c.settings_now-settings.ensures in
-    text_passed _ c.args.st c.args.text.now read (not-false _ c.if-not-found.false) c.context_number-number.ensures c.if-number-ne0.false c.next-state.ensures
+    let read = c.in-Some.ensures ∙ ap (λ (x : Settings). read_entry x c.args.st.width c.args.text.now) c.settings_now.ensures in
+    text_passed _ c.args.st c.args.text.now read refl c.in_ok-ask_context.ensures c.next-state.ensures

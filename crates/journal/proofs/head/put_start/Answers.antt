@@ -1,15 +1,12 @@
 -- The section of the serial, then the count.
-use mathlib.Core.Path.{◌≡◌}
-use lib.ListN.{length}
+use Rattle.std.proofs.Common.{◌≡◌, length, rules, arith}
 use Rattle.receipt.specs.declared.settings.Letters.TheVariants.{Serial}
 use Rattle.receipt.proofs.Names.{good_name}
 use Rattle.journal.proofs.OpenCalls.{lent_room, put_start}
-use borrow.Author.Rules.{rules}
-use native.Mathlib.Omega.{arith}
 use Rattle.journal.proofs.head.put_start.Goals as goal
 
-pub slice_bounds-put_section-end : goal.slice_bounds-put_section-end
-slice_bounds-put_section-end c =
+pub shared_ref_as_front-put_section : goal.shared_ref_as_front-put_section
+shared_ref_as_front-put_section c =
     let long : length c.args.serial.bytes ≡ 32 = search rules in
     omega (arith, long, (good_name Serial _ c.requires.0).most)
 

@@ -1,9 +1,6 @@
 -- `issuing::put_entry` meets its contract.
-use Rattle.std.proofs.Common.{ap, not}
+use Rattle.std.proofs.Common.{ap, not, length, ◌+◌, arith}
 use Rattle.journal.proofs.IssueCalls.{moved, compact_some, as_compact, entry_short, entry_full, entry_placed}
-use lib.ListN.{length}
-use Prim.Native.Nat.{◌+◌}
-use native.Mathlib.Omega.{arith}
 use Rattle.primitives.proofs.Questions.{at_most, above}
 use Rattle.journal.proofs.issuing.put_entry.Goals as goal
 
@@ -15,16 +12,16 @@ overflow_add-start c = omega (arith, at_most (c.args.st.length + 2) (length c.ar
 
 pub returns-then-end-start : goal.returns-then-end-start
 returns-then-end-start c =
-    let w = as_compact _ _ _ c.requires c.args.buf.now (c.args.st.length + 2) c.settings_now-settings.ensures c.put_compact-end.ensures in
+    let w = as_compact _ _ _ c.requires c.args.buf.now (c.args.st.length + 2) c.settings_now.ensures c.put_compact-end.ensures in
     entry_full _ c.args.buf.now c.args.st.length (compact_some _ _ _) w c.if-end-start.true
 
 pub overflow_sub-end : goal.overflow_sub-end
 overflow_sub-end c =
-    let w = as_compact _ _ _ c.requires c.args.buf.now (c.args.st.length + 2) c.settings_now-settings.ensures c.put_compact-end.ensures in
+    let w = as_compact _ _ _ c.requires c.args.buf.now (c.args.st.length + 2) c.settings_now.ensures c.put_compact-end.ensures in
     let m = moved _ _ _ w c.if-end-start.false in
     omega (arith, m.end)
 
 pub returns : goal.returns
 returns c =
-    let w = as_compact _ _ _ c.requires c.args.buf.now (c.args.st.length + 2) c.settings_now-settings.ensures c.put_compact-end.ensures in
+    let w = as_compact _ _ _ c.requires c.args.buf.now (c.args.st.length + 2) c.settings_now.ensures c.put_compact-end.ensures in
     entry_placed _ c.args.buf.now c.args.st.length (compact_some _ _ _) w c.if-end-start.false c.put_number.ensures.1

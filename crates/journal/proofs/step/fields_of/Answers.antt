@@ -1,12 +1,12 @@
 -- `step::fields_of` meets its contract.
-use mir.Syntax.{w64}
-use mir.Val.{SFits}
-use mir.ValLaws.{to_z-of_z}
-use Rattle.journal.proofs.IssueCalls.{fields_are}
-use borrow.Author.Rules.{rules}
+use Rattle.std.proofs.lemmas.Int.{to_z-of_z}
+use Rattle.std.proofs.Common.{◌∙◌, rules, w64, SFits}
+use Rattle.journal.proofs.IssueCalls.{counter_kept, fields_are}
 use Rattle.journal.proofs.step.fields_of.Goals as goal
 
 pub returns : goal.returns
 returns c =
-    let f : SFits w64 c.new_counter-after.result.counter = search rules in
-    fields_are c.args.st c.args.d c.new_counter-after.ensures (to_z-of_z w64 c.new_counter-after.result.counter f) c.counter_field-counter.ensures
+    let f : SFits w64 c.args.st.counter = search rules in
+    let g : SFits w64 c.unwrap_or-after.result = search rules in
+    let k = counter_kept c.new_counter.result (to_z-of_z w64 c.args.st.counter f) c.unwrap_or-after.ensures in
+    fields_are c.args.st c.args.d c.new_counter.ensures (to_z-of_z w64 c.unwrap_or-after.result g ∙ k) c.counter_field-counter.ensures

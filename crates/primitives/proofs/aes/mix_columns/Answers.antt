@@ -1,6 +1,10 @@
 -- `mix_columns`: each column by the callee.
-use Rattle.primitives.proofs.Columns.{by_parts}
+use Rattle.std.proofs.Common.{[], arith}
+use Rattle.std.proofs.lemmas.Grind.{common_steps}
+use Rattle.primitives.proofs.Columns.{of_four}
 use Rattle.primitives.proofs.aes.mix_columns.Goals as goal
 
 pub returns : goal.returns
-returns c = by_parts c.mix_column.ensures c.mix_column-2.ensures c.mix_column-3.ensures c.mix_column-4.ensures
+returns c =
+    let m = c.map.ensures.items in
+    of_four c.map.result [] m.long (grind (arith, common_steps)) (grind (arith, common_steps)) (grind (arith, common_steps)) (grind (arith, common_steps))

@@ -1,13 +1,16 @@
 -- `next_word`: the three kinds of a word.
+use Rattle.std.proofs.Common.{arith}
 use Rattle.primitives.proofs.Schedule.{next_eighth, next_fourth, next_other}
 use Rattle.primitives.proofs.aes.next_word.Goals as goal
-
-pub returns-then-m-eq0 : goal.returns-then-m-eq0
-returns-then-m-eq0 c =
-    next_eighth c.args.i _ _ c.if-m-eq0.true c.round_constant-c.ensures c.rot_word.ensures c.sub_column.ensures c.add_column-u.ensures c.add_column.ensures
-
-pub returns-then-m-eq4 : goal.returns-then-m-eq4
-returns-then-m-eq4 c = next_fourth c.args.i _ _ c.if-m-eq0.false c.if-m-eq4.true c.sub_column-then-m-eq4.ensures c.add_column-then-m-eq4.ensures
+use Rattle.primitives.proofs.aes.next_word.Goals.{in-0, in-4, in_default}
 
 pub returns : goal.returns
-returns c = next_other c.args.i _ _ c.if-m-eq0.false c.if-m-eq4.false c.add_column-2.ensures
+returns c =
+    let a = c.args in
+    elim c.match-i-rem8.branch [
+      | in-0 w ↦
+          next_eighth a.i _ a.back w.in-0.is w.round_constant.ensures w.rot_word.ensures w.sub_column.ensures w.add_column-turned.ensures
+          (rw w.turned-is at c.add_column.ensures)
+      | in-4 w ↦ next_fourth a.i _ a.back (omega arith) w.in-4.is w.sub_column-turned.ensures (rw w.turned-is at c.add_column.ensures)
+      | in_default w ↦ next_other a.i _ a.back (omega arith) (omega arith) (rw w.turned-is at c.add_column.ensures)
+    ]

@@ -1,10 +1,7 @@
 -- `rounds`: the state is the one after n rounds.
-use Rattle.std.proofs.Common.{◌≡◌, ◌-◌, ◌≤◌}
+use Rattle.std.proofs.Common.{◌≡◌}
 use Rattle.primitives.specs.Aes.{rounds_of}
 use Rattle.primitives.proofs.aes.rounds.Given as goal
 
 abbrev pub invariant-loop-n : goal.invariant-loop-n
-invariant-loop-n l = (l.n ≤ 13) × (l.s ≡ rounds_of l.w l.initial.s l.n)
-
-abbrev pub decreases-loop-n : goal.decreases-loop-n
-decreases-loop-n l = 13 - l.n
+invariant-loop-n l = l.s ≡ rounds_of l.w l.initial.s l.n

@@ -1,8 +1,9 @@
--- `base32::base32_length` meets its contract.
-use Rattle.primitives.specs.Base32.{encoded_length32}
-use Rattle.std.proofs.Common.{rules}
+-- `base32_length` meets its contract.
+use Rattle.std.proofs.Common.{◌∙◌}
+use Rattle.primitives.specs.Base32.{encoding32}
+use Rattle.primitives.proofs.Base32Laws.{length_encoding32}
 use Rattle.primitives.proofs.base32.base32_length.Goals as goal
 
 pub returns : goal.returns
-unfolding encoded_length32
-returns c = search rules
+unfolding encoding32
+returns c = c.text_length.ensures ∙ length_encoding32 c.args.s.now

@@ -1,23 +1,15 @@
-use Rattle.std.proofs.Common.{ap, not}
-use Rattle.std.proofs.Common.{refl, arith}
-use Rattle.primitives.proofs.Questions.{at_most, above}
-use Rattle.primitives.proofs.Filling.{wrote, wrote_nothing, copy_start, copy_long, copy_one, copy_all}
+-- One byte more is copied.
+use Rattle.std.proofs.Common.{◌≡◌, ℕ, ◌+◌, ◌<◌, ◌≤◌, List, length, get_or, take, set, sym, ap, ◌∙◌, add-one, arith, rules, length-take-le, take-suc}
+use Rattle.primitives.specs.Place.{overwrite}
+use Rattle.primitives.proofs.Over.{over_snoc}
 use Rattle.primitives.proofs.buffer.put.Goals as goal
 
-pub returns-then-not-has_room : goal.returns-then-not-has_room
-returns-then-not-has_room c = wrote_nothing _ _ _ refl (above _ _ c.has_room.ensures (ap not c.if-not-has_room.true))
-
-pub loop-i-init : goal.loop-i-init
-loop-i-init c = copy_start _ _ _ (at_most _ _ c.has_room.ensures (ap not c.if-not-has_room.false))
-
-pub bounds-out-at : goal.bounds-out-at
-bounds-out-at c = omega (arith, copy_long c.loop-i.invariant, c.loop-i.invariant.room)
+copied : (out₀ s out : List ℕ) (at i : ℕ) → at + length s ≤ length out₀ → i < length s → out ≡ overwrite out₀ at (take i s) → set out (at + i) (get_or s i 0) ≡ overwrite out₀ at (take (i + 1) s)
+copied out₀ s out at i fits h e =
+    let taken : length (take i s) ≡ i = length-take-le i s (omega arith) in
+    (λ j. set (e j) (at + sym taken j) (get_or s i 0))
+    ∙ over_snoc out₀ at (take i s) (get_or s i 0) (omega (arith, taken))
+    ∙ ap (overwrite out₀ at) (sym (take-suc s i 0 h) ∙ ap (λ (k : ℕ). take k s) (sym (add-one i)))
 
 pub loop-i-preserved : goal.loop-i-preserved
-loop-i-preserved c = copy_one c.loop-i.invariant c.loop-i-test.true
-
-pub shape_of-out : goal.shape_of-out
-shape_of-out c = copy_long c.loop-i.invariant
-
-pub returns : goal.returns
-returns c = wrote _ _ _ (copy_all c.loop-i.invariant c.loop-i-test.false) refl c.loop-i.invariant.room
+loop-i-preserved c = copied c.args.out.now c.args.s.now c.loop-i.out c.args.at c.loop-i.i (search rules) c.loop-i-test.true c.loop-i.invariant

@@ -11,11 +11,11 @@ returns-then-v-h c = lower_is c.args.n c.args.v c.half_of-h.ensures c.requires.1
 pub overflow_sub-result : goal.overflow_sub-result
 overflow_sub-result c = upper_some c.args.n c.args.v c.half_of-h.ensures c.requires.1.0 c.requires.0 c.if-v-h.false c.requires.1.1
 
-pub overflow_sub-result-3 : goal.overflow_sub-result-3
-overflow_sub-result-3 c = upper_within c.args.n c.args.v c.half_of-h.ensures c.requires.1.0 c.requires.0 c.if-v-h.false c.requires.1.1
+pub overflow_sub-result-else-v-h-2 : goal.overflow_sub-result-else-v-h-2
+overflow_sub-result-else-v-h-2 c = upper_within c.args.n c.args.v c.half_of-h.ensures c.requires.1.0 c.requires.0 c.if-v-h.false c.requires.1.1
 
-pub overflow_cast-result-2 : goal.overflow_cast-result-2
-overflow_cast-result-2 c = upper_fits c.args.n c.args.v c.half_of-h.ensures c.requires.1.0 c.requires.0 c.if-v-h.false c.requires.1.1
+pub overflow_cast-result-else-v-h : goal.overflow_cast-result-else-v-h
+overflow_cast-result-else-v-h c = upper_fits c.args.n c.args.v c.half_of-h.ensures c.requires.1.0 c.requires.0 c.if-v-h.false c.requires.1.1
 
-pub returns : goal.returns
-returns c = upper_is c.args.n c.args.v c.half_of-h.ensures c.requires.1.0 c.requires.0 c.if-v-h.false c.requires.1.1
+pub returns-else-v-h : goal.returns-else-v-h
+returns-else-v-h c = upper_is c.args.n c.args.v c.half_of-h.ensures c.requires.1.0 c.requires.0 c.if-v-h.false c.requires.1.1

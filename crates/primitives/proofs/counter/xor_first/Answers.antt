@@ -1,26 +1,20 @@
-use Rattle.std.proofs.Common.{◌≡◌, ℕ, length, sym, ap, ◌∙◌, arith, rules}
+-- `xor_first` meets its contract, one byte after the other.
+use Rattle.std.proofs.Common.{◌≡◌, ◌≤◌, ℕ, length, min, sym, ap, ◌∙◌, arith, rules}
 use Rattle.primitives.specs.Counter.{xor_first}
-use Rattle.primitives.proofs.Xors.{xor_first_start, xor_first_more, xor_first_all}
+use Rattle.primitives.proofs.Xors.{xor_first_start, xor_first_more, xor_first_min}
 use Rattle.primitives.proofs.counter.xor_first.Goals as goal
 
 pub loop-i-init : goal.loop-i-init
-loop-i-init c = (search rules, sym (xor_first_start _ _))
-
-pub returns-then-n-i : goal.returns-then-n-i
-returns-then-n-i c =
-    let l = c.loop-i in
-    let e : l.i ≡ c.args.n = omega arith in
-    l.invariant.1 ∙ ap (λ (k : ℕ). xor_first k c.args.b c.args.stream) e
+loop-i-init c = sym (xor_first_start _ _)
 
 pub loop-i-preserved : goal.loop-i-preserved
 loop-i-preserved c =
-    let l = c.loop-i in
     let eight : length c.args.b ≡ 8 = search rules in
     let sixteen : length c.args.stream ≡ 16 = search rules in
-    (omega arith, xor_first_more l.i c.args.b c.args.stream l.invariant.1 (omega arith) (omega arith))
+    xor_first_more c.loop-i.i c.args.b c.args.stream c.loop-i.invariant (omega arith) (omega arith)
 
 pub returns : goal.returns
 returns c =
-    let l = c.loop-i in
-    let eight : length c.args.b ≡ 8 = search rules in
-    l.invariant.1 ∙ xor_first_all l.i c.args.n c.args.b c.args.stream (omega arith) (omega arith)
+    let eight : length c.args.b ≤ 8 = search rules in
+    let all : c.loop-i.i ≡ min c.args.n 8 = omega arith in
+    c.loop-i.invariant ∙ ap (λ (k : ℕ). xor_first k c.args.b c.args.stream) all ∙ xor_first_min c.args.n 8 c.args.b c.args.stream eight

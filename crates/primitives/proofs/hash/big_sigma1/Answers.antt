@@ -1,8 +1,6 @@
--- `big_sigma1` meets its contract.
-use Rattle.std.proofs.Common.{rules}
 use Rattle.primitives.specs.Sha256.{Σ₁}
 use Rattle.primitives.proofs.hash.big_sigma1.Goals as goal
 
 pub returns : goal.returns
 unfolding Σ₁
-returns c = search rules
+returns c = cc

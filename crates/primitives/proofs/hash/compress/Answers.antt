@@ -9,4 +9,4 @@ unfolding S.compress
 returns c =
     let s = c.args.s in
     c.sums.ensures
-    ∙ ap (λ (v : HashValue). S.sums v s) (c.rounds.ensures ∙ ap (λ (W : List ℕ). S.rounds s W 0 64) c.schedule-w.ensures)
+    ∙ ap (λ (v : HashValue). S.sums v s) (c.rounds.ensures ∙ ap (λ (W : List ℕ). S.rounds s W 0 64) c.schedule.ensures)

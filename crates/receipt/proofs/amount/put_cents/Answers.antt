@@ -1,5 +1,5 @@
 -- `amount::put_cents` meets its contract.
-use native.Mathlib.Omega.{arith}
+use Rattle.std.proofs.Common.{arith}
 use Rattle.receipt.proofs.Cents.{length_cents, put_cents}
 use Rattle.receipt.proofs.amount.put_cents.Goals as goal
 

@@ -1,10 +1,6 @@
 -- `amounts::read_amounts` meets its contract.
-use Prim.Native.Nat.{◌-◌, ◌≤◌}
 use Rattle.receipt.proofs.Joined.{Taking}
 use Rattle.receipt.proofs.amounts.read_amounts.Given as goal
 
-abbrev pub invariant-loop-i : goal.invariant-loop-i
-invariant-loop-i l = (l.i ≤ 5) × Taking l.text l.at l.a l.p l.i
-
-abbrev pub decreases-loop-i : goal.decreases-loop-i
-decreases-loop-i l = 5 - l.i
+abbrev pub invariant-loop-amount : goal.invariant-loop-amount
+invariant-loop-amount l = Taking l.text l.amount-items l.rest l.amount-index

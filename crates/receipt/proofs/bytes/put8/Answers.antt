@@ -1,5 +1,5 @@
 -- `bytes::put8` meets its contract.
-use mathlib.Core.List.{[], ◌∷◌}
+use Rattle.std.proofs.Common.{[], ◌∷◌}
 use Rattle.primitives.proofs.Over.{over_sets}
 use Rattle.receipt.proofs.bytes.put8.Goals as goal
 

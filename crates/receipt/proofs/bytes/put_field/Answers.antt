@@ -1,6 +1,5 @@
 -- `bytes::put_field` meets its contract.
-use native.Mathlib.Omega.{arith}
-use mathlib.Core.Path.{refl}
+use Rattle.std.proofs.Common.{arith, refl}
 use Rattle.primitives.proofs.Over.{then}
 use Rattle.receipt.proofs.bytes.put_field.Goals as goal
 

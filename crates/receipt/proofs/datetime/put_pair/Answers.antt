@@ -1,10 +1,9 @@
 -- `datetime::put_pair` meets its contract.
-use native.Mathlib.Omega.{arith}
-use mathlib.Core.Path.{refl}
+use Rattle.std.proofs.Common.{arith, refl}
 use Rattle.primitives.proofs.Over.{then}
 use Rattle.receipt.specs.DateTime.{pair}
 use Rattle.receipt.proofs.datetime.put_pair.Goals as goal
 
 pub returns : goal.returns
 unfolding pair
-returns c = then _ _ _ _ _ c.put8.ensures c.put_fixed.ensures refl (omega (arith, c.requires))
+returns c = let digits = rw c.from.ensures at c.put_fixed.ensures in then _ _ _ _ _ c.put8.ensures digits refl (omega arith)

@@ -1,7 +1,5 @@
 -- `decimal::put_decimal` meets its contract.
-use Prim.Native.Nat.{ℕ, ◌+◌}
-use mathlib.Core.Path.{ap}
-use native.Mathlib.Omega.{arith}
+use Rattle.std.proofs.Common.{ℕ, ◌+◌, ap, arith}
 use Rattle.receipt.proofs.Digits.{counted, put_digits}
 use Rattle.receipt.proofs.decimal.put_decimal.Goals as goal
 

@@ -1,19 +1,9 @@
-use borrow.Author.Rules.{rules}
-use native.Mathlib.Omega.{arith}
-use Rattle.receipt.proofs.Digits.{counting_start, counting_more, counting_end}
+-- `decimal::width` meets its contract.
+use Rattle.std.proofs.Common.{◌+◌, ℕ, ap, ◌∙◌, arith}
+use Rattle.receipt.proofs.Digits.{width_from}
 use Rattle.receipt.proofs.decimal.width.Goals as goal
 
-pub loop-v-init : goal.loop-v-init
-loop-v-init c = counting_start _ (search rules)
-
-pub overflow_add-w : goal.overflow_add-w
-overflow_add-w c = omega (arith, c.loop-v.invariant.count)
-
-pub loop-v-smaller : goal.loop-v-smaller
-loop-v-smaller c = omega arith
-
-pub loop-v-preserved : goal.loop-v-preserved
-loop-v-preserved c = counting_more c.loop-v.invariant c.loop-v-test.true
-
 pub returns : goal.returns
-returns c = counting_end c.loop-v.invariant c.loop-v-test.false
+returns c =
+    let log = c.checked_ilog10 in
+    ap (λ (k : ℕ). k + 1) c.unwrap_or.ensures ∙ width_from c.args.n log.result (omega arith) log.ensures.none log.ensures.power_le log.ensures.next_power_gt

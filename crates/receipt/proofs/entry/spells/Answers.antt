@@ -1,21 +1,11 @@
 -- The payload is compared with the text.
-use mathlib.Core.Path.{◌≡◌}
-use borrow.Author.Rules.{rules}
-use lib.ListN.{length}
-use Rattle.receipt.proofs.EntryCalls.{unprepared, is_prepared, payload_is, spells_none, spells_some}
-use Rattle.receipt.specs.Payload.{longest_payload}
+use Rattle.receipt.proofs.EntryCalls.{unprepared, is_prepared, spells_none, spells_some}
 use Rattle.receipt.proofs.entry.spells.Goals as goal
 
-pub returns-then-m-eq0 : goal.returns-then-m-eq0
-returns-then-m-eq0 c =
-    let long : length c.write_payload-m.new.out ≡ longest_payload = search rules in
-    spells_none c.args.s c.args.n c.args.f c.args.text.now
-    (unprepared _ _ _ _ c.write_payload-m.new.out long c.write_payload-m.ensures c.if-m-eq0.true)
+pub returns-in-Some : goal.returns-in-Some
+returns-in-Some c =
+    let p = is_prepared c.args.s c.args.n c.args.f c.in-Some.ensures in
+    spells_some c.args.s c.args.n c.args.f c.args.text.now p.0 p.1 c.eq.ensures
 
-pub returns : goal.returns
-returns c =
-    let long : length c.write_payload-m.new.out ≡ longest_payload = search rules in
-    let l = long in
-    spells_some c.args.s c.args.n c.args.f c.args.text.now
-    (is_prepared _ _ _ _ c.write_payload-m.new.out l c.write_payload-m.ensures c.if-m-eq0.false) (payload_is _ _ _ _ c.write_payload-m.new.out l c.write_payload-m.ensures c.if-m-eq0.false)
-    c.same.ensures
+pub returns-in-None : goal.returns-in-None
+returns-in-None c = spells_none c.args.s c.args.n c.args.f c.args.text.now (unprepared c.args.s c.args.n c.args.f c.in-None.ensures)

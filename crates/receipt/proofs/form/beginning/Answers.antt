@@ -1,5 +1,5 @@
 -- `form::beginning` meets its contract.
-use mathlib.Core.Path.{refl}
+use Rattle.std.proofs.Common.{refl}
 use Rattle.receipt.specs.Texts.{beginning}
 use Rattle.receipt.proofs.form.beginning.Goals as goal
 

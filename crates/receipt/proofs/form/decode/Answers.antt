@@ -1,25 +1,20 @@
 -- What each answer of the reader leaves at the start of the buffer.
-use mathlib.Core.Path.{sym, ◌∙◌}
-use native.Mathlib.Omega.{arith}
+use Rattle.std.proofs.Common.{◌≤◌, length, sym, arith}
+use Rattle.std.proofs.Math.Seq.{length-take-le}
 use Rattle.primitives.specs.Base64.{decoding}
-use Rattle.receipt.proofs.FormCalls.{decoded_upto, decoded_refused, decoded_full}
+use Rattle.receipt.proofs.FormCalls.{decoded_upto, decoded_not}
 use Rattle.receipt.proofs.form.decode.Goals as goal
 
-pub returns-in-Upto : goal.returns-in-Upto
-returns-in-Upto c =
-    decoded_upto (decoding c.args.alphabet c.args.text.now) c.args.out.now
-    (sym c.in-Upto.is ∙ c.base64_decode.ensures.0) c.base64_decode.ensures.1
+pub returns-in_err-n : goal.returns-in_err-n
+returns-in_err-n c =
+    rw c.from_residual.ensures
+    (decoded_not (decoding c.args.alphabet c.args.text.now) c.args.buffer.now c.base64_decode.ensures.0 c.ok.ensures.value c.in_err-n.was)
 
-pub returns-in-Refused : goal.returns-in-Refused
-returns-in-Refused c = (
-  omega arith,
-  decoded_refused (decoding c.args.alphabet c.args.text.now) c.args.out.now
-      (sym c.in-Refused.is ∙ c.base64_decode.ensures.0),
-)
+pub slice_bounds-result-end : goal.slice_bounds-result-end
+slice_bounds-result-end c =
+    let h : c.in_ok-n.n ≤ length c.args.buffer.now = (decoded_upto (decoding c.args.alphabet c.args.text.now) c.args.buffer.now c.base64_decode.ensures.0 c.ok.ensures.value c.in_ok-n.was c.base64_decode.ensures.1).0 in
+    sym (length-take-le c.in_ok-n.n c.base64_decode.new.out (omega (arith, c.base64_decode.auto.out)))
 
-pub returns-in-NoRoom : goal.returns-in-NoRoom
-returns-in-NoRoom c = (
-  omega arith,
-  decoded_full (decoding c.args.alphabet c.args.text.now) c.args.out.now
-      (sym c.in-NoRoom.is ∙ c.base64_decode.ensures.0),
-)
+pub returns : goal.returns
+returns c =
+    (decoded_upto (decoding c.args.alphabet c.args.text.now) c.args.buffer.now c.base64_decode.ensures.0 c.ok.ensures.value c.in_ok-n.was c.base64_decode.ensures.1).1

@@ -1,5 +1,5 @@
 -- `form::failure_text` meets its contract.
-use mathlib.Core.Path.{refl}
+use Rattle.std.proofs.Common.{refl}
 use Rattle.receipt.specs.Form.{failure_text}
 use Rattle.receipt.proofs.form.failure_text.Goals as goal
 

@@ -1,12 +1,12 @@
--- The length is asked on both sides, then the first four bytes.
-use Rattle.receipt.proofs.CodeTexts.{payload_short, payload_long, payload_mark}
+-- The length is asked, then the first four bytes.
+use Rattle.std.proofs.lemmas.Bool.{lt-leb}
+use Rattle.std.proofs.Common.{◌∙◌}
+use Rattle.receipt.proofs.CodeTexts.{payload_long, payload_begins}
 use Rattle.receipt.proofs.form.payload_good.Goals as goal
 
-pub returns-then-payload-lt4 : goal.returns-then-payload-lt4
-returns-then-payload-lt4 c = payload_short _ c.if-payload-lt4.true
+pub returns-then-payload-le-LONGEST_PAYLOAD : goal.returns-then-payload-le-LONGEST_PAYLOAD
+returns-then-payload-le-LONGEST_PAYLOAD c = payload_begins _ c.if-payload-le-LONGEST_PAYLOAD.true c.beginning.ensures c.starts_with.ensures.value
 
-pub returns-then-payload-gt-LONGEST_PAYLOAD : goal.returns-then-payload-gt-LONGEST_PAYLOAD
-returns-then-payload-gt-LONGEST_PAYLOAD c = payload_long _ c.if-payload-gt-LONGEST_PAYLOAD.true
-
-pub returns : goal.returns
-returns c = payload_mark _ c.if-payload-lt4.false c.if-payload-gt-LONGEST_PAYLOAD.false c.same.ensures c.beginning-begin.ensures
+pub returns-else-payload-le-LONGEST_PAYLOAD : goal.returns-else-payload-le-LONGEST_PAYLOAD
+returns-else-payload-le-LONGEST_PAYLOAD c =
+    lt-leb _ _ c.if-payload-le-LONGEST_PAYLOAD.false ∙ payload_long _ c.if-payload-le-LONGEST_PAYLOAD.false

@@ -1,11 +1,12 @@
 -- What was read is what the definition reads.
-use Rattle.receipt.proofs.CodeCalls.{code_refused, code_accepted}
+use Rattle.receipt.proofs.CodeCalls.{form_signature, code_refused, code_accepted}
 use Rattle.receipt.proofs.machine_code.code.Goals as goal
 
-pub returns-then-not-r : goal.returns-then-not-r
-returns-then-not-r c =
-    code_refused _ _ c.read_form-r.new.payload c.read_form-r.new.signature c.read_form-r.result c.read_form-r.ensures.2 c.if-not-r.true
+pub returns-in_default : goal.returns-in_default
+returns-in_default c = code_refused c.args.form.now c.args.out.now c.in_default.ensures
+
+pub put_code-requires : goal.put_code-requires
+put_code-requires c = form_signature c.args.form.now c.in-Some.ensures
 
 pub returns : goal.returns
-returns c =
-    code_accepted _ _ c.read_form-r.new.payload c.read_form-r.new.signature c.read_form-r.result c.read_form-r.ensures.2 c.if-not-r.false c.put_code.ensures
+returns c = code_accepted c.args.form.now c.args.out.now c.in-Some.ensures c.put_code.ensures

@@ -1,22 +1,19 @@
 -- The signature is read into the buffer, and both parts are asked.
-use Rattle.std.proofs.Common.{ap, not}
-use native.Mathlib.Omega.{arith}
-use Rattle.receipt.proofs.FormCalls.{nothing_read}
-use Rattle.receipt.proofs.CodeCalls.{code_none, code_bad, code_read}
+use Rattle.std.proofs.Common.{◌∙◌, rules}
+use Rattle.receipt.specs.Form.{good_parts}
+use Rattle.receipt.proofs.CodeCalls.{code_parts, code_none}
 use Rattle.receipt.proofs.machine_code.read_code.Goals as goal
 
-pub returns-then-code-n : goal.returns-then-code-n
-returns-then-code-n c =
-    nothing_read _ _ _ c.nothing.ensures (code_none _ (omega (arith, c.last_at-n.ensures, c.if-code-n.true)))
+pub returns-in_err-payload : goal.returns-in_err-payload
+returns-in_err-payload c = rw c.from_residual.ensures (code_none c.args.code.now c.in_err-payload.ensures)
 
-pub returns-then-not-payload_good : goal.returns-then-not-payload_good
-returns-then-not-payload_good c =
-    nothing_read _ _ _ c.nothing-then-not-payload_good.ensures
-    (code_bad c.args.code.now c.args.signature.now _ _ _ c.requires c.last_at-n.ensures c.if-code-n.false
-    c.decode-m.ensures c.payload_good.ensures (ap not c.if-not-payload_good.true))
+pub returns-in_err-signature : goal.returns-in_err-signature
+unfolding good_parts
+returns-in_err-signature c =
+    rw c.from_residual-in_err-signature.ensures
+    (code_parts _ _ _ c.in_ok-payload.ensures.0 c.in_ok-payload.ensures.1 c.in_ok-payload.ensures.2 (search rules) c.in_err-signature.ensures)
 
 pub returns : goal.returns
 returns c =
-    code_read c.args.code.now c.args.signature.now _ _ _ c.requires c.last_at-n.ensures c.if-code-n.false
-    c.decode-m.ensures c.payload_good.ensures
-    (ap not c.if-not-payload_good.false) c.signature_good.ensures
+    c.good.ensures
+    ∙ code_parts _ _ _ c.in_ok-payload.ensures.0 c.in_ok-payload.ensures.1 c.in_ok-payload.ensures.2 (search rules) c.in_ok-signature.ensures

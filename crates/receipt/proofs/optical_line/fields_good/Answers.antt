@@ -1,80 +1,50 @@
 -- The questions in their row.
-use Rattle.std.proofs.Common.{ap, not}
-use Prim.Native.Nat.{zero-le}
-use Rattle.receipt.proofs.LineCalls.{Places, places, ends_in, not_nine, not_started, fits₁, fits₂, fits₃, fits₄, too_long, then_signature}
+use Rattle.std.proofs.lemmas.Bool.{lt-leb}
+use Rattle.std.proofs.Common.{◌≡◌, ◌+◌, length, true, sym, ap, ◌∙◌, not, arith}
+use Rattle.primitives.proofs.Questions.{yes, no}
+use Rattle.receipt.specs.Form.{payload_good}
+use Rattle.receipt.specs.Line.{count_of, payload_in}
+use Rattle.receipt.specs.LineReading.{as_fields}
+use Rattle.receipt.specs.declared.optical_line.Spelling.TheVariants.{Base64}
+use Rattle.receipt.proofs.CodeTexts.{payload_most}
+use Rattle.receipt.proofs.Lines.{payload_length}
+use Rattle.receipt.proofs.LineCalls.{not_nine, not_whole, not_started, too_long, then_signature}
+use Rattle.receipt.proofs.Worded.{count_is}
 use Rattle.receipt.proofs.optical_line.fields_good.Goals as goal
+use Rattle.receipt.proofs.optical_line.fields_good.Goals.{then-count_of-ne-START_MARKS-via-then-count_of-ne-START_MARKS, then-count_of-ne-START_MARKS-via-else-count_of-ne-START_MARKS+then-count_of-ne0, then-count_of-ne-START_MARKS-via-else-count_of-ne-START_MARKS+else-count_of-ne0+then-not-payload_good}
 
-pub slice_bounds-start-count : goal.slice_bounds-start-count
-slice_bounds-start-count c = zero-le
+pub returns-then-count_of-ne-START_MARKS : goal.returns-then-count_of-ne-START_MARKS
+returns-then-count_of-ne-START_MARKS c =
+    let nine : c.count_of.result ≡ count_of 95 c.args.f.start.now = c.count_of.ensures ∙ count_is 95 c.args.f.start.now in
+    elim c.then-count_of-ne-START_MARKS.branch [
+      | then-count_of-ne-START_MARKS-via-then-count_of-ne-START_MARKS w ↦ not_nine (as_fields c.args.f) (λ e. w.if-count_of-ne-START_MARKS.true (nine ∙ e))
+      | then-count_of-ne-START_MARKS-via-else-count_of-ne-START_MARKS+then-count_of-ne0 w ↦
+          not_whole (as_fields c.args.f) (λ e. w.if-count_of-ne0.true (w.count_of-else-count_of-ne-START_MARKS.ensures ∙ count_is 95 c.args.f.serial.now ∙ e))
+      | then-count_of-ne-START_MARKS-via-else-count_of-ne-START_MARKS+else-count_of-ne0+then-not-payload_good w ↦
+          not_started (as_fields c.args.f) (sym nine ∙ w.if-count_of-ne-START_MARKS.false)
+          (sym (count_is 95 c.args.f.serial.now) ∙ sym w.count_of-else-count_of-ne-START_MARKS.ensures ∙ w.if-count_of-ne0.false)
+          (no w.payload_good.ensures (ap not w.if-not-payload_good.true))
+    ]
 
-pub slice_bounds-start-start : goal.slice_bounds-start-start
-slice_bounds-start-start c = zero-le
+pub overflow_add-f-4 : goal.overflow_add-f-4
+overflow_add-f-4 c =
+    let started : payload_good c.args.f.start.now ≡ true = yes c.payload_good.ensures (ap not c.if-not-payload_good.false) in
+    omega (arith, payload_most c.args.f.start.now started, c.base64_length-tenth.ensures, c.base64_length-twelfth.ensures, c.requires.0, c.requires.1)
 
-pub slice_bounds-start-end : goal.slice_bounds-start-end
-slice_bounds-start-end c =
-    let at : Places c.args.m c.args.text.now = places c.args.text.now c.requires.0 c.well_formed.0.0 in
-    at.counter
+pub returns-then-f-tenth-le-LONGEST_PAYLOAD : goal.returns-then-f-tenth-le-LONGEST_PAYLOAD
+returns-then-f-tenth-le-LONGEST_PAYLOAD c =
+    let nine : count_of 95 c.args.f.start.now ≡ 9 = sym (count_is 95 c.args.f.start.now) ∙ sym c.count_of.ensures ∙ c.if-count_of-ne-START_MARKS.false in
+    let none : count_of 95 c.args.f.serial.now ≡ 0 = sym (count_is 95 c.args.f.serial.now) ∙ sym c.count_of-else-count_of-ne-START_MARKS.ensures ∙ c.if-count_of-ne0.false in
+    let started : payload_good c.args.f.start.now ≡ true = yes c.payload_good.ensures (ap not c.if-not-payload_good.false) in
+    let long : length c.args.f.start.now + c.base64_length-tenth.result + c.base64_length-twelfth.result + 3 + length c.args.f.serial.now ≡ length (payload_in Base64 (as_fields c.args.f)) =
+    omega (arith, payload_length (as_fields c.args.f), c.base64_length-tenth.ensures, c.base64_length-twelfth.ensures) in
+    c.signature_good.ensures ∙ then_signature (as_fields c.args.f) nine none started long c.if-f-tenth-le-LONGEST_PAYLOAD.true
 
-pub returns-then-count_of-ne9 : goal.returns-then-count_of-ne9
-returns-then-count_of-ne9 c =
-    not_nine c.args.text.now c.args.e c.args.bytes.now c.requires.0 c.count_of.ensures c.if-count_of-ne9.true
-
-pub returns-then-not-payload_good : goal.returns-then-not-payload_good
-returns-then-not-payload_good c =
-    not_started c.args.text.now c.args.e c.args.bytes.now c.requires.0 c.count_of.ensures c.if-count_of-ne9.false c.payload_good.ensures (ap not c.if-not-payload_good.true)
-
-pub slice_bounds-base64_length-count : goal.slice_bounds-base64_length-count
-slice_bounds-base64_length-count c = zero-le
-
-pub slice_bounds-base64_length-start : goal.slice_bounds-base64_length-start
-slice_bounds-base64_length-start c = zero-le
-
-pub slice_bounds-base64_length-end : goal.slice_bounds-base64_length-end
-slice_bounds-base64_length-end c = (ends_in c.requires.1).0
-
-pub slice_bounds-base64_length-count-2 : goal.slice_bounds-base64_length-count-2
-slice_bounds-base64_length-count-2 c = c.requires.1.counter
-
-pub slice_bounds-base64_length-start-2 : goal.slice_bounds-base64_length-start-2
-slice_bounds-base64_length-start-2 c = c.requires.1.counter
-
-pub slice_bounds-base64_length-end-2 : goal.slice_bounds-base64_length-end-2
-slice_bounds-base64_length-end-2 c = (ends_in c.requires.1).1
-
-pub overflow_add-a : goal.overflow_add-a
-overflow_add-a c =
-    fits₁ c.args.text.now c.args.e c.args.bytes.now c.requires.0 c.count_of.ensures c.if-count_of-ne9.false c.payload_good.ensures (ap not c.if-not-payload_good.false) c.requires.1 c.requires.2 c.well_formed.0.1 c.base64_length-tenth.ensures c.base64_length-twelfth.ensures
-
-pub overflow_sub-m : goal.overflow_sub-m
-overflow_sub-m c =
-    let at : Places c.args.m c.args.text.now = places c.args.text.now c.requires.0 c.well_formed.0.0 in
-    at.ordered
-
-pub overflow_add-a-2 : goal.overflow_add-a-2
-overflow_add-a-2 c =
-    fits₂ c.args.text.now c.args.e c.args.bytes.now c.requires.0 c.count_of.ensures c.if-count_of-ne9.false c.payload_good.ensures (ap not c.if-not-payload_good.false) c.requires.1 c.requires.2 c.well_formed.0.1 c.base64_length-tenth.ensures c.base64_length-twelfth.ensures
-
-pub overflow_add-a-3 : goal.overflow_add-a-3
-overflow_add-a-3 c =
-    fits₃ c.args.text.now c.args.e c.args.bytes.now c.requires.0 c.count_of.ensures c.if-count_of-ne9.false c.payload_good.ensures (ap not c.if-not-payload_good.false) c.requires.1 c.requires.2 c.well_formed.0.1 c.base64_length-tenth.ensures c.base64_length-twelfth.ensures
-
-pub overflow_add-a-4 : goal.overflow_add-a-4
-overflow_add-a-4 c =
-    fits₄ c.args.text.now c.args.e c.args.bytes.now c.requires.0 c.count_of.ensures c.if-count_of-ne9.false c.payload_good.ensures (ap not c.if-not-payload_good.false) c.requires.1 c.requires.2 c.well_formed.0.1 c.base64_length-tenth.ensures c.base64_length-twelfth.ensures
-
-pub returns-then-a-tenth-gt-LONGEST_PAYLOAD : goal.returns-then-a-tenth-gt-LONGEST_PAYLOAD
-returns-then-a-tenth-gt-LONGEST_PAYLOAD c =
-    too_long c.args.text.now c.args.e c.args.bytes.now c.requires.0 c.count_of.ensures c.if-count_of-ne9.false c.payload_good.ensures (ap not c.if-not-payload_good.false) c.requires.1 c.requires.2 c.well_formed.0.1 c.base64_length-tenth.ensures c.base64_length-twelfth.ensures c.if-a-tenth-gt-LONGEST_PAYLOAD.true
-
-pub slice_bounds-signature_good-count : goal.slice_bounds-signature_good-count
-slice_bounds-signature_good-count c = c.requires.1.chain
-
-pub slice_bounds-signature_good-start : goal.slice_bounds-signature_good-start
-slice_bounds-signature_good-start c = c.requires.1.chain
-
-pub slice_bounds-signature_good-end : goal.slice_bounds-signature_good-end
-slice_bounds-signature_good-end c = c.requires.1.signature
-
-pub returns : goal.returns
-returns c =
-    then_signature c.args.text.now c.args.e c.args.bytes.now c.requires.0 c.count_of.ensures c.if-count_of-ne9.false c.payload_good.ensures (ap not c.if-not-payload_good.false) c.requires.1 c.requires.2 c.well_formed.0.1 c.base64_length-tenth.ensures c.base64_length-twelfth.ensures c.if-a-tenth-gt-LONGEST_PAYLOAD.false c.signature_good.ensures
+pub returns-else-f-tenth-le-LONGEST_PAYLOAD : goal.returns-else-f-tenth-le-LONGEST_PAYLOAD
+returns-else-f-tenth-le-LONGEST_PAYLOAD c =
+    let nine : count_of 95 c.args.f.start.now ≡ 9 = sym (count_is 95 c.args.f.start.now) ∙ sym c.count_of.ensures ∙ c.if-count_of-ne-START_MARKS.false in
+    let none : count_of 95 c.args.f.serial.now ≡ 0 = sym (count_is 95 c.args.f.serial.now) ∙ sym c.count_of-else-count_of-ne-START_MARKS.ensures ∙ c.if-count_of-ne0.false in
+    let started : payload_good c.args.f.start.now ≡ true = yes c.payload_good.ensures (ap not c.if-not-payload_good.false) in
+    let long : length c.args.f.start.now + c.base64_length-tenth.result + c.base64_length-twelfth.result + 3 + length c.args.f.serial.now ≡ length (payload_in Base64 (as_fields c.args.f)) =
+    omega (arith, payload_length (as_fields c.args.f), c.base64_length-tenth.ensures, c.base64_length-twelfth.ensures) in
+    lt-leb _ _ c.if-f-tenth-le-LONGEST_PAYLOAD.false ∙ too_long (as_fields c.args.f) nine none started long c.if-f-tenth-le-LONGEST_PAYLOAD.false

@@ -1,112 +1,62 @@
--- Three pieces in a row, where there is room for all.
-use Prim.Native.Nat.{zero-le}
-use mathlib.Core.Path.{◌∙◌}
-use Rattle.receipt.proofs.LineCalls.{Places, places, ends_in, copied_fits, spelled_short, sum_fits, length_fits, no_place, room_first, room_second, room_third, put_fields}
+-- A text and four fields in a row, where there is room for all.
+use Rattle.std.proofs.Common.{arith}
+use Rattle.receipt.specs.LineReading.{as_fields}
+use Rattle.receipt.proofs.CodeCalls.{no_room}
+use Rattle.receipt.proofs.LineCalls.{good_sizes, total_is, small, after_start, put_fields}
 use Rattle.receipt.proofs.optical_line.put_fields.Goals as goal
 
-pub overflow_add-a : goal.overflow_add-a
-overflow_add-a c =
-    let at : Places c.args.m c.args.text.now = places c.args.text.now c.requires.0 c.well_formed.1.0.0 in
-    at.counter_fits_lem
+pub overflow_add-spelled : goal.overflow_add-spelled
+overflow_add-spelled c =
+    let k = good_sizes (as_fields c.args.f) c.requires in
+    omega (arith, k.spelled, c.length.ensures.1, c.length-2.ensures.1)
 
-pub overflow_add-c : goal.overflow_add-c
-overflow_add-c c =
-    let at : Places c.args.m c.args.text.now = places c.args.text.now c.requires.0 c.well_formed.1.0.0 in
-    at.chain_fits
-
-pub slice_bounds-counter-count : goal.slice_bounds-counter-count
-slice_bounds-counter-count c = zero-le
-
-pub slice_bounds-counter-start : goal.slice_bounds-counter-start
-slice_bounds-counter-start c = zero-le
-
-pub slice_bounds-counter-end : goal.slice_bounds-counter-end
-slice_bounds-counter-end c = (ends_in c.requires.1).0
-
-pub slice_bounds-chain-count : goal.slice_bounds-chain-count
-slice_bounds-chain-count c = c.requires.1.counter
-
-pub slice_bounds-chain-start : goal.slice_bounds-chain-start
-slice_bounds-chain-start c = c.requires.1.counter
-
-pub slice_bounds-chain-end : goal.slice_bounds-chain-end
-slice_bounds-chain-end c = (ends_in c.requires.1).1
-
-pub slice_bounds-signature-count : goal.slice_bounds-signature-count
-slice_bounds-signature-count c = c.requires.1.chain
-
-pub slice_bounds-signature-start : goal.slice_bounds-signature-start
-slice_bounds-signature-start c = c.requires.1.chain
-
-pub slice_bounds-signature-end : goal.slice_bounds-signature-end
-slice_bounds-signature-end c = c.requires.1.signature
-
-pub overflow_sub-length : goal.overflow_sub-length
-overflow_sub-length c =
-    let at : Places c.args.m c.args.text.now = places c.args.text.now c.requires.0 c.well_formed.1.0.0 in
-    at.serial_part
-
-pub overflow_add-length : goal.overflow_add-length
-overflow_add-length c =
-    copied_fits c.args.spelling c.args.m c.args.text.now c.args.e c.args.bytes.now c.requires.0 c.requires.2
-
-pub spelled_lengths-requires : goal.spelled_lengths-requires
-spelled_lengths-requires c =
-    spelled_short c.args.spelling c.args.m c.args.text.now c.args.e c.args.bytes.now c.requires.0 c.requires.2
+pub overflow_add-spelled-2 : goal.overflow_add-spelled-2
+overflow_add-spelled-2 c = omega (arith, small c.args.spelling (as_fields c.args.f) c.length.ensures c.length-2.ensures c.length-3.ensures c.requires)
 
 pub overflow_add-length-2 : goal.overflow_add-length-2
-overflow_add-length-2 c =
-    sum_fits c.args.spelling c.args.m c.args.text.now c.args.e c.args.bytes.now c.requires.0 c.requires.2 c.spelled_lengths.ensures
+overflow_add-length-2 c = omega (arith, small c.args.spelling (as_fields c.args.f) c.length.ensures c.length-2.ensures c.length-3.ensures c.requires)
 
 pub overflow_add-length-3 : goal.overflow_add-length-3
-overflow_add-length-3 c =
-    length_fits c.args.spelling c.args.m c.args.text.now c.args.e c.args.bytes.now c.requires.0 c.requires.2 c.spelled_lengths.ensures
+overflow_add-length-3 c = omega (arith, small c.args.spelling (as_fields c.args.f) c.length.ensures c.length-2.ensures c.length-3.ensures c.requires)
 
 pub returns-then-out-length : goal.returns-then-out-length
-returns-then-out-length c =
-    no_place c.args.spelling c.args.m c.args.text.now c.args.e c.args.bytes.now c.requires.0 c.requires.2 c.spelled_lengths.ensures c.args.out.now c.if-out-length.true
+returns-then-out-length c = no_room c.args.out.now _ _ (total_is c.args.spelling (as_fields c.args.f) c.length.ensures c.length-2.ensures c.length-3.ensures) c.if-out-length.true
 
-pub slice_bounds-put_piece-count : goal.slice_bounds-put_piece-count
-slice_bounds-put_piece-count c = zero-le
+pub put_spelled_field-at-requires : goal.put_spelled_field-at-requires
+put_spelled_field-at-requires c =
+    let k = after_start c.args.spelling (as_fields c.args.f) c.length.ensures c.length-2.ensures c.length-3.ensures c.requires c.args.out.now c.if-out-length.false c.put-at.ensures in
+    omega (arith, k.0, k.1, c.length.ensures.0, c.if-out-length.false)
 
-pub slice_bounds-put_piece-start : goal.slice_bounds-put_piece-start
-slice_bounds-put_piece-start c = zero-le
+pub put_field-at-requires : goal.put_field-at-requires
+put_field-at-requires c =
+    let k = after_start c.args.spelling (as_fields c.args.f) c.length.ensures c.length-2.ensures c.length-3.ensures c.requires c.args.out.now c.if-out-length.false c.put-at.ensures in
+    omega (arith, k.0, k.1, c.length.ensures.0, c.if-out-length.false, c.put_spelled_field-at.ensures.0, c.put_spelled_field-at.auto.out)
 
-pub slice_bounds-put_piece-end : goal.slice_bounds-put_piece-end
-slice_bounds-put_piece-end c =
-    let at : Places c.args.m c.args.text.now = places c.args.text.now c.requires.0 c.well_formed.1.0.0 in
-    at.counter_end
+pub put_spelled_field-at-requires-2 : goal.put_spelled_field-at-requires-2
+put_spelled_field-at-requires-2 c =
+    let k = after_start c.args.spelling (as_fields c.args.f) c.length.ensures c.length-2.ensures c.length-3.ensures c.requires c.args.out.now c.if-out-length.false c.put-at.ensures in
+    omega (arith, k.0, k.1, c.length.ensures.0, c.length-2.ensures.0, c.if-out-length.false, c.put_spelled_field-at.ensures.0, c.put_spelled_field-at.auto.out, c.put_field-at.ensures.0, c.put_field-at.auto.out)
 
-pub put_piece-p-requires : goal.put_piece-p-requires
-put_piece-p-requires c =
-    room_first c.args.spelling c.args.m c.args.text.now c.args.e c.args.bytes.now c.requires.0 c.requires.2 c.spelled_lengths.ensures c.args.out.now c.if-out-length.false
-
-pub slice_bounds-put_piece-count-2 : goal.slice_bounds-put_piece-count-2
-slice_bounds-put_piece-count-2 c =
-    let at : Places c.args.m c.args.text.now = places c.args.text.now c.requires.0 c.well_formed.1.0.0 in
-    at.serial_part
-
-pub slice_bounds-put_piece-start-2 : goal.slice_bounds-put_piece-start-2
-slice_bounds-put_piece-start-2 c =
-    let at : Places c.args.m c.args.text.now = places c.args.text.now c.requires.0 c.well_formed.1.0.0 in
-    at.serial_part
-
-pub slice_bounds-put_piece-end-2 : goal.slice_bounds-put_piece-end-2
-slice_bounds-put_piece-end-2 c =
-    let at : Places c.args.m c.args.text.now = places c.args.text.now c.requires.0 c.well_formed.1.0.0 in
-    at.chain_end
-
-pub put_piece-q-requires : goal.put_piece-q-requires
-put_piece-q-requires c =
-    room_second c.args.spelling c.args.m c.args.text.now c.args.e c.args.bytes.now c.requires.0 c.requires.2 c.spelled_lengths.ensures c.args.out.now c.if-out-length.false c.put_piece-p.ensures
-
-pub put_piece-requires : goal.put_piece-requires
-put_piece-requires c =
-    room_third c.args.spelling c.args.m c.args.text.now c.args.e c.args.bytes.now c.requires.0 c.requires.2 c.spelled_lengths.ensures c.args.out.now c.if-out-length.false c.put_piece-p.ensures c.put_piece-q.ensures
-
-pub shape_of-out : goal.shape_of-out
-shape_of-out c = c.put_piece.auto.out ∙ c.put_piece-q.auto.out ∙ c.put_piece-p.auto.out
+pub put_spelled_field-requires : goal.put_spelled_field-requires
+put_spelled_field-requires c =
+    let k = after_start c.args.spelling (as_fields c.args.f) c.length.ensures c.length-2.ensures c.length-3.ensures c.requires c.args.out.now c.if-out-length.false c.put-at.ensures in
+    omega (
+      arith,
+      k.0,
+      k.1,
+      c.length.ensures.0,
+      c.length-2.ensures.0,
+      c.length-3.ensures.0,
+      c.if-out-length.false,
+      c.put_spelled_field-at.ensures.0,
+      c.put_spelled_field-at.auto.out,
+      c.put_field-at.ensures.0,
+      c.put_field-at.auto.out,
+      c.put_spelled_field-at-2.ensures.0,
+      c.put_spelled_field-at-2.auto.out,
+    )
 
 pub returns : goal.returns
 returns c =
-    put_fields c.args.spelling c.args.m c.args.text.now c.args.e c.args.bytes.now c.requires.0 c.requires.2 c.spelled_lengths.ensures c.args.out.now c.if-out-length.false c.put_piece-p.ensures c.put_piece-q.ensures c.put_piece.ensures.1
+    put_fields c.args.spelling (as_fields c.args.f) c.length.ensures c.length-2.ensures c.length-3.ensures c.requires c.args.out.now c.if-out-length.false c.put-at.ensures c.put_spelled_field-at.ensures c.put_field-at.ensures c.put_spelled_field-at-2.ensures
+    c.put_spelled_field.ensures.1

@@ -1,5 +1,5 @@
 -- `payload::put_base64` meets its contract.
-use mathlib.Core.Path.{◌∙◌}
+use Rattle.std.proofs.Common.{◌∙◌}
 use Rattle.primitives.proofs.Over.{placed_room, after_room}
 use Rattle.receipt.proofs.payload.put_base64.Goals as goal
 

@@ -1,5 +1,5 @@
 -- `payload::put_moment` meets its contract.
-use native.Mathlib.Omega.{arith}
+use Rattle.std.proofs.Common.{arith}
 use Rattle.receipt.proofs.Written.{length_moment, put_moment}
 use Rattle.receipt.proofs.payload.put_moment.Goals as goal
 

@@ -1,26 +1,32 @@
--- `payload::put_register` meets its contract.
-use mathlib.Core.Path.{◌≡◌}
-use native.Mathlib.Omega.{arith}
-use lib.ListN.{length}
-use Rattle.receipt.proofs.Written.{put_register}
-use borrow.Author.Rules.{rules}
+-- Three writes in a row.
+use Rattle.std.proofs.Common.{◌≡◌, length, ap, arith, rules}
+use Rattle.receipt.proofs.Texts.{beginning_long}
+use Rattle.receipt.proofs.Written.{register_long, put_register}
 use Rattle.receipt.proofs.payload.put_register.Goals as goal
+
+pub put-requires : goal.put-requires
+put-requires c =
+    let three : length c.args.s.csp ≡ 3 = search rules in
+    omega (arith, c.requires, register_long c.args.s three, ap length c.beginning.ensures, beginning_long)
 
 pub put_field-requires : goal.put_field-requires
 put_field-requires c =
     let three : length c.args.s.csp ≡ 3 = search rules in
-    omega (arith, c.requires.1, three)
+    omega (arith, c.requires, register_long c.args.s three, three)
 
-pub slice_bounds-put_field-end-2 : goal.slice_bounds-put_field-end-2
-slice_bounds-put_field-end-2 c =
-    let whole : length c.args.s.id.bytes ≡ 32 = search rules in
-    omega (arith, c.requires.0, whole)
+pub put_field-requires-2 : goal.put_field-requires-2
+put_field-requires-2 c =
+    let three : length c.args.s.csp ≡ 3 = search rules in
+    omega (arith, c.requires, register_long c.args.s three, ap length c.text-id.ensures)
+
+pub overflow_add-result-2 : goal.overflow_add-result-2
+overflow_add-result-2 c =
+    let three : length c.args.s.csp ≡ 3 = search rules in
+    omega (arith, c.requires, register_long c.args.s three, ap length c.text-id.ensures, c.well_formed)
 
 pub returns : goal.returns
 returns c =
-    let three : length c.args.s.csp ≡ 3 = search rules in
-    let whole : length c.args.s.id.bytes ≡ 32 = search rules in (
-      omega arith,
-      put_register c.args.s three whole c.requires.0 _ _ c.requires.1 c.beginning-begin.ensures
-          c.put.ensures c.put_field.ensures c.put_field-2.ensures,
+    let three : length c.args.s.csp ≡ 3 = search rules in (
+      omega (arith, register_long c.args.s three, ap length c.text-id.ensures),
+      put_register c.args.s three _ _ c.text-id.ensures c.requires c.beginning.ensures c.put.ensures c.put_field.ensures c.put_field-2.ensures,
     )

@@ -1,22 +1,29 @@
 -- `payload::read_payload` meets its contract.
-use Rattle.std.proofs.Common.{ap, not}
-use mathlib.Core.Path.{◌∙◌}
-use native.Mathlib.Omega.{arith}
-use Rattle.primitives.proofs.Rows.{not_no, not_yes}
-use Rattle.receipt.proofs.Loose.{too_short, not_readable, is_readable}
+use Rattle.std.proofs.Common.{◌+◌, sym, arith}
+use Rattle.receipt.proofs.Loose.{rest_lent, too_short, date_short, counter_short, text_long, fields_read}
 use Rattle.receipt.proofs.payload.read_payload.Goals as goal
+use Rattle.receipt.proofs.payload.read_payload.Goals.{then-text-lt9-via-then-text-lt9, then-text-lt9-via-else-text-lt9+then-text-s, then-date-lt19-via-then-date-lt19, then-date-lt19-via-else-date-lt19+then-counter-lt12}
 
+-- the text ends before the fields begin
 pub returns-then-text-lt9 : goal.returns-then-text-lt9
-returns-then-text-lt9 c = c.blank.ensures ∙ too_short c.args.s c.args.n c.args.text.now (omega (arith, c.if-text-lt9.true))
+returns-then-text-lt9 c =
+    elim c.then-text-lt9.branch [
+      | then-text-lt9-via-then-text-lt9 w ↦ sym (too_short _ _ _ (omega (arith, w.if-text-lt9.true)))
+      | then-text-lt9-via-else-text-lt9+then-text-s w ↦ sym (too_short _ _ _ (omega (arith, w.if-text-lt9.false, w.if-text-s.true)))
+    ]
 
-pub returns-then-text-m : goal.returns-then-text-m
-returns-then-text-m c = c.blank-then-text-m.ensures ∙ too_short c.args.s c.args.n c.args.text.now (omega (arith, c.if-text-m.true, c.if-text-lt9.false))
+-- or in the date or in the counter field
+pub returns-then-date-lt19 : goal.returns-then-date-lt19
+returns-then-date-lt19 c =
+    elim c.then-date-lt19.branch [
+      | then-date-lt19-via-then-date-lt19 w ↦ sym (date_short c.args.s c.args.n c.args.text.now (rest_lent c.args.text.now (9 + c.args.s.id.len)) c.after-date.ensures c.after-amounts.ensures c.skip-counter.ensures w.if-date-lt19.true)
+      | then-date-lt19-via-else-date-lt19+then-counter-lt12 w ↦ sym (counter_short c.args.s c.args.n c.args.text.now (rest_lent c.args.text.now (9 + c.args.s.id.len)) c.after-date.ensures c.after-amounts.ensures c.skip-counter.ensures w.if-date-lt19.false w.if-counter-lt12.true)
+    ]
 
-pub returns-then-not-readable : goal.returns-then-not-readable
-returns-then-not-readable c = c.blank-then-not-readable.ensures ∙ not_readable c.args.s c.args.n c.args.text.now (not_no _ _ c.readable.ensures (ap not c.if-not-readable.true))
-
-pub read_fields-requires : goal.read_fields-requires
-read_fields-requires c = (omega (arith, c.if-text-m.false, c.if-text-lt9.false), c.find_places-p.ensures, not_yes _ _ c.readable.ensures (ap not c.if-not-readable.false))
+pub read_chain-requires : goal.read_chain-requires
+read_chain-requires c = text_long c.args.s c.args.n c.args.text.now (rest_lent c.args.text.now (9 + c.args.s.id.len)) c.after-date.ensures c.after-amounts.ensures c.skip-counter.ensures c.if-date-lt19.false
 
 pub returns : goal.returns
-returns c = c.read_fields.ensures ∙ is_readable c.args.s c.args.n c.args.text.now (not_yes _ _ c.readable.ensures (ap not c.if-not-readable.false))
+returns c =
+    fields_read c.args.s c.args.n c.args.text.now (rest_lent c.args.text.now (9 + c.args.s.id.len)) c.after-date.ensures c.after-amounts.ensures c.skip-counter.ensures c.if-date-lt19.false c.if-counter-lt12.false
+    c.value_of.ensures.0 c.read_date.ensures c.read_amounts.ensures c.kind_of-kind.ensures c.read_counter.ensures c.read_chain.ensures

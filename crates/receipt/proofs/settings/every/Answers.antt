@@ -1,22 +1,12 @@
-use Rattle.std.proofs.Common.{ap, not}
-use borrow.Author.Rules.{rules}
-use mathlib.Core.Path.{refl, sym, ◌∙◌}
-use native.Mathlib.Omega.{arith}
-use Rattle.primitives.proofs.Questions.{yes, no}
-use Rattle.receipt.proofs.Names.{every_no, every_yes, every_end}
+-- `settings::every` meets its contract.
+use Rattle.std.proofs.Common.{◌∙◌, rules, tests}
+use Rattle.std.proofs.lemmas.Iterator.{YieldsList-from_slice}
+use Rattle.std.proofs.lemmas.Iterator.Search.{all_from_yields_List}
+use Rattle.receipt.specs.Settings.{letter_good}
+use Rattle.receipt.proofs.Names.{every_all}
 use Rattle.receipt.proofs.settings.every.Goals as goal
-
-pub loop-i-init : goal.loop-i-init
-loop-i-init c = (search rules, refl)
-
-pub returns-then-not-letter_good : goal.returns-then-not-letter_good
-returns-then-not-letter_good c =
-    sym (every_no c.args.class c.args.s.now c.loop-i.i c.loop-i-test.true (no c.letter_good.ensures (ap not c.if-not-letter_good.true))) ∙ c.loop-i.invariant.1
-
-pub loop-i-preserved : goal.loop-i-preserved
-loop-i-preserved c =
-    (omega arith, sym (every_yes c.args.class c.args.s.now c.loop-i.i c.loop-i-test.true (yes c.letter_good.ensures (ap not c.if-not-letter_good.false))) ∙ c.loop-i.invariant.1)
 
 pub returns : goal.returns
 returns c =
-    sym (every_end c.args.class c.args.s.now c.loop-i.i c.loop-i-test.false) ∙ c.loop-i.invariant.1
+    all_from_yields_List (letter_good c.args.class) _ _ _ c.all.ensures.ran (YieldsList-from_slice c.args.s.now cc) (λ x b q k. search (rules, tests))
+    ∙ every_all c.args.class c.args.s.now

@@ -1,8 +1,0 @@
--- `layout::array8_at` meets its contract.
-use mathlib.Core.Path.{refl}
-use lib.ListN.{replicate}
-use Rattle.device.proofs.Reading.{copied}
-use Rattle.device.proofs.layout.array8_at.Goals as goal
-
-pub returns : goal.returns
-returns c = copied 8 c.args.b.now (replicate 8 0) c.args.at refl c.requires c.put.ensures.1
