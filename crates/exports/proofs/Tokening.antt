@@ -76,6 +76,14 @@ module _ (b : ℕ) (m : is_mark b ≡ true) {rest : List Token} where
       go false t true ih q = other_mark (mark_no_wrong b m) q
       go false t false ih q = ih q
 
+-- what stands after blanks stands before them
+module _ {text : List ℕ} {at p : ℕ} (s : Skipped text at p) where
+  pub mark_after : {b r : ℕ} → Marked b text p r → Marked b text at r
+  mark_after m = record { inside = m.inside; onward = omega (arith, s.onward, m.onward); is = s.same ∙ m.is }
+
+  pub no_mark_after : {b : ℕ} → ((rest : List Token) → from text p ≡ mark b ∷ rest → ⊥) → (rest : List Token) → from text at ≡ mark b ∷ rest → ⊥
+  no_mark_after n rest q = n rest (sym s.same ∙ q)
+
 module _ {text : List ℕ} {at p b : ℕ} (s : Skipped text at p) (m : is_mark b ≡ true) where
   pub expect_end : length text ≤ p → (rest : List Token) → from text at ≡ mark b ∷ rest → ⊥
   expect_end e rest q = nil_cons (sym (next_end s (omega (arith, s.inside))) ∙ q)

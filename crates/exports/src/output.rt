@@ -5,7 +5,15 @@ ghost use Rattle.primitives.specs.Base64.{encoding};
 ghost use Rattle.primitives.specs.declared.base64.Alphabet.TheVariants.{Standard};
 ghost use Rattle.exports.specs.Output.{moved, Out, Puts, Advanced, PutsAt, written_out, measured_out};
 
-use primitives::Alphabet;
+use journal::RefusedAt;
+use primitives::{Alphabet, Refusal};
+
+// A question that is asked before the first receipt or after the last.
+pub(crate) fn refused(question: Refusal) -> RefusedAt
+    ensures { result ≡ record { question = question; index = 0 } }
+{
+    RefusedAt { question, index: 0 }
+}
 
 pub(crate) trait Sink {
     // It writes; another one only measures.

@@ -2,11 +2,11 @@
 ghost use Rattle.std.specs.Prelude.{◌≡◌, length};
 ghost use Rattle.exports.specs.Reading.{as_restored, restored, restored_buffer};
 
+use super::output::refused;
 use super::rebuilding::put_journal;
 use super::retaking::retake;
 use super::shape::has_shape;
 use super::survey::{owner_settings, survey_text};
-use super::writing::refused;
 use journal::{RefusedAt, State};
 use primitives::Refusal;
 

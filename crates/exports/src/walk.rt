@@ -115,15 +115,17 @@ pub(crate) fn begin(text: &[u8], at: usize) -> Cursor
     }
 }
 
-// What follows an item.
+// What follows an item. Its blanks are skipped once, whichever mark comes after them.
+#[tactic(auto, using(crate::proofs::Tokening::mark_after, crate::proofs::Tokening::no_mark_after), unfolding(crate::specs::Text::is_mark))]
 pub(crate) fn follow(text: &[u8], at: usize) -> Cursor
     requires { at ≤ length text.now }
     ensures { Followed text.now at result }
 {
-    if let Some(p) = expect(text, at, b',') {
+    let mark = skip_blanks(text, at);
+    if let Some(p) = expect(text, mark, b',') {
         return Cursor::Item(p);
     }
-    match expect(text, at, b']') {
+    match expect(text, mark, b']') {
         Some(end) => Cursor::Past(end),
         None => Cursor::Broken,
     }

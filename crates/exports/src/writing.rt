@@ -5,7 +5,7 @@ ghost use Rattle.exports.specs.Writing.{comma, quoted, in_base64, as_exported, e
 ghost use Rattle.exports.specs.Running.{FourRead, SectionRead, StringsPut, SigningPut, GroupPut, PairPut, ElementsPut, ExportPut};
 
 use super::certificates::{groups_there, sized_end};
-use super::output::{Measure, Sink, Writer, moved};
+use super::output::{Measure, Sink, Writer, moved, refused};
 use journal::RefusedAt;
 use primitives::Refusal;
 
@@ -149,13 +149,6 @@ fn put_export<S: Sink>(sink: &mut S, j: &[u8], groups: &[u8], k: usize) -> Optio
     put_elements(sink, j, pairs, groups, k)?;
     sink.put(b"]}");
     Some(())
-}
-
-// A question that is asked before the first receipt or after the last.
-pub(crate) fn refused(question: Refusal) -> RefusedAt
-    ensures { result ≡ record { question = question; index = 0 } }
-{
-    RefusedAt { question, index: 0 }
 }
 
 // Takes a journal over and writes it with its certificates as an export; answers the length of the text. Questions of Take over, with its index; then 28 and 23.

@@ -223,6 +223,14 @@ pub letters_most : (t : List ℕ) → letters_in t ≤ length t
 unfolding letters_in
 letters_most t = before_most t (length t)
 
+-- of a text that ends in so many '=', the letters are before them
+pub letters_before : (u : List ℕ) (p : ℕ) → letters_in (u ++ replicate p fill) ≤ length u
+unfolding letters_in
+letters_before u p =
+    let t : List ℕ = u ++ replicate p fill in
+    let l : length t ≡ length u + p = length-append u (replicate p fill) ∙ ap (λ (n : ℕ). length u + n) (length-replicate p fill) in
+    omega (arith, ap (before_fill t) l ∙ before_fills u p p (omega arith), before_most t (length u))
+
 before_rest : (t : List ℕ) (n i : ℕ) → i < n → before_fill t n ≤ i → get_or t i 0 ≡ fill
 unfolding before_fill
 before_rest t zero i h l = absurd (omega arith)

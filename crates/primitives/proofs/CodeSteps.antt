@@ -19,7 +19,7 @@ use Rattle.primitives.proofs.Rows.{both}
 use Rattle.primitives.proofs.Each.{each_at, none_left}
 use Rattle.primitives.proofs.Radix.{number_snoc}
 use Rattle.primitives.proofs.Spelled.{bytes_spelled}
-use Rattle.primitives.proofs.BaseTexts.{map_append, known_letter, before_go, before_stop, before_zero, length_letters, letters_bits, spare_lt, number_small, pow_bits}
+use Rattle.primitives.proofs.BaseTexts.{map_append, known_letter, before_go, before_stop, before_zero, letters_before, length_letters, letters_bits, spare_lt, number_small, pow_bits}
 use Rattle.primitives.proofs.BaseGroups.{letters_append, bytes_append_in}
 
 -- ---- letters of 5 to 8 bits
@@ -245,6 +245,26 @@ known_parts b (x ∷ xs) ys e =
 pub known_drop : (b : Base) (i : ℕ) (s : List ℕ) → letters_known b s ≡ true → letters_known b (drop i s) ≡ true
 known_drop b i s e = (known_parts b (take i s) (drop i s) (ap (letters_known b) (take-append-drop i s) ∙ e)).1
 
+-- after a part of known letters the rest decides; a foreign letter in it does
+pub known_after : (b : Base) (xs ys : List ℕ) → letters_known b xs ≡ true → letters_known b (xs ++ ys) ≡ letters_known b ys
+unfolding letters_known
+known_after b [] ys e = refl
+known_after b (x ∷ xs) ys e =
+    let q = both (nat_lt (b.digit x) (2 ^ b.bits)) (letters_known b xs) e in
+    ap (λ (t : Bool). t && letters_known b (xs ++ ys)) q.0 ∙ known_after b xs ys q.1
+
+pub known_not : (b : Base) (xs ys : List ℕ) → letters_known b xs ≡ false → letters_known b (xs ++ ys) ≡ false
+known_not b xs ys e = go (letters_known b (xs ++ ys)) refl
+  where
+    go : (t : Bool) → letters_known b (xs ++ ys) ≡ t → letters_known b (xs ++ ys) ≡ false
+    go false p = p
+    go true p = let r : true ≡ false = sym (known_parts b xs ys p).0 ∙ e in cc
+
+pub known_nothing : (b : Base) (xs : List ℕ) → length xs ≡ 0 → letters_known b xs ≡ true
+unfolding letters_known
+known_nothing b [] e = refl
+known_nothing b (x ∷ xs) e = absurd (omega arith)
+
 -- ---- the bits after the last byte
 
 module _ (b : Base) (s : List ℕ) where
@@ -308,6 +328,17 @@ module _ (b : Base) (s : List ℕ) {n f : ℕ} (count : n ≡ letters_in s) (h :
 
   pub text_not_filled : length s - n ≢ f → false ≡ is_text b s
   text_not_filled e = sym (text_is ∙ ap (λ (t : Bool). t && (well_ended b (take n s) && letters_known b (take n s))) (ne_eqb (length s - n) f e))
+
+-- no group has eight '='
+pub text_overfilled : (b : Base) → 0 < b.group → b.group ≤ 8 → (s u : List ℕ) → s ≡ u ++ replicate 8 fill → false ≡ is_text b s
+unfolding is_text
+text_overfilled b h k s u e =
+    let n : ℕ = letters_in s in
+    let m : letters_in (u ++ replicate 8 fill) ≤ length u = letters_before u 8 in
+    let most : n ≤ length u = omega (arith, m, ap letters_in e) in
+    let long : length s ≡ length u + 8 = ap length e ∙ length-append u (replicate 8 fill) ∙ ap (λ (j : ℕ). length u + j) (length-replicate 8 fill) in
+    let f : fill_for b.group n < b.group = fill_small b.group n h in
+    sym (ap (λ (t : Bool). t && (well_ended b (take n s) && letters_known b (take n s))) (ne_eqb (length s) (n + fill_for b.group n) (λ p. omega (arith, p, most, long, f))))
 
 -- ---- the reader's answer
 

@@ -37,6 +37,9 @@ fn count_letters(s: &[u8]) -> usize
     }
 }
 
+// How many letters are tested at once.
+const PART: usize = 64;
+
 // Digits that code bytes.
 #[derive(Drop)]
 pub(crate) struct Coding<D: Digits> {
@@ -132,7 +135,7 @@ impl<D: Digits> Coding<D> {
     }
 
     // Every byte is a letter. The numbers are joined by "or" and tested once, which is faster than a test of each.
-    fn all_known(&self, s: &[u8]) -> bool
+    fn part_known(&self, s: &[u8]) -> bool
         ensures { result ≡ letters_known (D.base self.now.digits) s.now }
     {
         let mut joined = 0;
@@ -140,6 +143,18 @@ impl<D: Digits> Coding<D> {
             joined |= self.digits.digit(*c);
         }
         u64::from(joined) < D::RADIX
+    }
+
+    // Every byte is a letter. The first part with a foreign letter ends it, so a long text that begins with one is refused at once.
+    fn all_known(&self, s: &[u8]) -> bool
+        ensures { result ≡ letters_known (D.base self.now.digits) s.now }
+    {
+        for part in s.chunks(PART) {
+            if !self.part_known(part) {
+                return false;
+            }
+        }
+        true
     }
 
     // The bits after the last byte are fewer than a letter has, and zero.
@@ -170,6 +185,10 @@ impl<D: Digits> Coding<D> {
         ensures { let read : _ = read_text (D.base self.now.digits) s.now in
             (result ≡ answer_of read out.old at) × (out.new ≡ buffer_of read out.old at) }
     {
+        // No group has eight '='. Asked first, so that they are not counted where a text ends in many.
+        if s.ends_with(b"========") {
+            return Err(DecodeError::Refused);
+        }
         let n = count_letters(s);
         if !self.is_text(s, n) {
             return Err(DecodeError::Refused);

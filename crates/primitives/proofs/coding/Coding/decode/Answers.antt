@@ -1,8 +1,17 @@
 -- `decode` meets its contract: it writes nothing before the text is accepted and has room.
-use Rattle.std.proofs.Common.{◌∙◌, ap, not, sym}
+use Rattle.std.proofs.Common.{◌∙◌, ◌≤◌, ap, arith, not, replicate, sym}
 use Rattle.primitives.proofs.Questions.{at_most, above, yes, no}
-use Rattle.primitives.proofs.CodeSteps.{bytes_parts, decode_refused, decode_known, decode_full, decode_fits, decode_room}
+use Rattle.primitives.proofs.CodeSteps.{bytes_parts, decode_refused, decode_known, decode_full, decode_fits, decode_room, text_overfilled}
+use Rattle.std.proofs.lemmas.Bool.Decides.{Decides-eqb}
+use Rattle.std.proofs.lemmas.Slice.Eq.{ends_is}
+use Rattle.primitives.specs.BaseRule.{fill}
 use Rattle.primitives.proofs.coding.Coding.decode.Goals as goal
+
+pub returns-then-ends_with : goal.returns-then-ends_with
+returns-then-ends_with g c =
+    let ended = (ends_is Decides-eqb c.args.s.now (replicate 8 fill) c.ends_with.result c.ends_with.ensures.value).0 c.if-ends_with.true in
+    let close : (g.D.Digits.base c.args.self.now.digits).group ≤ 8 = omega (arith, c.args.self.now.grouped, c.args.self.now.close) in
+    decode_refused _ _ _ _ (text_overfilled _ c.args.self.now.good.grouped close c.args.s.now _ ended)
 
 pub returns-then-not-is_text : goal.returns-then-not-is_text
 returns-then-not-is_text g c = decode_refused _ _ _ _ (sym (no c.is_text.ensures (ap not c.if-not-is_text.true)))
