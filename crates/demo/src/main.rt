@@ -2,7 +2,11 @@
 // broken one is refused.
 #![tactic(auto)]
 
-use journal::State;
+ghost use Rattle.std.specs.Prelude.{◌≡◌, ◌∷◌, []};
+ghost use Rattle.journal.specs.Listing.{issued_list, list_buffer};
+ghost use Rattle.journal.specs.State.{as_issued_list};
+
+use journal::{IssuedList, State};
 use primitives::Alphabet;
 use receipt::{DateTime, Details, Kind, LONGEST_CODE, Settings};
 use std::io;
@@ -26,6 +30,13 @@ fn details(number: u32, minute: u32, amounts: [i64; 5], kind: Kind) -> Details {
         amounts,
         kind,
     }
+}
+
+// Issues three receipts in one call, all with a failed device.
+fn issue_three(st: State, a: Details, b: Details, c: Details, buf: &mut [u8]) -> IssuedList
+    ensures { (as_issued_list result ≡ issued_list st (a ∷ b ∷ c ∷ []) buf.old) × (buf.new ≡ list_buffer st (a ∷ b ∷ c ∷ []) buf.old) }
+{
+    journal::issue_list(st, &[a, b, c], buf)
 }
 
 // The register, the buffer of its journal, and what its day is shown on.
@@ -107,9 +118,10 @@ impl<'a, W: Write> Day<'a, W> {
         }
     }
 
-    // Issues receipts in one call, all with a failed device, and shows what came of it.
-    fn issue_together(&mut self, title: &str, list: &[Details]) -> io::Result<()> {
-        let issued = journal::issue_list(self.st, list, self.buf);
+    // Issues three receipts in one call, all with a failed device, and shows what came of it.
+    fn issue_together(&mut self, title: &str, list: [Details; 3]) -> io::Result<()> {
+        let [a, b, c] = list;
+        let issued = issue_three(self.st, a, b, c, self.buf);
         self.st = issued.state;
         writeln!(self.out, "{title}")?;
         write!(self.out, "  issued {}", issued.count)?;
@@ -201,7 +213,7 @@ impl<'a, W: Write> Day<'a, W> {
     fn closing_time(&mut self) -> io::Result<()> {
         self.issue_together(
             "three orders of a table, keyed while the signature device was down",
-            &[
+            [
                 details(7, 50, [0, 890, 0, 0, 0], Kind::Standard),
                 details(8, 51, [0, 420, 0, 0, 0], Kind::Standard),
                 details(9, 52, [0, -420, 0, 0, 0], Kind::Cancellation),
@@ -209,7 +221,7 @@ impl<'a, W: Write> Day<'a, W> {
         )?;
         self.issue_together(
             "three more, two of them with the same number",
-            &[
+            [
                 details(10, 55, [0, 360, 0, 0, 0], Kind::Standard),
                 details(10, 56, [0, 240, 0, 0, 0], Kind::Standard),
                 details(11, 57, [0, 180, 0, 0, 0], Kind::Standard),

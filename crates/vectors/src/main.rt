@@ -50,6 +50,8 @@ fn read_text<R: Read>(file: &mut R, buf: &mut [u8]) -> usize
 }
 
 // Reads a file of data/, prints its name and answers its lines by `row`. A file that cannot be opened is named on standard error.
+// It is not inlined: in its callers its buffer would stand on the stack once for each `row`.
+#[inline(never)]
 fn run<R: Files + Eprint, W: Write, F: FnMut(&mut W, &[u8]) -> io::Result<()>>(
     rt: &R,
     out: &mut W,
